@@ -1,0 +1,18 @@
+//! What every crate speaks of: rows, texts and boxes that contracts see as their content, places in sources, and refusals.
+#![tactic(auto)]
+
+mod boxed;
+mod memory;
+mod place;
+mod refusal;
+mod row;
+mod rule;
+mod text;
+
+pub use boxed::Boxed;
+pub use memory::NoMemory;
+pub use place::{Place, Span, place_after, place_of};
+pub use refusal::{Refusal, Stop};
+pub use row::Row;
+pub use rule::Rule;
+pub use text::Text;
