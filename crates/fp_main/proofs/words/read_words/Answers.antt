@@ -1,0 +1,9 @@
+use Rattle.std.specs.String.{string_bytes}
+use Rattle.fp_main.proofs.Wording.{missing_command_of, other_command_of}
+use Rattle.fp_main.proofs.words.read_words.Goals as goal
+
+pub returns-in-None : goal.returns-in-None
+returns-in-None c = missing_command_of string_bytes c.args.words.now c.in-None.ensures.cases
+
+pub returns-else-eq : goal.returns-else-eq
+returns-else-eq c = other_command_of string_bytes c.args.words.now _ _ _ _ c.in-Some.ensures.cases.0 c.as_str.ensures.value c.eq.ensures c.if-eq.false

@@ -1,0 +1,4 @@
+pub mod Delivery
+pub mod Lines
+pub mod Statuses
+pub mod Words

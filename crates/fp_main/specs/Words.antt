@@ -1,0 +1,27 @@
+-- The forms of words that the program takes.
+use Rattle.std.specs.Prelude.{ℕ, ◌≡◌, ◌+◌, ◌-◌, ◌<◌, ◌≤◌, ◌⊎◌, List, [], ◌∷◌, ◌++◌, length, take, codes, Result, Ok, Err}
+use Rattle.fp_main.specs.declared.words.Command.{Command}
+use Rattle.fp_main.specs.declared.words.Command.TheVariants.{Check}
+
+-- the words `check FILE`
+abbrev pub check_words : List ℕ → List (List ℕ)
+check_words file = codes "check" ∷ file ∷ []
+
+-- the words are of some form
+abbrev pub IsForm : List (List ℕ) → Type 0
+IsForm words = (file : List ℕ) × (words ≡ check_words file)
+
+-- words of some form begin with these
+abbrev pub BeginsForm : List (List ℕ) → Type 0
+BeginsForm words = (more : List (List ℕ)) × IsForm (words ++ more)
+
+-- the word of this number, counted from 1, is the first that doesn't fit, or is missing
+pub record IsWrong (words : List (List ℕ)) (number : ℕ) : Type 0 where
+  pub counted : 0 < number
+  pub begun : BeginsForm (take (number - 1) words)
+  pub ends : ((number ≤ length words) × (BeginsForm (take number words) → ⊥)) ⊎ ((number ≡ length words + 1) × (IsForm words → ⊥))
+
+-- what is made of the words
+abbrev pub ReadsWords : List (List ℕ) → Result Command ℕ → Type 0
+ReadsWords words (Ok (Check file)) = words ≡ check_words file.now
+ReadsWords words (Err number) = IsWrong words number

@@ -1,0 +1,68 @@
+ghost use Rattle.std.specs.Prelude.{◌≡◌, ◌++◌, codes, IfOk, OnOk};
+ghost use Rattle.std.specs.Prelude.{decimal};
+ghost use Rattle.fp_main.specs.Lines.{usage_line, refusal_line, read_fault_line, no_file_line};
+
+use fp_base::{NoMemory, Refusal, Row};
+use itoa::{Buffer, Integer};
+use std::alloc::Global;
+
+/// Adds a number in decimal.
+pub fn push_number<I: Integer>(line: &mut Row<u8>, number: I) -> Result<(), NoMemory>
+    ensures { OnOk result (line.new ≡ line.old ++ I.text number) }
+{
+    let mut buffer = Buffer::new();
+    line.extend_from_slice(buffer.format(number).as_bytes())
+}
+
+/// Adds a text.
+pub fn push_text(line: &mut Row<u8>, text: &str) -> Result<(), NoMemory>
+    ensures { OnOk result (line.new ≡ line.old ++ text.now) }
+{
+    line.extend_from_slice(text.as_bytes())
+}
+
+pub fn usage_line(alloc: Global, word: u64) -> Result<Row<u8>, NoMemory>
+    ensures { IfOk result (λ line. line ≡ usage_line word) }
+{
+    let mut line = Row::new(alloc);
+    push_text(&mut line, "fpp: usage at word ")?;
+    push_number(&mut line, word)?;
+    push_text(&mut line, "\n")?;
+    Ok(line)
+}
+
+pub fn read_fault_line(alloc: Global, name: &str) -> Result<Row<u8>, NoMemory>
+    ensures { IfOk result (λ line. line ≡ read_fault_line name.now) }
+{
+    let mut line = Row::new(alloc);
+    push_text(&mut line, "fpp: read fault ")?;
+    push_text(&mut line, name)?;
+    push_text(&mut line, "\n")?;
+    Ok(line)
+}
+
+pub fn no_file_line(alloc: Global, name: &str) -> Result<Row<u8>, NoMemory>
+    ensures { IfOk result (λ line. line ≡ no_file_line name.now) }
+{
+    let mut line = Row::new(alloc);
+    push_text(&mut line, "fpp: no file ")?;
+    push_text(&mut line, name)?;
+    push_text(&mut line, "\n")?;
+    Ok(line)
+}
+
+/// The line of a broken rule at its place in the file of this name.
+pub fn refusal_line(alloc: Global, name: &str, refusal: Refusal) -> Result<Row<u8>, NoMemory>
+    ensures { IfOk result (λ line. line ≡ refusal_line name.now refusal.place refusal.rule) }
+{
+    let mut line = Row::new(alloc);
+    push_text(&mut line, name)?;
+    push_text(&mut line, ":")?;
+    push_number(&mut line, refusal.place.line)?;
+    push_text(&mut line, ":")?;
+    push_number(&mut line, refusal.place.column)?;
+    push_text(&mut line, ": ")?;
+    push_text(&mut line, refusal.rule.text())?;
+    push_text(&mut line, "\n")?;
+    Ok(line)
+}
