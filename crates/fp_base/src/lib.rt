@@ -16,3 +16,6 @@ pub use refusal::{Refusal, Stop};
 pub use row::Row;
 pub use rule::Rule;
 pub use text::Text;
+
+#[cfg(test)]
+mod tests;

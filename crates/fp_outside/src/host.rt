@@ -14,6 +14,7 @@ const MOST_BYTES: usize = 67_108_864;
 const CHUNK: usize = 65_536;
 
 /// The real files. They tell no content.
+#[derive(Drop)]
 pub struct HostFiles<'a, R: rt::Files> {
     pub rt: &'a R,
     pub faults: u64,
@@ -97,7 +98,8 @@ impl<'a, R: rt::Files> Files for HostFiles<'a, R> {
 }
 
 /// A stream of the process. It tells no content.
-pub struct HostSink<W: Write> {
+#[derive(Drop)]
+pub struct HostSink<W: Write + Drop> {
     pub stream: W,
     pub faults: u64,
 }
@@ -108,7 +110,7 @@ pub type HostOut = HostSink<Stdout>;
 /// Standard error.
 pub type HostErr = HostSink<Stderr>;
 
-impl<W: Write> HostSink<W> {
+impl<W: Write + Drop> HostSink<W> {
     pub fn new(stream: W) -> HostSink<W> {
         HostSink { stream, faults: 0 }
     }
@@ -129,7 +131,7 @@ fn write_some<W: Write>(stream: &mut W, bytes: &[u8]) -> Option<usize>
     None
 }
 
-impl<W: Write> Sink for HostSink<W> {
+impl<W: Write + Drop> Sink for HostSink<W> {
     ghost told = { λ _. None };
 
     ghost faults = { λ sink. sink.faults };

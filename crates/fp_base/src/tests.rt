@@ -1,0 +1,48 @@
+use super::*;
+use std::test::Fail;
+
+#[test]
+fn calls_succeed(rt: HostRuntime) -> Result<(), Fail> {
+    let alloc = rt.alloc();
+    let mut row = Row::with_capacity(alloc, 2)?;
+    row.push(7u8)?;
+    row.extend_from_slice(b"ab")?;
+    row.append(Row::from_slice(alloc, b"c")?)?;
+    assert_eq!(rt; row.copy(alloc)?.as_slice(), b"\x07abc".as_slice());
+    assert_eq!(rt; row.pop(), Some(b'c'));
+    assert_eq!(rt; row.len(), 3);
+    let mut text = Text::from_str(alloc, "x")?;
+    text.push_str("y")?;
+    assert_eq!(rt; text.copy(alloc)?.as_str(), "xy");
+    assert!(rt; Text::from_utf8(alloc, b"\xff")?.is_none());
+    assert!(rt; Text::from_utf8(alloc, b"z")?.is_some());
+    assert_eq!(rt; Boxed::new(alloc, 5u8)?.into_inner(), 5);
+    Ok(())
+}
+
+#[test]
+fn counts_places(rt: HostRuntime) {
+    let text = b"ab\ncd\r\n\ne";
+    for (offset, line, column) in [
+        (0, 1, 1),
+        (2, 1, 3),
+        (3, 2, 1),
+        (6, 2, 4),
+        (7, 3, 1),
+        (8, 4, 1),
+        (9, 4, 2),
+    ] {
+        if offset <= text.len() {
+            let place = place_of(3, text, offset);
+            assert_eq!(rt;
+                place,
+                Place {
+                    file: 3,
+                    line,
+                    column
+                },
+                "at {offset}"
+            );
+        }
+    }
+}
