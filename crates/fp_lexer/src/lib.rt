@@ -6,6 +6,8 @@ mod lexing;
 mod newlines;
 mod pieces;
 mod scan;
+#[cfg(test)]
+mod tests;
 mod token;
 mod words;
 
