@@ -6,13 +6,13 @@ ghost use Rattle.fp_lexer.specs.Bytes.{is_letter, is_digit, is_name_byte};
 pub fn is_letter(b: u8) -> bool
     ensures { result ≡ is_letter b }
 {
-    (b'A' <= b && b <= b'Z') || ((b'a' <= b && b <= b'z') || b == b'_')
+    matches!(b, b'A'..=b'Z' | b'a'..=b'z' | b'_')
 }
 
 pub fn is_digit(b: u8) -> bool
     ensures { result ≡ is_digit b }
 {
-    b'0' <= b && b <= b'9'
+    matches!(b, b'0'..=b'9')
 }
 
 /// The byte at an offset, or 0 past the end.

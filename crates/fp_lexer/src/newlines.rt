@@ -7,6 +7,9 @@ ghost use Rattle.fp_base.specs.declared.place.Span.{Span};
 use crate::token::{Token, Word};
 use fp_base::{NoMemory, Row, Span};
 
+/// The number of the reserved word `else`.
+const ELSE: u8 = 24;
+
 /// What a newline would mean at a place, by what stands before it.
 #[derive(Clone, Copy, Debug, PartialEq, Eq)]
 pub enum Standing {
@@ -25,30 +28,24 @@ fn is_newline(word: &Word) -> bool
     }
 }
 
+/// Newlines are ignored after `( * + , - -> / : ; = [ {`.
 fn ignored_after(word: &Word) -> bool
     ensures { result ≡ ignored_after word.now }
 {
     match word {
-        Word::Mark(k) => *k == 0
-            || (*k == 6
-                || (*k == 8
-                    || (*k == 11
-                        || (*k == 9
-                            || (*k == 10
-                                || (*k == 7
-                                    || (*k == 13
-                                        || (*k == 14 || (*k == 15 || (*k == 2 || *k == 4)))))))))),
+        Word::Mark(mark) => matches!(*mark, 0 | 2 | 4 | 6..=11 | 13..=15),
         Word::Newline => true,
         _ => false,
     }
 }
 
+/// Newlines are ignored before `) ] } else`.
 fn ignored_before(word: &Word) -> bool
     ensures { result ≡ ignored_before word.now }
 {
     match word {
-        Word::Mark(k) => *k == 1 || (*k == 3 || *k == 5),
-        Word::Reserved(k) => *k == 24,
+        Word::Mark(mark) => matches!(*mark, 1 | 3 | 5),
+        Word::Reserved(number) => *number == ELSE,
         _ => false,
     }
 }

@@ -10,6 +10,9 @@ use crate::words::reserved;
 use fp_base::{NoMemory, Text};
 use std::alloc::Global;
 
+/// The number of the mark `->`.
+const ARROW: u8 = 10;
+
 /// Why no piece is read at a place.
 #[derive(Clone, Copy, Debug, PartialEq, Eq)]
 pub enum Fault {
@@ -80,7 +83,7 @@ fn other(b: u8, next: u8) -> Option<(Option<Word>, usize)>
     } else if b == b'\r' && next == b'\n' {
         Some((Some(Word::Newline), 2))
     } else if b == b'-' && next == b'>' {
-        Some((Some(Word::Mark(10)), 2))
+        Some((Some(Word::Mark(ARROW)), 2))
     } else {
         match one_mark(b) {
             Some(mark) => Some((Some(Word::Mark(mark)), 1)),
