@@ -1,0 +1,11 @@
+pub mod Table
+pub mod Runs
+pub mod Shape
+pub mod Longest
+pub mod Gives
+pub mod Kept
+pub mod Cuts
+pub mod Rises
+pub mod First
+pub mod State
+pub mod Unique

@@ -1,0 +1,118 @@
+ghost use Rattle.std.specs.Prelude.{◌≡◌, ◌∷◌, ◌++◌, List, IfOk, OnOk, false, cond};
+ghost use Rattle.fp_lexer.specs.Tokens.{ignored_after, ignored_before, is_newline, kept};
+ghost use Rattle.fp_lexer.specs.Scan.{resume, newline_read};
+ghost use Rattle.fp_lexer.specs.declared.token.Token.{Token};
+ghost use Rattle.fp_base.specs.declared.place.Span.{Span};
+
+use crate::token::{Token, Word};
+use fp_base::{NoMemory, Row, Span};
+
+/// The number of the reserved word `else`.
+const ELSE: u8 = 24;
+
+/// What a newline would mean at a place, by what stands before it.
+#[derive(Clone, Copy, Debug, PartialEq, Eq)]
+pub enum Standing {
+    Counts,
+    Ignored,
+    /// One was read, and counts unless what follows lets it be ignored.
+    Pending(Span),
+}
+
+fn is_newline(word: &Word) -> bool
+    ensures { result ≡ is_newline word.now }
+{
+    match word {
+        Word::Newline => true,
+        _ => false,
+    }
+}
+
+/// Newlines are ignored after `( * + , - -> / : ; = [ {`.
+fn ignored_after(word: &Word) -> bool
+    ensures { result ≡ ignored_after word.now }
+{
+    match word {
+        Word::Mark(mark) => matches!(*mark, 0 | 2 | 4 | 6..=11 | 13..=15),
+        Word::Newline => true,
+        _ => false,
+    }
+}
+
+/// Newlines are ignored before `) ] } else`.
+fn ignored_before(word: &Word) -> bool
+    ensures { result ≡ ignored_before word.now }
+{
+    match word {
+        Word::Mark(mark) => matches!(*mark, 1 | 3 | 5),
+        Word::Reserved(number) => *number == ELSE,
+        _ => false,
+    }
+}
+
+/// What a newline would mean after a newline.
+fn after_newline(standing: Standing, span: Span) -> Standing
+    ensures { result ≡ newline_read standing span }
+{
+    match standing {
+        Standing::Counts => Standing::Pending(span),
+        Standing::Ignored => Standing::Ignored,
+        Standing::Pending(first) => Standing::Pending(first),
+    }
+}
+
+/// What a newline would mean after a word.
+fn after_word(word: &Word) -> Standing
+    ensures { result ≡ cond (ignored_after word.now) Standing.Ignored Standing.Counts }
+{
+    if ignored_after(word) {
+        Standing::Ignored
+    } else {
+        Standing::Counts
+    }
+}
+
+/// Adds a newline that was read, unless the word that follows lets it be ignored.
+fn settle(tokens: &mut Row<Token>, standing: Standing, word: &Word) -> Result<(), NoMemory>
+    requires { is_newline word.now ≡ false }
+    ensures { OnOk result ((span : Span) (rest : List Token) → tokens.old ++ resume standing ((record { what = word.now; at = span }) ∷ rest)
+        ≡ tokens.new ++ (record { what = word.now; at = span }) ∷ kept (ignored_after word.now) rest) }
+{
+    match standing {
+        Standing::Counts => Ok(()),
+        Standing::Ignored => Ok(()),
+        Standing::Pending(span) => {
+            if ignored_before(word) {
+                Ok(())
+            } else {
+                tokens.push(Token {
+                    what: Word::Newline,
+                    at: span,
+                })?;
+                Ok(())
+            }
+        }
+    }
+}
+
+/// Adds a word, or leaves it out where it is a newline that is ignored.
+pub fn add(
+    tokens: &mut Row<Token>,
+    standing: Standing,
+    word: Word,
+    span: Span,
+) -> Result<Standing, NoMemory>
+    ensures { IfOk result (λ after. (rest : List Token) → tokens.old ++ resume standing ((record { what = word; at = span }) ∷ rest) ≡ tokens.new ++ resume after rest) }
+{
+    if is_newline(&word) {
+        Ok(after_newline(standing, span))
+    } else {
+        let after = after_word(&word);
+        settle(tokens, standing, &word)?;
+        tokens.push(Token {
+            what: word,
+            at: span,
+        })?;
+        Ok(after)
+    }
+}
