@@ -1,0 +1,8 @@
+//! Typed grammars over any tokens: the languages that they spell, the test for one token of lookahead, and what a parse answers.
+#![tactic(auto)]
+
+mod halt;
+mod laws;
+
+pub use halt::Halt;
+pub use laws::{Predictive, longest_prefix, node_or_break, one_break, one_node};
