@@ -1,10 +1,10 @@
 -- A token list spells a node, or breaks the grammar at one place.
-use Rattle.std.proofs.Common.{◌≡◌, refl, ℕ, ◌≤◌, ◌<◌, List, [], ◌∷◌, ◌++◌, ◌⊎◌, length, drop, sym, ◌∙◌, ap, subst, inl, inr, arith, append-nil, append_assoc, length-drop}
+use Rattle.std.proofs.Common.{◌≡◌, refl, ℕ, ◌≤◌, ◌<◌, List, [], ◌∷◌, ◌++◌, ◌⊎◌, length, drop, sym, ◌∙◌, ap, subst, inl, inr, arith, append-nil, append_assoc, length-drop, length-append}
 use Rattle.fp_grammar.specs.Grammar.{Grammar, Spells}
 use Rattle.fp_grammar.specs.Promises.{Fits}
 use Rattle.fp_grammar.specs.Decided.{Answer, RefsDecided}
 use Rattle.fp_grammar.specs.Decided.Answer.{accepted, refused}
-use Rattle.fp_grammar.specs.Longest.{IsViable}
+use Rattle.fp_grammar.specs.Longest.{Begins, IsViable, IsLongestViable}
 use Rattle.fp_grammar.specs.Broken.{Breaks, IsBroken}
 use Rattle.fp_grammar.specs.Parses.{Accepts, Refuses, IsStuck}
 use Rattle.fp_grammar.proofs.Lists.{Cuts, cuts_of}
@@ -40,6 +40,18 @@ broken_not_spelled {T = T} {kind = kind} {g = g} {tokens = tokens} {before = bef
     go : (rest : List T) → tokens ≡ before ++ rest → Breaks kind g before rest → ⊥
     go [] e b = b x (subst (λ l. Spells kind g l x) (e ∙ append-nil before) s)
     go (t ∷ r) e b = b (r, x, subst (λ l. Spells kind g l x) (e ∙ sym (append_assoc before (t ∷ []) r)) s)
+
+-- what stands before the break is the longest viable prefix
+pub broken_longest : {T X : Type 0} {kind : T → ℕ} {g : Grammar T X} {tokens before rest : List T} → IsBroken kind g tokens before rest → IsLongestViable kind g tokens before
+broken_longest {T = T} {kind = kind} {g = g} {tokens = tokens} {before = before} {rest = rest} p = record { begins = (rest, p.cut); viable = p.viable; longest = longest }
+  where
+    longest : (v : List T) → Begins tokens v → IsViable kind g v → length v ≤ length before
+    longest v (s, e) i = go (cuts_of before rest v s (sym p.cut ∙ e))
+      where
+        go : Cuts before rest v s → length v ≤ length before
+        go (same f h) = omega (arith, ap length f)
+        go (longer t r f h) = absurd (no_longer kind g before rest t r (r ++ s) p.breaks h (subst (λ l. IsViable kind g l) f i))
+        go (shorter t r f h) = omega (arith, ap length f, length-append v (t ∷ r))
 
 -- what is stuck is broken, if it spells nothing or tokens are left
 stuck_breaks : {T X : Type 0} (kind : T → ℕ) (g : Grammar T X) (w rest : List T) → IsStuck (Spells kind g) w rest → (rest ≡ [] → (x : X) → Spells kind g w x → ⊥) → Breaks kind g w rest

@@ -87,3 +87,11 @@ Spells kind (many a) w xs = SpellsMany (Spells kind a) w xs
 Spells kind (separated a seps) w xs = SpellsSeparated kind (Spells kind a) seps w xs
 Spells kind (separated_tail a seps) w xs = SpellsTail kind (Spells kind a) seps w xs
 Spells kind (ref n) w x = n.spells w x
+
+-- a token of this kind, and then a node
+abbrev pub after : {T X : Type 0} → ℕ → Grammar T X → Grammar T X
+after k a = map (λ p. p.1) (seq (token k) a)
+
+-- a node, and then a token of this kind
+abbrev pub before : {T X : Type 0} → Grammar T X → ℕ → Grammar T X
+before a k = map (λ p. p.0) (seq a (token k))

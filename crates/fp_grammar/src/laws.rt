@@ -4,7 +4,7 @@ ghost use Rattle.fp_grammar.specs.Promises.{Fits};
 ghost use Rattle.fp_grammar.specs.Decided.{RefsDecided};
 ghost use Rattle.fp_grammar.specs.Broken.{IsBroken};
 ghost use Rattle.fp_grammar.specs.Parses.{Parses};
-ghost use Rattle.fp_grammar.specs.Longest.{AnswersLongest};
+ghost use Rattle.fp_grammar.specs.Longest.{AnswersLongest, IsLongestViable};
 ghost use Rattle.fp_grammar.specs.declared.halt.Halt.{Halt};
 
 /// A grammar over the tokens of one type, which passes the test for one token of lookahead.
@@ -27,9 +27,10 @@ pub fn one_node<G: Predictive>()
     ensures { (w : List G.Token) (x y : G.Node) → Spells G.kind G.grammar w x → Spells G.kind G.grammar w y → x ≡ y }
 {}
 
-/// A token list breaks the grammar at one place at most, and then it spells no node.
+/// A token list breaks the grammar at one place at most, which is directly after its longest viable prefix, and then it spells no node.
 pub fn one_break<G: Predictive>()
     ensures one { (tokens before rest before' rest' : List G.Token) → IsBroken G.kind G.grammar tokens before rest → IsBroken G.kind G.grammar tokens before' rest' → before ≡ before' }
+    ensures longest { (tokens before rest : List G.Token) → IsBroken G.kind G.grammar tokens before rest → IsLongestViable G.kind G.grammar tokens before }
     ensures none { (tokens before rest : List G.Token) (x : G.Node) → IsBroken G.kind G.grammar tokens before rest → Spells G.kind G.grammar tokens x → ⊥ }
 {}
 

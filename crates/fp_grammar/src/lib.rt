@@ -3,6 +3,8 @@
 
 mod halt;
 mod laws;
+#[cfg(test)]
+mod tests;
 
 pub use halt::Halt;
 pub use laws::{Predictive, longest_prefix, node_or_break, one_break, one_node};
