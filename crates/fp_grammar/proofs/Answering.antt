@@ -1,0 +1,96 @@
+-- What a function answers, from what the functions that it called answered.
+use Rattle.std.proofs.Common.{◌≡◌, ℕ, ◌+◌, List, [], ◌∷◌, drop, ◌++◌, ◌∙◌, ap, inl, inr, length, refl, sym, subst}
+use Rattle.std.specs.Prelude.{◌&&◌, not, true, Result, Ok, Err, IsErrAnd}
+use Rattle.std.proofs.lemmas.Result.{err_from_is_err_and}
+use Rattle.fp_grammar.specs.declared.halt.Halt.{Halt}
+use Rattle.fp_grammar.specs.declared.halt.Halt.TheVariants.{Unexpected, NoMemory}
+use Rattle.fp_grammar.specs.Grammar.{Grammar, Spells, Among}
+use Rattle.fp_grammar.specs.Sets.{nullable, productive, first, extends, is_ll1, disjoint}
+use Rattle.fp_grammar.specs.Grammar.Grammar.{token, seq, map, alt}
+use Rattle.fp_grammar.specs.Parses.{Accepts, Refuses, RefusesBy, Parses}
+use Rattle.fp_grammar.proofs.Cutting.{Agrees}
+use Rattle.fp_grammar.proofs.Lists.{and-left, and-right, not-true, disjoint-apart}
+use Rattle.fp_grammar.specs.Promises.{IsGood}
+use Rattle.fp_grammar.specs.Promises.{RefsGood}
+use Rattle.fp_grammar.proofs.Fits.{good_of}
+use Rattle.fp_grammar.proofs.Walk.{Absent}
+use Rattle.fp_grammar.proofs.Steps.{absent, alt_first_accepts}
+
+module _ {T : Type 0} {kind : T → ℕ} where
+  refused_by : {X A : Type 0} {g : Grammar T X} {a : Grammar T A} {tokens : List T} {from mid : ℕ} → ((to : ℕ) → Refuses kind a tokens mid to → Refuses kind g tokens from to) → (s : Halt) → RefusesBy kind a tokens mid s → RefusesBy kind g tokens from s
+  refused_by f (Unexpected to) h = f to h
+  refused_by f NoMemory h = tt
+
+  -- the exit of a `?`
+  pub passing : {X A : Type 0} {g : Grammar T X} {a : Grammar T A} {tokens : List T} {from mid : ℕ} (s : Halt) (r : Result (X × ℕ) Halt) → ((to : ℕ) → Refuses kind a tokens mid to → Refuses kind g tokens from to) → RefusesBy kind a tokens mid s → IsErrAnd r (λ y. y ≡ s) → Parses kind g tokens from r
+  passing {g = g} {tokens = tokens} {from = from} s r f h e =
+      let p = err_from_is_err_and r e in
+      let b : RefusesBy kind g tokens from p.0 = subst (λ v. RefusesBy kind g tokens from v) (sym p.2) (refused_by f s h) in
+      subst (λ v. Parses kind g tokens from v) (sym p.1) b
+
+  -- what a call answered is handed on
+  pub handing : {X : Type 0} {g a : Grammar T X} {tokens : List T} {from mid : ℕ} → ((x : X) (to : ℕ) → Accepts kind a tokens mid x to → Accepts kind g tokens from x to) → ((to : ℕ) → Refuses kind a tokens mid to → Refuses kind g tokens from to) → (r : Result (X × ℕ) Halt) → Parses kind a tokens mid r → Parses kind g tokens from r
+  handing f h (Ok p) i = f p.0 p.1 i
+  handing f h (Err s) i = refused_by h s i
+
+  pub absent_map : {X Y : Type 0} {f : X → Y} {a : Grammar T X} {tokens : List T} {mid : ℕ} → Absent kind a tokens mid → Absent kind (map f a) tokens mid
+  absent_map n = record { nothing = λ z y agrees s. n.nothing z s.0 agrees s.2 }
+
+  -- what was made, said otherwise
+  pub as_value : {X : Type 0} {g : Grammar T X} {tokens : List T} {from to : ℕ} {x y : X} → x ≡ y → Accepts kind g tokens from x to → Accepts kind g tokens from y to
+  as_value {g = g} {tokens = tokens} {from = from} {to = to} e p = subst (λ v. Accepts kind g tokens from v to) e p
+
+  -- neither alternative is there
+  pub absent_both : {X : Type 0} {a b : Grammar T X} {tokens : List T} {mid : ℕ} → Absent kind a tokens mid → Absent kind b tokens mid → Absent kind (alt a b) tokens mid
+  absent_both {X = X} {a = a} {b = b} {tokens = tokens} {mid = mid} n m = record { nothing = go }
+    where
+      go : (z : List T) (x : X) → Agrees z (drop mid tokens) → Spells kind (alt a b) z x → ⊥
+      go z x agrees (inl s) = n.nothing z x agrees s
+      go z x agrees (inr s) = m.nothing z x agrees s
+
+  -- what was read as the first alternative rules out the second
+  pub alt_first_accepted : {X : Type 0} {a b : Grammar T X} {tokens : List T} {mid to : ℕ} {x : X} → is_ll1 (alt a b) ≡ true → RefsGood kind (alt a b) → Accepts kind a tokens mid x to → Accepts kind (alt a b) tokens mid x to
+  alt_first_accepted {X = X} {a = a} {b = b} {tokens = tokens} {mid = mid} {to = to} {x = x} ll1 refs p = alt_first_accepts (record { nothing = λ z y agrees s. go p.w p.spelled p.splits z y agrees s }) p
+    where
+      e1 : (is_ll1 b && (not (nullable a) && (not (nullable b) && disjoint (first a) (first b)))) ≡ true
+      e1 = and-right (is_ll1 a) _ ll1
+
+      e2 : (not (nullable a) && (not (nullable b) && disjoint (first a) (first b))) ≡ true
+      e2 = and-right (is_ll1 b) _ e1
+
+      e3 : (not (nullable b) && disjoint (first a) (first b)) ≡ true
+      e3 = and-right (not (nullable a)) _ e2
+
+      good_a : IsGood kind (Spells kind a) (nullable a) (productive a) (first a) (extends a)
+      good_a = good_of a (and-left (is_ll1 a) _ ll1) refs.0
+
+      good_b : IsGood kind (Spells kind b) (nullable b) (productive b) (first b) (extends b)
+      good_b = good_of b (and-left (is_ll1 b) _ e1) refs.1
+
+      go : (w : List T) → Spells kind a w x → drop mid tokens ≡ w ++ drop to tokens → (z : List T) (y : X) → Agrees z (drop mid tokens) → Spells kind b z y → ⊥
+      go [] s e z y agrees i = not-true (nullable a) (and-left (not (nullable a)) _ e2) (good_a.empty x s)
+      go (t ∷ w) s e [] y agrees i = not-true (nullable b) (and-left (not (nullable b)) _ e3) (good_b.empty y i)
+      go (t ∷ w) s e (t' ∷ z) y agrees i =
+          let q = agrees t' z refl in
+          let f : t' ∷ q.0 ≡ t ∷ (w ++ drop to tokens) = sym q.1 ∙ e in
+          let g : t' ≡ t = cc in
+          disjoint-apart (kind t) (first a) (first b) (and-right (not (nullable b)) _ e3) (good_a.begin t w x s) (subst (λ v. Among (kind v) (first b)) g (good_b.begin t' z y i))
+
+  -- a call refused at its first token: the part is absent
+  pub absent_now : {X : Type 0} {a : Grammar T X} {tokens : List T} {at : ℕ} (s : Halt) → s ≡ Unexpected at → RefusesBy kind a tokens at s → Absent kind a tokens at
+  absent_now {a = a} {tokens = tokens} {at = at} s e h = let p : Refuses kind a tokens at at = subst (λ v. RefusesBy kind a tokens at v) e h in absent p
+
+  -- a call refused later
+  pub refused_later : {X A : Type 0} {g : Grammar T X} {a : Grammar T A} {tokens : List T} {from at : ℕ} → ((to : ℕ) → (at ≡ to → ⊥) → Refuses kind a tokens at to → Refuses kind g tokens from to) → (s : Halt) → (s ≡ Unexpected at → ⊥) → RefusesBy kind a tokens at s → RefusesBy kind g tokens from s
+  refused_later f (Unexpected to) other h = f to (λ e. other (ap Unexpected (sym e))) h
+  refused_later f NoMemory other h = tt
+
+  -- what begins with a token that was refused is absent
+  pub absent_after : {X A : Type 0} {k : ℕ} {a : Grammar T A} {f : T × A → X} {tokens : List T} {mid : ℕ} → Refuses kind (token k) tokens mid mid → Absent kind (map f (seq (token k) a)) tokens mid
+  absent_after {X = X} {k = k} {a = a} {f = f} {tokens = tokens} {mid = mid} p =
+      let n = absent p in
+      record { nothing = λ z y agrees s. n.nothing s.2.0 s.0.0 (λ t r e. agrees t (r ++ s.2.1) (s.2.2 ∙ ap (λ l. l ++ s.2.1) e)) s.2.3 }
+
+  -- a token takes one place
+  pub after_one : {k : ℕ} {t : T} {tokens : List T} {mid at : ℕ} → Accepts kind (token k) tokens mid t at → at ≡ mid + 1
+  after_one {k = k} {mid = mid} p = p.place ∙ ap (λ l. mid + length l) p.spelled.0

@@ -1,0 +1,155 @@
+-- At each position of each token list a grammar has an answer: it accepts a node, or it refuses a token.
+use Rattle.std.proofs.Common.{◌≡◌, ℕ, zero, suc, ◌+◌, ◌<◌, Bool, true, false, not, Option, Some, None, List, [], ◌∷◌, ◌++◌, ◌⊎◌, drop, length, refl, sym, ◌∙◌, ap, subst, inl, inr, arith, length-append, length-drop}
+use Rattle.std.specs.Prelude.{slice_get}
+use Rattle.std.proofs.lemmas.Option.{slice_get_within}
+use Rattle.fp_grammar.specs.Grammar.{Grammar, Spells, Among}
+use Rattle.fp_grammar.specs.Grammar.Grammar.{token, seq, map, with_tokens, alt, optional, many, separated, separated_tail, ref}
+use Rattle.fp_grammar.specs.Sets.{is_ll1, productive, nullable, first, member}
+use Rattle.fp_grammar.specs.Promises.{RefsGood, Fits}
+use Rattle.fp_grammar.specs.Decided.{Answer, RefsDecided}
+use Rattle.fp_grammar.specs.Decided.Answer.{accepted, refused}
+use Rattle.fp_grammar.specs.Parses.{Accepts, Refuses, NextAmong}
+use Rattle.fp_grammar.proofs.Lists.{and-left, and-right, not-true, member-true, Among-from_member}
+use Rattle.fp_grammar.proofs.Fits.{good_of}
+use Rattle.fp_grammar.proofs.Walk.{Reached, Absent, begin, next, done, stop, first_refused}
+use Rattle.fp_grammar.proofs.Steps.{absent, map_accepts, map_refuses, with_tokens_accepts, with_tokens_refuses, alt_first_accepts, alt_first_refuses, alt_second_accepts, alt_second_refuses, optional_absent, optional_accepts, optional_refuses, token_accepts, token_refuses}
+use Rattle.fp_grammar.proofs.ListSteps.{many_next, many_absent, many_refuses, separated_next, separated_absent, separated_refuses, tail_next, tail_absent}
+use Rattle.fp_grammar.proofs.Choices.{absent_beside, absent_unless}
+
+same_number : (n m : ℕ) → (n ≡ m) ⊎ (n ≡ m → ⊥)
+same_number n m = grind arith
+
+among_at : {T : Type 0} (kind : T → ℕ) (ks : List ℕ) (tokens : List T) (at : ℕ) (t : T) → Some t ≡ slice_get tokens at → (b : Bool) → b ≡ member (kind t) ks → NextAmong kind ks tokens at ⊎ (NextAmong kind ks tokens at → ⊥)
+among_at kind ks tokens at t e true f = inl (t, e, Among-from_member (kind t) ks (sym f), slice_get_within tokens at t (sym e))
+among_at kind ks tokens at t e false f = inr (λ (s, g, m, _). let i : s ≡ t = cc in let h = member-true (kind t) ks (subst (λ v. Among (kind v) ks) i m) in cc)
+
+among_of : {T : Type 0} (kind : T → ℕ) (ks : List ℕ) (tokens : List T) (at : ℕ) (o : Option T) → o ≡ slice_get tokens at → NextAmong kind ks tokens at ⊎ (NextAmong kind ks tokens at → ⊥)
+among_of kind ks tokens at None e = inr (λ (s, g, _, _). cc)
+among_of kind ks tokens at (Some t) e = among_at kind ks tokens at t e (member (kind t) ks) refl
+
+next_among : {T : Type 0} (kind : T → ℕ) (ks : List ℕ) (tokens : List T) (at : ℕ) → NextAmong kind ks tokens at ⊎ (NextAmong kind ks tokens at → ⊥)
+next_among kind ks tokens at = among_of kind ks tokens at (slice_get tokens at) refl
+
+module _ {T : Type 0} {kind : T → ℕ} where
+  token_answer_at : (k : ℕ) (tokens : List T) (from : ℕ) (o : Option T) → o ≡ slice_get tokens from → Answer kind (token k) tokens from
+  token_answer_at k tokens from None e = refused from (token_refuses k tokens from (λ t f g. cc))
+  token_answer_at k tokens from (Some t) e =
+      elim (same_number (kind t) k) [
+        | inl f ↦ accepted t (from + 1) (token_accepts k t tokens from e f)
+        | inr f ↦ refused from (token_refuses k tokens from (λ s g h. let i : s ≡ t = cc in f (ap kind (sym i) ∙ h)))
+      ]
+
+  -- what isn't nullable takes tokens
+  reads : {X : Type 0} {a : Grammar T X} {tokens : List T} {mid to : ℕ} {x : X} → is_ll1 a ≡ true → not (nullable a) ≡ true → RefsGood kind a → Accepts kind a tokens mid x to → length (drop to tokens) < length (drop mid tokens)
+  reads {X = X} {a = a} {tokens = tokens} {mid = mid} {to = to} {x = x} ll1 not_null refs p = go p.w p.splits p.spelled
+    where
+      go : (w : List T) → drop mid tokens ≡ w ++ drop to tokens → Spells kind a w x → length (drop to tokens) < length (drop mid tokens)
+      go [] e s = absurd (not-true (nullable a) not_null ((good_of a ll1 refs).empty x s))
+      go (t ∷ w) e s = omega (arith, ap length e, length-append (t ∷ w) (drop to tokens))
+
+  seq_rest : {X Y : Type 0} (a : Grammar T X) (b : Grammar T Y) (tokens : List T) (from : ℕ) → Fits kind (seq a b) → (x : X) (mid : ℕ) → Accepts kind a tokens from x mid → Answer kind b tokens mid → Answer kind (seq a b) tokens from
+  seq_rest a b tokens from fits x mid p (accepted y to q) = accepted (x, y) to (done (next (begin tokens from fits) p) q)
+  seq_rest a b tokens from fits x mid p (refused to q) = refused to (stop (next (begin tokens from fits) p) q)
+
+  seq_answer : {X Y : Type 0} (a : Grammar T X) (b : Grammar T Y) (tokens : List T) (from : ℕ) → Fits kind (seq a b) → Answer kind a tokens from → ((mid : ℕ) → Answer kind b tokens mid) → Answer kind (seq a b) tokens from
+  seq_answer a b tokens from fits (accepted x mid p) f = seq_rest a b tokens from fits x mid p (f mid)
+  seq_answer a b tokens from fits (refused to p) f = refused to (first_refused fits p)
+
+  map_answer : {X Y : Type 0} (f : X → Y) (a : Grammar T X) (tokens : List T) (from : ℕ) → Answer kind a tokens from → Answer kind (map f a) tokens from
+  map_answer f a tokens from (accepted x to p) = accepted (f x) to (map_accepts p)
+  map_answer f a tokens from (refused to p) = refused to (map_refuses p)
+
+  with_tokens_answer : {X : Type 0} (a : Grammar T X) (tokens : List T) (from : ℕ) → Answer kind a tokens from → Answer kind (with_tokens a) tokens from
+  with_tokens_answer a tokens from (accepted x to p) = accepted (p.w, x) to (with_tokens_accepts p)
+  with_tokens_answer a tokens from (refused to p) = refused to (with_tokens_refuses p)
+
+  alt_first : {X : Type 0} (a b : Grammar T X) (tokens : List T) (from : ℕ) → Absent kind b tokens from → Answer kind a tokens from → Answer kind (alt a b) tokens from
+  alt_first a b tokens from n (accepted x to p) = accepted x to (alt_first_accepts n p)
+  alt_first a b tokens from n (refused to p) = refused to (alt_first_refuses n p)
+
+  alt_second : {X : Type 0} (a b : Grammar T X) (tokens : List T) (from : ℕ) → Absent kind a tokens from → Answer kind b tokens from → Answer kind (alt a b) tokens from
+  alt_second a b tokens from n (accepted x to p) = accepted x to (alt_second_accepts n p)
+  alt_second a b tokens from n (refused to p) = refused to (alt_second_refuses n p)
+
+  alt_answer : {X : Type 0} (a b : Grammar T X) (tokens : List T) (from : ℕ) → is_ll1 (alt a b) ≡ true → RefsGood kind (alt a b) → Answer kind a tokens from → Answer kind b tokens from → Answer kind (alt a b) tokens from
+  alt_answer a b tokens from ll1 refs p q =
+      let e1 = and-right (is_ll1 a) _ ll1 in
+      let e2 = and-right (is_ll1 b) _ e1 in
+      let e3 = and-right (not (nullable a)) _ e2 in
+      elim (next_among kind (first a) tokens from) [
+        | inl n ↦ alt_first a b tokens from (absent_beside (first a) n (and-left (is_ll1 b) _ e1) (and-left (not (nullable b)) _ e3) (and-right (not (nullable b)) _ e3) refs.1) p
+        | inr n ↦ alt_second a b tokens from (absent_unless n (and-left (is_ll1 a) _ ll1) (and-left (not (nullable a)) _ e2) refs.0) q
+      ]
+
+  optional_answer : {X : Type 0} (a : Grammar T X) (tokens : List T) (from : ℕ) → Answer kind a tokens from → Answer kind (optional a) tokens from
+  optional_answer a tokens from (accepted x to p) = accepted (Some x) to (optional_accepts p)
+  optional_answer a tokens from (refused to p) =
+      elim (same_number from to) [
+        | inl e ↦ accepted None from (optional_absent (absent (subst (λ n. Refuses kind a tokens from n) (sym e) p)))
+        | inr e ↦ refused to (optional_refuses e p)
+      ]
+
+  -- more of several, with as many steps at most as tokens are left
+  many_step : {A X : Type 0} {g : Grammar T X} (a : Grammar T A) (tokens : List T) (from mid : ℕ) (k : List A → X) → Fits kind (many a) → Reached kind g (many a) k tokens from mid → ((k' : List A → X) (to : ℕ) → length (drop to tokens) < length (drop mid tokens) → Reached kind g (many a) k' tokens from to → Answer kind g tokens from) → Answer kind a tokens mid → Answer kind g tokens from
+  many_step a tokens from mid k fits r more (accepted x to p) =
+      let e = and-right (is_ll1 a) _ fits.ll1 in
+      more (λ xs. k (x ∷ xs)) to (reads (and-left (is_ll1 a) _ fits.ll1) (and-left (not (nullable a)) _ e) fits.refs p) (many_next r p)
+  many_step a tokens from mid k fits r more (refused to p) =
+      let e = and-right (is_ll1 a) _ fits.ll1 in
+      elim (same_number mid to) [
+        | inl f ↦ accepted (k []) mid (done r (many_absent (and-left (not (nullable a)) _ e) (and-left (is_ll1 a) _ fits.ll1) fits.refs (absent (subst (λ n. Refuses kind a tokens mid n) (sym f) p))))
+        | inr f ↦ refused to (stop r (many_refuses fits f p))
+      ]
+
+  many_from : {A X : Type 0} {g : Grammar T X} (fuel : ℕ) (a : Grammar T A) (tokens : List T) (from mid : ℕ) (k : List A → X) → Fits kind (many a) → ((at : ℕ) → Answer kind a tokens at) → length (drop mid tokens) < fuel → Reached kind g (many a) k tokens from mid → Answer kind g tokens from
+  many_from zero a tokens from mid k fits f l r = absurd (omega (arith, l))
+  many_from (suc fuel) a tokens from mid k fits f l r = many_step a tokens from mid k fits r (λ k' to e r'. many_from fuel a tokens from to k' fits f (omega (arith, e, l)) r') (f mid)
+
+  -- after an element: a separator and more, or the end
+  tail_step : {A X : Type 0} {g : Grammar T X} (a : Grammar T A) (seps : List ℕ) (tokens : List T) (from mid : ℕ) (k : List A → X) → Reached kind g (separated_tail a seps) k tokens from mid → (Reached kind g (separated a seps) k tokens from (mid + 1) → Answer kind g tokens from) → Answer kind g tokens from
+  tail_step a seps tokens from mid k r more =
+      elim (next_among kind seps tokens mid) [
+        | inl n ↦ more (tail_next r n.1 n.2)
+        | inr n ↦ accepted (k []) mid (done r (tail_absent (λ t e m. n (t, e, m, slice_get_within tokens mid t (sym e)))))
+      ]
+
+  separated_step : {A X : Type 0} {g : Grammar T X} (a : Grammar T A) (seps : List ℕ) (tokens : List T) (from mid : ℕ) (k : List A → X) → Fits kind (separated a seps) → Reached kind g (separated a seps) k tokens from mid → ((k' : List A → X) (to : ℕ) → length (drop to tokens) < length (drop mid tokens) → Reached kind g (separated a seps) k' tokens from to → Answer kind g tokens from) → Answer kind a tokens mid → Answer kind g tokens from
+  separated_step a seps tokens from mid k fits r more (accepted x to p) =
+      let e = and-right (is_ll1 a) _ fits.ll1 in
+      let l = reads (and-left (is_ll1 a) _ fits.ll1) (and-left (not (nullable a)) _ e) fits.refs p in
+      tail_step a seps tokens from to (λ xs. k (x ∷ xs)) (separated_next r p) (λ r'. more (λ xs. k (x ∷ xs)) (to + 1) (omega (arith, l, length-drop (to + 1) tokens, length-drop to tokens)) r')
+  separated_step a seps tokens from mid k fits r more (refused to p) =
+      elim (same_number mid to) [
+        | inl f ↦ accepted (k []) mid (done r (separated_absent fits (absent (subst (λ n. Refuses kind a tokens mid n) (sym f) p))))
+        | inr f ↦ refused to (stop r (separated_refuses fits f p))
+      ]
+
+  separated_from : {A X : Type 0} {g : Grammar T X} (fuel : ℕ) (a : Grammar T A) (seps : List ℕ) (tokens : List T) (from mid : ℕ) (k : List A → X) → Fits kind (separated a seps) → ((at : ℕ) → Answer kind a tokens at) → length (drop mid tokens) < fuel → Reached kind g (separated a seps) k tokens from mid → Answer kind g tokens from
+  separated_from zero a seps tokens from mid k fits f l r = absurd (omega (arith, l))
+  separated_from (suc fuel) a seps tokens from mid k fits f l r = separated_step a seps tokens from mid k fits r (λ k' to e r'. separated_from fuel a seps tokens from to k' fits f (omega (arith, e, l)) r') (f mid)
+
+  pub answer_of : {X : Type 0} (g : Grammar T X) → Fits kind g → RefsDecided kind g → (tokens : List T) (from : ℕ) → Answer kind g tokens from
+  answer_of (token k) fits d tokens from = token_answer_at k tokens from (slice_get tokens from) refl
+  answer_of (seq a b) fits d tokens from =
+      let e = and-right (is_ll1 a) _ fits.ll1 in
+      let fits_a : Fits kind a = record { ll1 = and-left (is_ll1 a) _ fits.ll1; some = and-left (productive a) _ fits.some; refs = fits.refs.0 } in
+      let fits_b : Fits kind b = record { ll1 = and-left (is_ll1 b) _ e; some = and-right (productive a) _ fits.some; refs = fits.refs.1 } in
+      seq_answer a b tokens from fits (answer_of a fits_a d.0 tokens from) (λ mid. answer_of b fits_b d.1 tokens mid)
+  answer_of (map f a) fits d tokens from = map_answer f a tokens from (answer_of a (record { ll1 = fits.ll1; some = fits.some; refs = fits.refs }) d tokens from)
+  answer_of (with_tokens a) fits d tokens from = with_tokens_answer a tokens from (answer_of a (record { ll1 = fits.ll1; some = fits.some; refs = fits.refs }) d tokens from)
+  answer_of (alt a b) fits d tokens from =
+      let e = and-right (is_ll1 a) _ fits.ll1 in
+      let fits_a : Fits kind a = record { ll1 = and-left (is_ll1 a) _ fits.ll1; some = d.0; refs = fits.refs.0 } in
+      let fits_b : Fits kind b = record { ll1 = and-left (is_ll1 b) _ e; some = d.1; refs = fits.refs.1 } in
+      alt_answer a b tokens from fits.ll1 fits.refs (answer_of a fits_a d.2 tokens from) (answer_of b fits_b d.3 tokens from)
+  answer_of (optional a) fits d tokens from = optional_answer a tokens from (answer_of a (record { ll1 = and-left (is_ll1 a) _ fits.ll1; some = d.0; refs = fits.refs }) d.1 tokens from)
+  answer_of (many a) fits d tokens from =
+      let fits_a : Fits kind a = record { ll1 = and-left (is_ll1 a) _ fits.ll1; some = d.0; refs = fits.refs } in
+      many_from (length (drop from tokens) + 1) a tokens from from (λ xs. xs) fits (λ at. answer_of a fits_a d.1 tokens at) (omega arith) (begin tokens from fits)
+  answer_of (separated a seps) fits d tokens from =
+      let fits_a : Fits kind a = record { ll1 = and-left (is_ll1 a) _ fits.ll1; some = d.0; refs = fits.refs } in
+      separated_from (length (drop from tokens) + 1) a seps tokens from from (λ xs. xs) fits (λ at. answer_of a fits_a d.1 tokens at) (omega arith) (begin tokens from fits)
+  answer_of (separated_tail a seps) fits d tokens from =
+      let fits_a : Fits kind a = record { ll1 = and-left (is_ll1 a) _ fits.ll1; some = d.0; refs = fits.refs } in
+      tail_step a seps tokens from from (λ xs. xs) (begin tokens from fits) (λ r. separated_from (length (drop (from + 1) tokens) + 1) a seps tokens from (from + 1) (λ xs. xs) (record { ll1 = fits.ll1; some = refl; refs = fits.refs }) (λ at. answer_of a fits_a d.1 tokens at) (omega arith) r)
+  answer_of (ref n) fits d tokens from = d tokens from

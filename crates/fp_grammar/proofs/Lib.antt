@@ -1,0 +1,15 @@
+pub mod Lists
+pub mod Tokens
+pub mod Good
+pub mod Cutting
+pub mod GoodLists
+pub mod Fits
+pub mod Walk
+pub mod Steps
+pub mod ListSteps
+pub mod Choices
+pub mod Sealed
+pub mod Answering
+pub mod LongestLemmas
+pub mod Deciding
+pub mod BrokenLemmas
