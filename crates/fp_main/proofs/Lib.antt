@@ -1,2 +1,4 @@
-pub mod Writing
+pub mod ConstantsBroken
+pub mod ConstantsFit
 pub mod Wording
+pub mod Writing

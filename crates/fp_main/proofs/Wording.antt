@@ -19,14 +19,14 @@ check_is_none form = cc (form.1)
 other_begins_none : (word : List ℕ) (words : List (List ℕ)) → (word ≡ codes "check" → ⊥) → BeginsForm (word ∷ words) → ⊥
 other_begins_none word words other begins = other (head_same word (codes "check") (words ++ begins.0) (begins.1.0 ∷ []) begins.1.1)
   where
-  head_same : (x y : List ℕ) (xs ys : List (List ℕ)) → x ∷ xs ≡ y ∷ ys → x ≡ y
-  head_same x y xs ys e = cc
+    head_same : (x y : List ℕ) (xs ys : List (List ℕ)) → x ∷ xs ≡ y ∷ ys → x ≡ y
+    head_same x y xs ys e = cc
 
 long_begins_none : (file more : List ℕ) (words : List (List ℕ)) → BeginsForm (codes "check" ∷ file ∷ more ∷ words) → ⊥
 long_begins_none file more words begins = tail_none file begins.1.0 more (words ++ begins.0) begins.1.1
   where
-  tail_none : (x y z : List ℕ) (zs : List (List ℕ)) → codes "check" ∷ x ∷ z ∷ zs ≡ codes "check" ∷ y ∷ [] → ⊥
-  tail_none x y z zs e = cc
+    tail_none : (x y z : List ℕ) (zs : List (List ℕ)) → codes "check" ∷ x ∷ z ∷ zs ≡ codes "check" ∷ y ∷ [] → ⊥
+    tail_none x y z zs e = cc
 
 pub missing_command : IsWrong [] 1
 missing_command = record { counted = lit< tt; begun = none_begins; ends = inr (refl, none_is_none) }
@@ -60,11 +60,11 @@ module _ {S : Type 0} (bytes : S → List ℕ) where
       subst (λ (ws : List S). IsWrong (map bytes ws) 1) (sym e)
       (other_command (bytes word) (map bytes files) (λ h. differ read (bytes word) test same is other h))
     where
-    differ : (read word : List ℕ) (test : Bool) → read ≡ word → test ≡ bytes_eq read (codes "check") → test ≡ false → word ≡ codes "check" → ⊥
-    differ read word test same is other h =
-        let yes' : bytes_eq read (codes "check") ≡ true = (bytes_eq-Decides read (codes "check")).1 (same ∙ h) in
-        let no' : bytes_eq read (codes "check") ≡ false = sym is ∙ other in
-        cc
+      differ : (read word : List ℕ) (test : Bool) → read ≡ word → test ≡ bytes_eq read (codes "check") → test ≡ false → word ≡ codes "check" → ⊥
+      differ read word test same is other h =
+          let yes' : bytes_eq read (codes "check") ≡ true = (bytes_eq-Decides read (codes "check")).1 (same ∙ h) in
+          let no' : bytes_eq read (codes "check") ≡ false = sym is ∙ other in
+          cc
 
   pub further_word_of : (files : List S) (file : S) (more : List S) → files ≡ file ∷ more → (length more ≡ 0 → ⊥) → IsWrong (codes "check" ∷ map bytes files) 3
   further_word_of files file [] e some = absurd (some refl)

@@ -1,4 +1,7 @@
+pub mod constants
 pub mod Delivery
 pub mod Lines
+pub mod Output
+pub mod Sources
 pub mod Statuses
 pub mod Words

@@ -1,0 +1,3 @@
+pub mod Broken
+pub mod Kinds
+pub mod Language

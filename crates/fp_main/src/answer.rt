@@ -1,0 +1,77 @@
+ghost use Rattle.std.specs.Prelude.{map, IfOk};
+ghost use Rattle.std.specs.String.{string_bytes};
+ghost use Rattle.fp_main.specs.Output.{IsDue, files_run};
+ghost use Rattle.fp_main.specs.Sources.{Checks};
+
+use crate::constants::parse;
+use crate::lines::{no_file_line, read_fault_line, refusal_line, usage_line};
+use crate::listing::listing;
+use crate::status::Status;
+use crate::words::{Command, read_words};
+use fp_base::{NoMemory, Row, Stop};
+use fp_lexer::lex;
+use fp_outside::{Files, ReadRefusal};
+use std::alloc::Global;
+
+/// What a call has to write, and its status where every write succeeds.
+#[derive(Drop)]
+pub struct Due {
+    pub status: Status,
+    pub output: Row<u8>,
+    pub line: Row<u8>,
+}
+
+/// A status that has a line.
+fn said(alloc: Global, status: Status, line: Row<u8>) -> Due {
+    Due {
+        status,
+        output: Row::new(alloc),
+        line,
+    }
+}
+
+/// The listing of what a source defines, or the rule that it breaks first.
+fn check(alloc: Global, text: &[u8]) -> Result<Row<u8>, Stop>
+    ensures { Checks text.now result }
+{
+    let tokens = lex(alloc, 0, text)?;
+    let source = parse(alloc, &tokens)?;
+    Ok(listing(alloc, &source)?)
+}
+
+/// What is due for a source that was read from the file of this name.
+fn check_file(alloc: Global, name: &str, text: &[u8]) -> Result<Due, NoMemory> {
+    match check(alloc, text) {
+        Ok(output) => Ok(Due {
+            status: Status::Done,
+            output,
+            line: Row::new(alloc),
+        }),
+        Err(Stop::Broken(refusal)) => Ok(said(
+            alloc,
+            Status::Refused,
+            refusal_line(alloc, name, refusal)?,
+        )),
+        Err(Stop::NoMemory) => Err(NoMemory),
+    }
+}
+
+/// What is due for the words.
+pub fn answer<F: Files>(alloc: Global, words: &[String], files: &mut F) -> Result<Due, NoMemory>
+    ensures { IfOk result (λ due. IsDue (map string_bytes words.now) (files_run F.told F.faults F.misses files.old files.new) due.status due.output due.line) }
+{
+    let name = match read_words(words) {
+        Ok(Command::Check(name)) => name,
+        Err(word) => return Ok(said(alloc, Status::Usage, usage_line(alloc, word)?)),
+    };
+    match files.read(alloc, name) {
+        Ok(Some(text)) => check_file(alloc, name, text.as_slice()),
+        Ok(None) => Ok(said(alloc, Status::NoFile, no_file_line(alloc, name)?)),
+        Err(ReadRefusal::Failed) => Ok(said(
+            alloc,
+            Status::ReadFault,
+            read_fault_line(alloc, name)?,
+        )),
+        Err(ReadRefusal::NoMemory) => Err(NoMemory),
+    }
+}
