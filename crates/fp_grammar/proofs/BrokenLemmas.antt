@@ -1,5 +1,5 @@
 -- A token list spells a node, or breaks the grammar at one place.
-use Rattle.std.proofs.Common.{◌≡◌, refl, ℕ, ◌≤◌, ◌<◌, List, [], ◌∷◌, ◌++◌, ◌⊎◌, length, drop, sym, ◌∙◌, ap, subst, inl, inr, arith, append-nil, append_assoc, length-drop, length-append}
+use Rattle.std.proofs.Common.{◌≡◌, refl, ℕ, ◌+◌, ◌≤◌, ◌<◌, List, [], ◌∷◌, ◌++◌, ◌⊎◌, length, take, drop, sym, ◌∙◌, ap, subst, inl, inr, arith, append-nil, append_assoc, length-drop, length-append}
 use Rattle.fp_grammar.specs.Grammar.{Grammar, Spells}
 use Rattle.fp_grammar.specs.Promises.{Fits}
 use Rattle.fp_grammar.specs.Decided.{Answer, RefsDecided}
@@ -65,26 +65,36 @@ none_left {T = T} tokens to e = go (drop to tokens) (omega (arith, length-drop t
     go [] e = refl
     go (x ∷ xs) e = absurd (omega (arith, e))
 
+taken : {T : Type 0} (tokens w : List T) (to : ℕ) (rest : List T) → tokens ≡ w ++ rest → to ≡ 0 + length w → w ≡ take to tokens
+taken {T = T} tokens w to rest e f = sym (ap (λ n. take n tokens) (omega (arith, f)) ∙ ap (λ l. take (length w) l) e ∙ front w rest)
+  where
+    front : (w rest : List T) → take (length w) (w ++ rest) ≡ w
+    front [] rest = refl
+    front (t ∷ w) rest = ap (λ l. t ∷ l) (front w rest)
+
+broken_at : {T X : Type 0} {kind : T → ℕ} {g : Grammar T X} {tokens w rest : List T} {to : ℕ} → to ≡ 0 + length w → IsBroken kind g tokens w rest → IsBroken kind g tokens (take to tokens) rest
+broken_at {kind = kind} {g = g} {tokens = tokens} {w = w} {rest = rest} {to = to} e b = subst (λ l. IsBroken kind g tokens l rest) (taken tokens w to rest b.cut e) b
+
 -- a node that takes all tokens
 pub accepted_whole : {T X : Type 0} {kind : T → ℕ} {g : Grammar T X} {tokens : List T} {x : X} {to : ℕ} → Accepts kind g tokens 0 x to → length tokens ≤ to → Spells kind g tokens x
 accepted_whole {kind = kind} {g = g} {tokens = tokens} {x = x} {to = to} p e =
     subst (λ l. Spells kind g l x) (sym (p.splits ∙ ap (λ l. p.w ++ l) (none_left tokens to e) ∙ append-nil p.w)) p.spelled
 
 -- a node that leaves tokens
-pub accepted_short : {T X : Type 0} {kind : T → ℕ} {g : Grammar T X} {tokens : List T} {x : X} {to : ℕ} → (p : Accepts kind g tokens 0 x to) → to < length tokens → IsBroken kind g tokens p.w (drop to tokens)
-accepted_short {kind = kind} {g = g} {tokens = tokens} {x = x} {to = to} p e = record {
+pub accepted_short : {T X : Type 0} {kind : T → ℕ} {g : Grammar T X} {tokens : List T} {x : X} {to : ℕ} → Accepts kind g tokens 0 x to → to < length tokens → IsBroken kind g tokens (take to tokens) (drop to tokens)
+accepted_short {kind = kind} {g = g} {tokens = tokens} {x = x} {to = to} p e = broken_at p.place (record {
   cut = p.splits;
   viable = ([], x, subst (λ l. Spells kind g l x) (sym (append-nil p.w)) p.spelled);
   breaks = stuck_breaks kind g p.w (drop to tokens) p.stuck (λ f. absurd (omega (arith, e, ap length f, length-drop to tokens)));
-}
+})
 
 -- a refusal
-pub refused_broken : {T X : Type 0} {kind : T → ℕ} {g : Grammar T X} {tokens : List T} {to : ℕ} → Fits kind g → (p : Refuses kind g tokens 0 to) → IsBroken kind g tokens p.w (drop to tokens)
-refused_broken {T = T} {X = X} {kind = kind} {g = g} {tokens = tokens} {to = to} fits p = record {
+pub refused_broken : {T X : Type 0} {kind : T → ℕ} {g : Grammar T X} {tokens : List T} {to : ℕ} → Fits kind g → Refuses kind g tokens 0 to → IsBroken kind g tokens (take to tokens) (drop to tokens)
+refused_broken {T = T} {X = X} {kind = kind} {g = g} {tokens = tokens} {to = to} fits p = broken_at p.place (record {
   cut = p.splits;
   viable = viable p.viable;
   breaks = stuck_breaks kind g p.w (drop to tokens) p.stuck (λ _. p.none);
-}
+})
   where
     viable : ((p.w ≡ []) ⊎ ((more : List T) × (x : X) × Spells kind g (p.w ++ more) x)) → IsViable kind g p.w
     viable (inl e) = let f = (good_of g fits.ll1 fits.refs).spelling fits.some in (f.0, f.1, subst (λ l. Spells kind g (l ++ f.0) f.1) (sym e) f.2)
@@ -93,13 +103,13 @@ refused_broken {T = T} {X = X} {kind = kind} {g = g} {tokens = tokens} {to = to}
 by_answer : {T X : Type 0} {kind : T → ℕ} (g : Grammar T X) (tokens : List T) → Fits kind g → Answer kind g tokens 0 → ((x : X) × Spells kind g tokens x) ⊎ ((before rest : List T) × IsBroken kind g tokens before rest)
 by_answer g tokens fits (accepted x to p) =
     elim (short to (length tokens)) [
-      | inl e ↦ inr (p.w, drop to tokens, accepted_short p e)
+      | inl e ↦ inr (take to tokens, drop to tokens, accepted_short p e)
       | inr e ↦ inl (x, accepted_whole p e)
     ]
   where
     short : (n m : ℕ) → (n < m) ⊎ (m ≤ n)
     short n m = grind arith
-by_answer g tokens fits (refused to p) = inr (p.w, drop to tokens, refused_broken fits p)
+by_answer g tokens fits (refused to p) = inr (take to tokens, drop to tokens, refused_broken fits p)
 
 -- each list spells a node or is broken
 pub spelled_or_broken : {T X : Type 0} {kind : T → ℕ} (g : Grammar T X) → Fits kind g → RefsDecided kind g → (tokens : List T) → ((x : X) × Spells kind g tokens x) ⊎ ((before rest : List T) × IsBroken kind g tokens before rest)

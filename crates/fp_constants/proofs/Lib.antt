@@ -1,0 +1,2 @@
+pub mod LanguageFits
+pub mod BrokenLemmas

@@ -1,0 +1,11 @@
+use Rattle.fp_constants.proofs.BrokenLemmas.{one_place, not_spelled, spelled_or_refused}
+use Rattle.fp_constants.proofs.source.one_refusal.Goals as goal
+
+pub returns-clause-one : goal.returns-clause-one
+returns-clause-one c = one_place
+
+pub returns-clause-none : goal.returns-clause-none
+returns-clause-none c = not_spelled
+
+pub returns-clause-some : goal.returns-clause-some
+returns-clause-some c = spelled_or_refused
