@@ -1,10 +1,9 @@
 -- The grammar of constants passes the test for one token of lookahead, and has an answer for each token list.
-use Rattle.std.proofs.Common.{◌≡◌, ℕ, zero, suc, ◌+◌, ◌*◌, ◌⊎◌, refl, sym, inl, inr, arith}
+use Rattle.std.proofs.Common.{◌≡◌, ℕ, zero, suc, ◌+◌, ◌*◌, ◌⊎◌, refl, inl, inr, arith}
 use Rattle.fp_base.specs.declared.place.Place.{Place}
 use Rattle.fp_base.specs.declared.place.Span.{Span}
 use Rattle.fp_lexer.specs.declared.token.Word.{Word}
 use Rattle.fp_lexer.specs.declared.token.Word.TheVariants as word
-use Rattle.fp_lexer.specs.declared.token.Token.{Token}
 use Rattle.fp_grammar.specs.Promises.{HasEachKind, Fits}
 use Rattle.fp_grammar.specs.Decided.{RefsDecided}
 use Rattle.fp_main.specs.constants.Kinds.{kind, word_kind}

@@ -74,16 +74,20 @@ pub record IsRead (words : List (List ℕ)) (files : FilesRun) (name text : List
   pub found : NoMiss files
   pub held : Holds files name (Some text)
 
--- a rule is broken in the source
-pub record DueRefused (words : List (List ℕ)) (files : FilesRun) (output line : List ℕ) : Type 0 where
-  pub name : List ℕ
-  pub text : List ℕ
-  pub read : IsRead words files name text
+-- a rule is broken in the text of a file
+pub record SaysBroken (name text output line : List ℕ) : Type 0 where
   pub rule : Rule
   pub place : Place
   pub broken : Breaks text rule place
   pub silent : output ≡ []
   pub said : line ≡ refusal_line name place rule
+
+-- a rule is broken in the source
+pub record DueRefused (words : List (List ℕ)) (files : FilesRun) (output line : List ℕ) : Type 0 where
+  pub name : List ℕ
+  pub text : List ℕ
+  pub read : IsRead words files name text
+  pub says : SaysBroken name text output line
 
 -- the listing of what the source defines
 pub record DueListing (words : List (List ℕ)) (files : FilesRun) (output line : List ℕ) : Type 0 where
@@ -92,6 +96,12 @@ pub record DueListing (words : List (List ℕ)) (files : FilesRun) (output line 
   pub read : IsRead words files name text
   pub listed : Lists text output
   pub silent : line ≡ []
+
+-- what has to be written for the text of a file
+abbrev pub IsDueFor : List ℕ → List ℕ → Status → List ℕ → List ℕ → Type 0
+IsDueFor name text Done output line = Lists text output × (line ≡ [])
+IsDueFor name text Refused output line = SaysBroken name text output line
+IsDueFor name text _ output line = ⊥
 
 -- what has to be written for each status, where every write succeeds
 abbrev pub IsDue : List (List ℕ) → FilesRun → Status → List ℕ → List ℕ → Type 0

@@ -1,4 +1,4 @@
-use Rattle.std.proofs.Common.{rules, arith, refl, sym, ap, ◌∙◌, ◌++◌, append-nil, append_assoc, ◌∷◌, []}
+use Rattle.std.proofs.Common.{rules, sym, ap, ◌∙◌, ◌++◌, append-nil, append_assoc, ◌∷◌, []}
 use Rattle.std.proofs.lemmas.Option.{slice_get_within}
 use Rattle.fp_main.proofs.ConstantsFit.{constants_fits}
 use Rattle.fp_grammar.proofs.Answering.{absent_now, refused_later, as_value}

@@ -1,7 +1,4 @@
-use Rattle.std.proofs.Common.{◌≡◌, ◌<◌, ◌≤◌, length, refl, sym, subst, take, drop, List}
-use Rattle.fp_lexer.specs.declared.token.Token.{Token}
-use Rattle.fp_grammar.specs.Parses.{Accepts, Refuses}
-use Rattle.fp_main.specs.constants.Kinds.{kind}
+use Rattle.std.proofs.Common.{subst}
 use Rattle.fp_main.specs.constants.Broken.{BrokenG1}
 use Rattle.fp_main.proofs.ConstantsBroken.{short_breaks, refusal_breaks, refusal_has_tokens}
 use Rattle.fp_main.proofs.constants.source.parse.Goals as goal

@@ -1,2 +1,0 @@
-pub mod LanguageFits
-pub mod BrokenLemmas

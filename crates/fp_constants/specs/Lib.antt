@@ -1,3 +1,0 @@
-pub mod Kinds
-pub mod Language
-pub mod Broken
