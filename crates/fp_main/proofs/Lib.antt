@@ -1,3 +1,5 @@
+pub mod CausesComing
+pub mod CausesMeant
 pub mod ConstantsBroken
 pub mod ConstantsFit
 pub mod Wording

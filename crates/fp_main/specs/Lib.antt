@@ -1,4 +1,5 @@
 pub mod constants
+pub mod Causes
 pub mod Delivery
 pub mod Lines
 pub mod Output

@@ -2,6 +2,8 @@ ghost use Rattle.std.specs.Prelude.{map};
 ghost use Rattle.std.specs.String.{string_bytes};
 ghost use Rattle.fp_main.specs.Delivery.{sink_run};
 ghost use Rattle.fp_main.specs.Output.{Output, files_run};
+ghost use Rattle.fp_main.specs.Causes.{UsageMeans, ReadFaultMeans, NoFileMeans, RefusedMeans, DoneMeans, WriteFaultMeans, NoMemoryMeans, IsNoRun};
+ghost use Rattle.fp_main.specs.Causes.{UsageComes, ReadFaultComes, NoFileComes, RefusedComes, DoneComes, WriteFaultComes};
 
 use crate::answer::answer;
 use crate::deliver::deliver;
@@ -14,7 +16,33 @@ use std::thread::Threads;
 
 const NO_MEMORY: &str = "fpp: no memory\n";
 
-/// Does what the words ask for: `out` gets its text, and `diag` the one line that says why a call ended otherwise.
+/// What is due for the words and the files, written.
+fn write_answer<F: Files, O: Sink, E: Sink>(
+    alloc: Global,
+    words: &[String],
+    files: &mut F,
+    out: &mut O,
+    diag: &mut E,
+) -> Status
+    ensures { Output
+        (map string_bytes words.now) (files_run F.told F.faults F.misses files.old files.new)
+        (sink_run O.told O.faults out.old out.new) (sink_run E.told E.faults diag.old diag.new)
+        result }
+{
+    match answer(alloc, words, files) {
+        Ok(due) => deliver(
+            due.status,
+            due.output.as_slice(),
+            due.line.as_slice(),
+            out,
+            diag,
+        ),
+        Err(NoMemory) => deliver(Status::NoMemory, &[], NO_MEMORY.as_bytes(), out, diag),
+    }
+}
+
+/// Does what the words, without the program's name, ask for: `out` gets the text, and `diag` the one line that says why a call
+/// ended otherwise. The output is made whole before its first byte is written. `rt` and `gate` are for runs.
 pub fn serve<R, F, O, E, G>(
     _rt: &R,
     alloc: Global,
@@ -30,16 +58,59 @@ where
     O: Sink,
     E: Sink,
     G: Gate,
-    ensures output { Output (map string_bytes words.now) (files_run F.told F.faults F.misses files.old files.new) (sink_run O.told O.faults out.old out.new) (sink_run E.told E.faults diag.old diag.new) result }
+    // The whole: what is due for the words and the files, and how it is written.
+    ensures output { Output
+        (map string_bytes words.now) (files_run F.told F.faults F.misses files.old files.new)
+        (sink_run O.told O.faults out.old out.new) (sink_run E.told E.faults diag.old diag.new)
+        result }
+
+    // What each status means.
+    ensures usage { UsageMeans
+        (map string_bytes words.now) (files_run F.told F.faults F.misses files.old files.new)
+        (sink_run O.told O.faults out.old out.new) (sink_run E.told E.faults diag.old diag.new)
+        result }
+    ensures read_fault { ReadFaultMeans
+        (map string_bytes words.now) (files_run F.told F.faults F.misses files.old files.new)
+        (sink_run O.told O.faults out.old out.new) (sink_run E.told E.faults diag.old diag.new)
+        result }
+    ensures no_file { NoFileMeans
+        (map string_bytes words.now) (files_run F.told F.faults F.misses files.old files.new)
+        (sink_run O.told O.faults out.old out.new) (sink_run E.told E.faults diag.old diag.new)
+        result }
+    ensures refused { RefusedMeans
+        (map string_bytes words.now) (files_run F.told F.faults F.misses files.old files.new)
+        (sink_run O.told O.faults out.old out.new) (sink_run E.told E.faults diag.old diag.new)
+        result }
+    ensures done { DoneMeans
+        (map string_bytes words.now) (files_run F.told F.faults F.misses files.old files.new)
+        (sink_run O.told O.faults out.old out.new) (sink_run E.told E.faults diag.old diag.new)
+        result }
+    ensures write_fault { WriteFaultMeans
+        (map string_bytes words.now) (files_run F.told F.faults F.misses files.old files.new)
+        (sink_run O.told O.faults out.old out.new) (sink_run E.told E.faults diag.old diag.new)
+        result }
+    ensures no_memory { NoMemoryMeans
+        (sink_run O.told O.faults out.old out.new) (sink_run E.told E.faults diag.old diag.new)
+        result }
+    ensures no_run { IsNoRun result }
+
+    // When each comes, unless memory is refused or a write fails.
+    ensures usage_comes { UsageComes (map string_bytes words.now) result }
+    ensures read_fault_comes { ReadFaultComes
+        (files_run F.told F.faults F.misses files.old files.new) result }
+    ensures no_file_comes { NoFileComes
+        (map string_bytes words.now) (files_run F.told F.faults F.misses files.old files.new)
+        result }
+    ensures refused_comes { RefusedComes
+        (map string_bytes words.now) (files_run F.told F.faults F.misses files.old files.new)
+        result }
+    ensures done_comes { DoneComes
+        (map string_bytes words.now) (files_run F.told F.faults F.misses files.old files.new)
+        (sink_run O.told O.faults out.old out.new) (sink_run E.told E.faults diag.old diag.new)
+        result }
+    ensures write_fault_comes { WriteFaultComes
+        (sink_run O.told O.faults out.old out.new) (sink_run E.told E.faults diag.old diag.new)
+        result }
 {
-    match answer(alloc, words, files) {
-        Ok(due) => deliver(
-            due.status,
-            due.output.as_slice(),
-            due.line.as_slice(),
-            out,
-            diag,
-        ),
-        Err(NoMemory) => deliver(Status::NoMemory, &[], NO_MEMORY.as_bytes(), out, diag),
-    }
+    write_answer(alloc, words, files, out, diag)
 }

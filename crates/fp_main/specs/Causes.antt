@@ -1,0 +1,104 @@
+-- When each status comes, and what stands written then.
+use Rattle.std.specs.Prelude.{ℕ, ◌≡◌, ◌<◌, ◌⊎◌, List, [], Option, Some, None}
+use Rattle.fp_base.specs.declared.place.Place.{Place}
+use Rattle.fp_base.specs.declared.rule.Rule.{Rule}
+use Rattle.fp_outside.specs.Counts.{last_count}
+use Rattle.fp_outside.specs.Files.{bytes_of}
+use Rattle.fp_outside.specs.declared.files.HeldFile.{HeldFile}
+use Rattle.fp_main.specs.Delivery.{SinkRun, Adds, AddsFront, OutFailed, DiagFailed}
+use Rattle.fp_main.specs.Delivery as delivery
+use Rattle.fp_main.specs.Lines.{usage_line, refusal_line, read_fault_line, no_file_line, no_memory_line}
+use Rattle.fp_main.specs.Output.{FilesRun, NoFault, NoMiss, HadFault, HadMiss, Holds, IsRead, IsDue}
+use Rattle.fp_main.specs.Sources.{Lists, Breaks}
+use Rattle.fp_main.specs.Words.{IsWrong, check_words}
+use Rattle.fp_main.specs.declared.status.Status.{Status}
+use Rattle.fp_main.specs.declared.status.Status.TheVariants.{Done, Refused, Usage, ReadFault, WriteFault, NoFile, Stuck, Spent, Asserted, NoMemory, NoTopology}
+
+-- the status is this one, unless a write failed or memory was refused
+abbrev pub EndsAs : Status → Status → Type 0
+EndsAs wanted status = (status ≡ wanted) ⊎ ((status ≡ WriteFault) ⊎ (status ≡ NoMemory))
+
+-- the one line is this, and out got nothing
+abbrev pub Says : List ℕ → SinkRun → SinkRun → Type 0
+Says line out diag = Adds [] out × Adds line diag
+
+-- no read failed: the count of faults stayed, below its last value
+abbrev pub Sound : FilesRun → Type 0
+Sound files = NoFault files × (files.faults_before < last_count)
+
+-- no write failed
+abbrev pub SoundSink : SinkRun → Type 0
+SoundSink run = delivery.NoFault run × (run.faults_before < last_count)
+
+-- the files tell what they hold, and this is it under the name that the words ask for
+pub record Asked (words : List (List ℕ)) (files : FilesRun) (name : List ℕ) (bytes : Option (List ℕ)) : Type 0 where
+  pub held : List HeldFile
+  pub told : files.told ≡ Some held
+  pub words_ask : words ≡ check_words name
+  pub holds : bytes_of held name ≡ bytes
+
+-- ---- what stands written
+
+abbrev pub UsageMeans : List (List ℕ) → FilesRun → SinkRun → SinkRun → Status → Type 0
+UsageMeans words files out diag status =
+    status ≡ Usage → (word : ℕ) × IsWrong words word × NoFault files × NoMiss files × Says (usage_line word) out diag
+
+abbrev pub ReadFaultMeans : List (List ℕ) → FilesRun → SinkRun → SinkRun → Status → Type 0
+ReadFaultMeans words files out diag status =
+    status ≡ ReadFault → (name : List ℕ) × (words ≡ check_words name) × HadFault files × NoMiss files × Says (read_fault_line name) out diag
+
+abbrev pub NoFileMeans : List (List ℕ) → FilesRun → SinkRun → SinkRun → Status → Type 0
+NoFileMeans words files out diag status =
+    status ≡ NoFile → (name : List ℕ) × (words ≡ check_words name) × NoFault files × HadMiss files × Holds files name None × Says (no_file_line name) out diag
+
+abbrev pub RefusedMeans : List (List ℕ) → FilesRun → SinkRun → SinkRun → Status → Type 0
+RefusedMeans words files out diag status =
+    status ≡ Refused → (name text : List ℕ) × (rule : Rule) × (place : Place) × IsRead words files name text × Breaks text rule place × Says (refusal_line name place rule) out diag
+
+abbrev pub DoneMeans : List (List ℕ) → FilesRun → SinkRun → SinkRun → Status → Type 0
+DoneMeans words files out diag status =
+    status ≡ Done → (name text listing : List ℕ) × IsRead words files name text × Lists text listing × Adds listing out × Adds [] diag
+
+-- out has a proper front of the output that was due, and diag the line that says so, or a proper front of it; or out has nothing,
+-- and diag a proper front of the line that was due
+abbrev pub WriteFaultMeans : List (List ℕ) → FilesRun → SinkRun → SinkRun → Status → Type 0
+WriteFaultMeans words files out diag status =
+    status ≡ WriteFault → (due : Status) × (output line : List ℕ) × IsDue words files due output line
+    × (OutFailed output out diag status ⊎ (DiagFailed output line out diag status × Adds [] out))
+
+abbrev pub NoMemoryMeans : SinkRun → SinkRun → Status → Type 0
+NoMemoryMeans out diag status = status ≡ NoMemory → Says no_memory_line out diag
+
+-- the statuses of runs come from no form of words that is built
+abbrev pub IsNoRun : Status → Type 0
+IsNoRun Stuck = ⊥
+IsNoRun Spent = ⊥
+IsNoRun Asserted = ⊥
+IsNoRun NoTopology = ⊥
+IsNoRun _ = Unit {0}
+
+-- ---- when each comes
+
+abbrev pub UsageComes : List (List ℕ) → Status → Type 0
+UsageComes words status = (word : ℕ) → IsWrong words word → EndsAs Usage status
+
+abbrev pub ReadFaultComes : FilesRun → Status → Type 0
+ReadFaultComes files status = files.faults_before < files.faults_after → EndsAs ReadFault status
+
+abbrev pub NoFileComes : List (List ℕ) → FilesRun → Status → Type 0
+NoFileComes words files status =
+    (files.misses_before < files.misses_after → EndsAs NoFile status)
+    × ((name : List ℕ) → Asked words files name None → Sound files → EndsAs NoFile status)
+
+abbrev pub WriteFaultComes : SinkRun → SinkRun → Status → Type 0
+WriteFaultComes out diag status = (out.faults_before < out.faults_after) ⊎ (diag.faults_before < diag.faults_after) → status ≡ WriteFault
+
+abbrev pub RefusedComes : List (List ℕ) → FilesRun → Status → Type 0
+RefusedComes words files status =
+    (name text : List ℕ) (rule : Rule) (place : Place) → Asked words files name (Some text) → Breaks text rule place → Sound files → EndsAs Refused status
+
+-- nothing is broken and nothing failed
+abbrev pub DoneComes : List (List ℕ) → FilesRun → SinkRun → SinkRun → Status → Type 0
+DoneComes words files out diag status =
+    (name text listing : List ℕ) → Asked words files name (Some text) → Lists text listing → Sound files → SoundSink out → SoundSink diag
+    → (status ≡ Done) ⊎ (status ≡ NoMemory)
