@@ -1,0 +1,374 @@
+ghost use Rattle.std.specs.Prelude.{◌≡◌, ◌≢◌};
+
+use fp_main::{Status, serve};
+use fp_outside::{MemFiles, MemSink, OpenGate};
+use std::alloc::{AllocError, Global};
+use std::sync::Wait;
+use std::test::Fail;
+use std::thread::Threads;
+
+/// A sink that takes few bytes at each call, and fails at the call of this number (0: at none).
+fn sink(alloc: Global, most: usize, failing: u64) -> Result<MemSink, AllocError>
+    requires { most ≢ 0 }
+{
+    let Ok(mut sink) = MemSink::new(alloc, most, 8192) else {
+        return Err(AllocError);
+    };
+    if failing != 0 && sink.fail_at(failing).is_err() {
+        return Err(AllocError);
+    }
+    Ok(sink)
+}
+
+/// A file `a.fpp` of this text, of which the read of this number fails (0: none).
+fn files(alloc: Global, text: &[u8], failing: u64) -> Result<MemFiles, AllocError> {
+    let mut files = MemFiles::new(alloc);
+    if files.hold(alloc, "a.fpp", text).is_err() {
+        return Err(AllocError);
+    }
+    if failing != 0 && files.fail_at(failing).is_err() {
+        return Err(AllocError);
+    }
+    Ok(files)
+}
+
+fn owned(alloc: Global, words: &[&str]) -> Result<Vec<String>, AllocError> {
+    let mut all = Vec::new(alloc);
+    for word in words {
+        all.push(String::from_str(alloc, word)?)?;
+    }
+    Ok(all)
+}
+
+#[derive(Drop)]
+struct Seen {
+    status: Status,
+    out: MemSink,
+    diag: MemSink,
+}
+
+/// What `check a.fpp` leaves on sinks that take 8 bytes at each call.
+fn checked<R: Threads + Wait + Sync>(
+    rt: &R,
+    alloc: Global,
+    text: &[u8],
+    words: &[&str],
+    failing: (u64, u64, u64),
+) -> Result<Seen, AllocError> {
+    let words = owned(alloc, words)?;
+    let mut files = files(alloc, text, failing.0)?;
+    let mut out = sink(alloc, 8, failing.1)?;
+    let mut diag = sink(alloc, 8, failing.2)?;
+    let status = serve(
+        rt,
+        alloc,
+        words.as_slice(),
+        &mut files,
+        &mut out,
+        &mut diag,
+        &OpenGate,
+    );
+    Ok(Seen { status, out, diag })
+}
+
+/// What `check a.fpp` writes, and its status, where nothing fails.
+const ROWS: [(&str, &str, &str, Status); 24] = [
+    ("", "", "", Status::Done),
+    ("constant a = 16", "constant a = 16\n", "", Status::Done),
+    ("constant a = 16\n", "constant a = 16\n", "", Status::Done),
+    (
+        "\n\nconstant a\n= 1 ; constant b = 02\n\n",
+        "",
+        "a.fpp:3:11: G1 unexpected token\n",
+        Status::Refused,
+    ),
+    (
+        "\n\nconstant a =\n 1 ; constant b = 02\r\n\n",
+        "constant a = 1\nconstant b = 2\n",
+        "",
+        Status::Done,
+    ),
+    (
+        "constant a = 1\nconstant a = 2;",
+        "constant a = 1\nconstant a = 2\n",
+        "",
+        Status::Done,
+    ),
+    (
+        "constant = 3\n",
+        "",
+        "a.fpp:1:10: G1 unexpected token\n",
+        Status::Refused,
+    ),
+    (
+        "constant a = -1\n",
+        "",
+        "a.fpp:1:14: G1 unexpected token\n",
+        Status::Refused,
+    ),
+    (
+        "constant a = ?\n",
+        "",
+        "a.fpp:1:14: L1 bad character\n",
+        Status::Refused,
+    ),
+    (
+        "constant = ?\n",
+        "",
+        "a.fpp:1:12: L1 bad character\n",
+        Status::Refused,
+    ),
+    (
+        "constant a = \"x\n",
+        "",
+        "a.fpp:1:14: L1 bad character\n",
+        Status::Refused,
+    ),
+    (
+        "constant a = 1 # c\n",
+        "",
+        "a.fpp:1:16: L1 bad character\n",
+        Status::Refused,
+    ),
+    (
+        "constant a = 1.5\n",
+        "",
+        "a.fpp:1:15: G1 unexpected token\n",
+        Status::Refused,
+    ),
+    (
+        "constant a = 0x10\n",
+        "",
+        "a.fpp:1:15: G1 unexpected token\n",
+        Status::Refused,
+    ),
+    (
+        "constant a = 170141183460469231731687303715884105727",
+        "constant a = 170141183460469231731687303715884105727\n",
+        "",
+        Status::Done,
+    ),
+    (
+        "constant a = 170141183460469231731687303715884105728",
+        "",
+        "a.fpp:1:14: L4 number too large\n",
+        Status::Refused,
+    ),
+    (
+        "constant a = 1 constant b = 2",
+        "",
+        "a.fpp:1:16: G1 unexpected token\n",
+        Status::Refused,
+    ),
+    (
+        "constant a",
+        "",
+        "a.fpp:1:11: G1 unexpected token\n",
+        Status::Refused,
+    ),
+    (
+        "constant a = 1;;",
+        "",
+        "a.fpp:1:16: G1 unexpected token\n",
+        Status::Refused,
+    ),
+    (
+        "port P\n",
+        "",
+        "a.fpp:1:1: G1 unexpected token\n",
+        Status::Refused,
+    ),
+    (
+        "module M { }\n",
+        "",
+        "a.fpp:1:1: G1 unexpected token\n",
+        Status::Refused,
+    ),
+    (
+        "topology T { }\n",
+        "",
+        "a.fpp:1:1: G1 unexpected token\n",
+        Status::Refused,
+    ),
+    (
+        "constant a = 1\n\rconstant b = 2",
+        "",
+        "a.fpp:2:1: L1 bad character\n",
+        Status::Refused,
+    ),
+    ("constant\ta\t=\t9", "constant a = 9\n", "", Status::Done),
+];
+
+/// Words, the numbers of the read, the write to out and the write to diag that fail (0: none), and what is left on the sinks of
+/// `constant a = 16`.
+const FAULTS: [(&[&str], (u64, u64, u64), &str, &str, Status); 22] = [
+    (&[], (0, 0, 0), "", "fpp: usage at word 1\n", Status::Usage),
+    (
+        &["frob", "a.fpp"],
+        (0, 0, 0),
+        "",
+        "fpp: usage at word 1\n",
+        Status::Usage,
+    ),
+    (
+        &["check"],
+        (0, 0, 0),
+        "",
+        "fpp: usage at word 2\n",
+        Status::Usage,
+    ),
+    (
+        &["check", "a.fpp", "a.fpp"],
+        (0, 0, 0),
+        "",
+        "fpp: usage at word 3\n",
+        Status::Usage,
+    ),
+    (
+        &["ports", "T", "a.fpp"],
+        (0, 0, 0),
+        "",
+        "fpp: usage at word 1\n",
+        Status::Usage,
+    ),
+    (
+        &["check", "b.fpp"],
+        (0, 0, 0),
+        "",
+        "fpp: no file b.fpp\n",
+        Status::NoFile,
+    ),
+    (
+        &["check", ""],
+        (0, 0, 0),
+        "",
+        "fpp: no file \n",
+        Status::NoFile,
+    ),
+    (
+        &["check", "a.fpp"],
+        (1, 0, 0),
+        "",
+        "fpp: read fault a.fpp\n",
+        Status::ReadFault,
+    ),
+    (
+        &["check", "a.fpp"],
+        (2, 0, 0),
+        "constant a = 16\n",
+        "",
+        Status::Done,
+    ),
+    (
+        &["check", "a.fpp"],
+        (0, 1, 0),
+        "",
+        "fpp: write fault\n",
+        Status::WriteFault,
+    ),
+    (
+        &["check", "a.fpp"],
+        (0, 2, 0),
+        "constant",
+        "fpp: write fault\n",
+        Status::WriteFault,
+    ),
+    (
+        &["check", "a.fpp"],
+        (0, 3, 0),
+        "constant a = 16\n",
+        "",
+        Status::Done,
+    ),
+    (&["check", "a.fpp"], (0, 1, 1), "", "", Status::WriteFault),
+    (
+        &["check", "a.fpp"],
+        (0, 2, 2),
+        "constant",
+        "fpp: wri",
+        Status::WriteFault,
+    ),
+    (
+        &["check", "a.fpp"],
+        (0, 2, 3),
+        "constant",
+        "fpp: write fault",
+        Status::WriteFault,
+    ),
+    (
+        &["check", "a.fpp"],
+        (0, 2, 4),
+        "constant",
+        "fpp: write fault\n",
+        Status::WriteFault,
+    ),
+    (
+        &["check", "a.fpp"],
+        (0, 0, 1),
+        "constant a = 16\n",
+        "",
+        Status::Done,
+    ),
+    (&["check", "a.fpp"], (1, 0, 1), "", "", Status::WriteFault),
+    (
+        &["check", "a.fpp"],
+        (1, 0, 3),
+        "",
+        "fpp: read fault ",
+        Status::WriteFault,
+    ),
+    (
+        &["check", "b.fpp"],
+        (0, 1, 2),
+        "",
+        "fpp: no ",
+        Status::WriteFault,
+    ),
+    (
+        &["check"],
+        (0, 1, 3),
+        "",
+        "fpp: usage at wo",
+        Status::WriteFault,
+    ),
+    (
+        &["check"],
+        (0, 1, 4),
+        "",
+        "fpp: usage at word 2\n",
+        Status::Usage,
+    ),
+];
+
+#[test]
+fn lists_or_refuses(rt: HostRuntime) -> Result<(), Fail> {
+    for (text, out, diag, status) in ROWS {
+        let seen = checked(
+            &rt,
+            rt.alloc(),
+            text.as_bytes(),
+            &["check", "a.fpp"],
+            (0, 0, 0),
+        )?;
+        assert_eq!(rt; seen.status, status, "{text}");
+        assert_eq!(rt; seen.out.bytes(), out.as_bytes(), "{text}");
+        assert_eq!(rt; seen.diag.bytes(), diag.as_bytes(), "{text}");
+    }
+    Ok(())
+}
+
+#[test]
+fn says_what_failed(rt: HostRuntime) -> Result<(), Fail> {
+    for (words, failing, out, diag, status) in FAULTS {
+        let seen = checked(&rt, rt.alloc(), b"constant a = 16\n", words, failing)?;
+        assert_eq!(rt; seen.status, status, "{words:?} {failing:?}");
+        assert_eq!(rt; seen.out.bytes(), out.as_bytes(), "{words:?} {failing:?}");
+        assert_eq!(rt; seen.diag.bytes(), diag.as_bytes(), "{words:?} {failing:?}");
+    }
+    Ok(())
+}
+
+#[test]
+fn statuses_have_codes(rt: HostRuntime) {
+    assert_eq!(rt; Status::NoTopology.code(), 12);
+}
