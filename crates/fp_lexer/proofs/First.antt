@@ -62,8 +62,9 @@ long_least text p TextTooLong i small e b = omega arith
 long_least text p UnexpectedToken i small e b = absurd b
 
 -- a text that is too long, and begins with a small piece
-pub long_first : (file : ℕ) (text : List ℕ) (p : Piece) → IsPiece text p → IsSmall p.what → p.from ≡ 0 → longest_text < length text → IsFirstBroken file text TextTooLong (place_at file text 0)
-long_first file text p i small e long = first_from file text TextTooLong 0 (refl, long) (λ other there b. omega arith) (λ other b. long_least text p other i small e b)
+pub long_first : (file : ℕ) (text : List ℕ) (place : Place) (p : Piece) → place ≡ place_at file text 0 → IsPiece text p → IsSmall p.what → p.from ≡ 0 → longest_text < length text → IsFirstBroken file text TextTooLong place
+long_first file text place p is i small e long =
+    subst (λ (q : Place). IsFirstBroken file text TextTooLong q) (sym is) (first_from file text TextTooLong 0 (refl, long) (λ other there b. omega arith) (λ other b. long_least text p other i small e b))
 
 -- a fault at a place that pieces reach, where nothing is broken before it
 pub stops : (file : ℕ) (text : List ℕ) (at : ℕ) (place : Place) (fault : Fault) → place ≡ place_at file text at → at < length text → Reached text at

@@ -56,8 +56,8 @@ one_length c (x ∷ y ∷ ys) e = let h : false ≡ true = and_right (x == c) fa
 pub all_le_prefix : (p : ℕ → Bool) (v more : List ℕ) → list_all p v ≡ true → length v ≤ prefix_len p (v ++ more)
 all_le_prefix p [] more e = omega arith
 all_le_prefix p (x ∷ xs) more e =
-    let h = all_le_prefix p xs more (and_right _ _ e) in
-    let c = cond_true (p x) (1 + prefix_len p (xs ++ more)) 0 (and_left _ _ e) in
+    let h = all_le_prefix p xs more (and_right (p x) (list_all p xs) e) in
+    let c = cond_true (p x) (1 + prefix_len p (xs ++ more)) 0 (and_left (p x) (list_all p xs) e) in
     omega (arith, h, c)
 
 pub prefix_all : (p : ℕ → Bool) (xs : List ℕ) → list_all p (take (prefix_len p xs) xs) ≡ true

@@ -8,12 +8,13 @@ ghost use Rattle.fp_lexer.specs.declared.token.Token.{Token};
 use crate::newlines::{Standing, add};
 use crate::pieces::{Fault, piece};
 use crate::token::{Token, Word};
-use fp_base::{Place, Refusal, Row, Rule, Span, Stop, place_after};
+use fp_base::{Place, Refusal, Row, Rule, Span, Stop, place_after, place_of};
 use std::alloc::Global;
 
 /// The most bytes of a file.
 const LONGEST: usize = 4194304;
 
+/// Lets a piece go.
 fn forget(_what: Option<Word>) {}
 
 /// Why the lexer stops at a place.
@@ -35,26 +36,22 @@ fn stop_at(place: Place, fault: Fault) -> Stop
     }
 }
 
-/// The first broken rule of a text that is too long: what is broken at its first byte stands before the length in the table.
+/// Why a text that is too long is refused: another rule that is broken at its first byte stands before the length in the table.
 fn refuse_long(alloc: Global, file: u32, text: &[u8]) -> Stop
     requires { longest_text < length text.now }
     ensures { IsStop file text.now result }
 {
-    let place = Place {
-        file,
-        line: 1,
-        column: 1,
-    };
+    let place = place_of(file, text, 0);
     match piece(alloc, text, 0) {
         Ok((what, _)) => {
             forget(what);
-            return Stop::Broken(Refusal {
+            Stop::Broken(Refusal {
                 rule: Rule::TextTooLong,
                 place,
                 other: None,
-            });
+            })
         }
-        Err(fault) => return stop_at(place, fault),
+        Err(fault) => stop_at(place, fault),
     }
 }
 
@@ -68,11 +65,7 @@ pub fn lex(alloc: Global, file: u32, text: &[u8]) -> Result<Row<Token>, Stop>
     let mut tokens = Row::new(alloc);
     let mut standing = Standing::Ignored;
     let mut at = 0;
-    let mut here = Place {
-        file,
-        line: 1,
-        column: 1,
-    };
+    let mut here = place_of(file, text, 0);
     'pieces: while at < text.len() {
         match piece(alloc, text, at) {
             Ok((what, past)) => {

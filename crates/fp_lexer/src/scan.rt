@@ -18,10 +18,13 @@ pub fn number(text: &[u8], from: usize) -> Option<(u128, usize)>
     let mut end = from;
     'digits: while end < text.len() && is_digit(text[end]) {
         let digit = (text[end] - b'0') as u128;
-        if value > (LARGEST - digit) / 10 {
+        if value > LARGEST / 10 {
             return None;
         }
         value = 10 * value + digit;
+        if value > LARGEST {
+            return None;
+        }
         end += 1;
     }
     Some((value, end))
