@@ -1,4 +1,5 @@
 use Rattle.fp_constants.proofs.BrokenLemmas.{one_place, not_spelled, spelled_or_refused}
+use Rattle.fp_grammar.proofs.BrokenLemmas.{broken_longest}
 use Rattle.fp_constants.proofs.source.one_refusal.Goals as goal
 
 pub returns-clause-one : goal.returns-clause-one
@@ -9,3 +10,6 @@ returns-clause-none c = not_spelled
 
 pub returns-clause-some : goal.returns-clause-some
 returns-clause-some c = spelled_or_refused
+
+pub returns-clause-longest : goal.returns-clause-longest
+returns-clause-longest c = λ tokens before rest b. broken_longest b
