@@ -9,6 +9,7 @@ use Rattle.fp_grammar.specs.Broken.{Breaks, IsBroken}
 use Rattle.fp_grammar.specs.Parses.{Accepts, Refuses, IsStuck}
 use Rattle.fp_grammar.proofs.Lists.{Cuts, cuts_of}
 use Rattle.fp_grammar.proofs.Lists.Cuts.{same, longer, shorter}
+use Rattle.fp_grammar.proofs.Tokens.{taken}
 use Rattle.fp_grammar.proofs.Fits.{good_of}
 use Rattle.fp_grammar.proofs.Deciding.{answer_of}
 
@@ -65,15 +66,8 @@ none_left {T = T} tokens to e = go (drop to tokens) (omega (arith, length-drop t
     go [] e = refl
     go (x ∷ xs) e = absurd (omega (arith, e))
 
-taken : {T : Type 0} (tokens w : List T) (to : ℕ) (rest : List T) → tokens ≡ w ++ rest → to ≡ 0 + length w → w ≡ take to tokens
-taken {T = T} tokens w to rest e f = sym (ap (λ n. take n tokens) (omega (arith, f)) ∙ ap (λ l. take (length w) l) e ∙ front w rest)
-  where
-    front : (w rest : List T) → take (length w) (w ++ rest) ≡ w
-    front [] rest = refl
-    front (t ∷ w) rest = ap (λ l. t ∷ l) (front w rest)
-
 broken_at : {T X : Type 0} {kind : T → ℕ} {g : Grammar T X} {tokens w rest : List T} {to : ℕ} → to ≡ 0 + length w → IsBroken kind g tokens w rest → IsBroken kind g tokens (take to tokens) rest
-broken_at {kind = kind} {g = g} {tokens = tokens} {w = w} {rest = rest} {to = to} e b = subst (λ l. IsBroken kind g tokens l rest) (taken tokens w to rest b.cut e) b
+broken_at {kind = kind} {g = g} {tokens = tokens} {w = w} {rest = rest} {to = to} e b = subst (λ l. IsBroken kind g tokens l rest) (taken tokens w to rest b.cut (omega (arith, e))) b
 
 -- a node that takes all tokens
 pub accepted_whole : {T X : Type 0} {kind : T → ℕ} {g : Grammar T X} {tokens : List T} {x : X} {to : ℕ} → Accepts kind g tokens 0 x to → length tokens ≤ to → Spells kind g tokens x

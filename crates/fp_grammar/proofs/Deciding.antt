@@ -60,7 +60,7 @@ module _ {T : Type 0} {kind : T → ℕ} where
   map_answer f a tokens from (refused to p) = refused to (map_refuses p)
 
   with_tokens_answer : {X : Type 0} (a : Grammar T X) (tokens : List T) (from : ℕ) → Answer kind a tokens from → Answer kind (with_tokens a) tokens from
-  with_tokens_answer a tokens from (accepted x to p) = accepted (p.w, x) to (with_tokens_accepts p)
+  with_tokens_answer a tokens from (accepted x to p) = accepted _ to (with_tokens_accepts p)
   with_tokens_answer a tokens from (refused to p) = refused to (with_tokens_refuses p)
 
   alt_first : {X : Type 0} (a b : Grammar T X) (tokens : List T) (from : ℕ) → Absent kind b tokens from → Answer kind a tokens from → Answer kind (alt a b) tokens from

@@ -13,3 +13,4 @@ pub mod Answering
 pub mod LongestLemmas
 pub mod Deciding
 pub mod BrokenLemmas
+pub mod Nesting

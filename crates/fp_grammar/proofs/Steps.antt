@@ -1,12 +1,12 @@
 -- The steps of a parser at one place: choices, optional parts and lists.
-use Rattle.std.proofs.Common.{◌≡◌, ℕ, ◌+◌, true, not, Option, Some, None, List, [], ◌∷◌, ◌++◌, ◌⊎◌, drop, refl, sym, ◌∙◌, ap, subst, inl, inr, arith, append-nil}
+use Rattle.std.proofs.Common.{◌≡◌, ℕ, ◌+◌, true, not, Option, Some, None, List, [], ◌∷◌, ◌++◌, ◌⊎◌, drop, refl, sym, ◌∙◌, ap, subst, inl, inr, arith, append-nil, take, ◌-◌}
 use Rattle.std.specs.Prelude.{slice_get}
 use Rattle.fp_grammar.specs.Grammar.{Grammar, Spells, SpellsOptional, Among}
 use Rattle.fp_grammar.specs.Sets.{nullable, productive, first, extends, is_ll1, member}
 use Rattle.fp_grammar.specs.Grammar.Grammar.{token, map, with_tokens, alt, optional}
 use Rattle.fp_grammar.specs.Parses.{Accepts, Refuses}
 use Rattle.fp_grammar.proofs.Lists.{not-true, member-true}
-use Rattle.fp_grammar.proofs.Tokens.{rest_at, rest_at_end, read_at, no_tokens, some_tokens}
+use Rattle.fp_grammar.proofs.Tokens.{rest_at, rest_at_end, read_at, no_tokens, some_tokens, taken}
 use Rattle.fp_grammar.specs.Promises.{IsGood}
 use Rattle.fp_grammar.proofs.Cutting.{Agrees}
 use Rattle.fp_grammar.specs.Promises.{RefsGood}
@@ -188,9 +188,13 @@ module _ {T : Type 0} {kind : T → ℕ} where
     stuck = λ t' s more x e i. let f = i.0 in cc;
   }
 
+  -- the tokens that were read
+  pub tokens_read : {X : Type 0} {a : Grammar T X} {tokens : List T} {mid to : ℕ} {x : X} → (p : Accepts kind a tokens mid x to) → p.w ≡ take (to - mid) (drop mid tokens)
+  tokens_read {tokens = tokens} {mid = mid} {to = to} p = taken (drop mid tokens) p.w (to - mid) (drop to tokens) p.splits (omega (arith, p.place))
+
   -- a node beside its tokens
-  pub with_tokens_accepts : {X : Type 0} {a : Grammar T X} {tokens : List T} {mid to : ℕ} {x : X} → (p : Accepts kind a tokens mid x to) → Accepts kind (with_tokens a) tokens mid (p.w, x) to
-  with_tokens_accepts p = record { w = p.w; place = p.place; splits = p.splits; spelled = (refl, p.spelled); stuck = λ t s more y e i. p.stuck t s more y.1 e i.1 }
+  pub with_tokens_accepts : {X : Type 0} {a : Grammar T X} {tokens : List T} {mid to : ℕ} {x : X} → Accepts kind a tokens mid x to → Accepts kind (with_tokens a) tokens mid (take (to - mid) (drop mid tokens), x) to
+  with_tokens_accepts {x = x} p = record { w = p.w; place = p.place; splits = p.splits; spelled = (sym (tokens_read p), p.spelled); stuck = λ t s more y e i. p.stuck t s more y.1 e i.1 }
 
   pub with_tokens_refuses : {X : Type 0} {a : Grammar T X} {tokens : List T} {mid to : ℕ} → Refuses kind a tokens mid to → Refuses kind (with_tokens a) tokens mid to
   with_tokens_refuses {X = X} {a = a} p = record {

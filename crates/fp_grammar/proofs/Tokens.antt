@@ -1,5 +1,5 @@
 -- The rest of the tokens from a position on.
-use Rattle.std.proofs.Common.{◌≡◌, ℕ, zero, suc, ◌+◌, Some, None, List, [], ◌∷◌, drop, length, refl, arith, add-one}
+use Rattle.std.proofs.Common.{◌≡◌, ℕ, zero, suc, ◌+◌, Some, None, List, [], ◌∷◌, drop, length, refl, arith, add-one, sym, ◌∙◌, ap, ◌++◌, take}
 use Rattle.std.specs.Prelude.{slice_get}
 
 pub rest_at : {T : Type 0} (tokens : List T) (from : ℕ) (t : T) → slice_get tokens from ≡ Some t → drop from tokens ≡ t ∷ drop (from + 1) tokens
@@ -29,3 +29,11 @@ read_at [] zero t s e = cc
 read_at [] (suc from) t s e = cc
 read_at (x ∷ xs) zero t s e = cc
 read_at (x ∷ xs) (suc from) t s e = read_at xs from t s e
+
+-- a front is what is taken by its length
+pub taken : {T : Type 0} (tokens w : List T) (n : ℕ) (rest : List T) → tokens ≡ w ++ rest → n ≡ length w → w ≡ take n tokens
+taken {T = T} tokens w n rest e f = sym (ap (λ m. take m tokens) f ∙ ap (λ l. take (length w) l) e ∙ front w rest)
+  where
+    front : (w rest : List T) → take (length w) (w ++ rest) ≡ w
+    front [] rest = refl
+    front (t ∷ w) rest = ap (λ l. t ∷ l) (front w rest)

@@ -10,6 +10,7 @@ struct Bytes;
 
 impl Predictive for Bytes {
     type Token = u8;
+
     type Node = (u8, Row<u8>);
 
     ghost kind = { λ byte. byte };

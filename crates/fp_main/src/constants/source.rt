@@ -3,6 +3,8 @@ ghost use Rattle.fp_lexer.specs.declared.token.Token.{Token};
 ghost use Rattle.fp_base.specs.declared.place.Place.{Place};
 ghost use Rattle.fp_base.specs.declared.rule.Rule.TheVariants.{UnexpectedToken};
 ghost use Rattle.fp_grammar.specs.Grammar.{Spells};
+ghost use Rattle.fp_grammar.specs.Longest.{IsLongestViable};
+ghost use Rattle.fp_grammar.specs.Broken.{IsBroken};
 ghost use Rattle.fp_grammar.specs.Parses.{Parses};
 ghost use Rattle.fp_main.specs.declared.constants.tree.Unit.{Unit as Source};
 ghost use Rattle.fp_main.specs.constants.Kinds.{kind};
@@ -105,9 +107,11 @@ pub fn one_unit()
     ensures { (tokens : List Token) (x y : Source) → Spells kind Language.unit tokens x → Spells kind Language.unit tokens y → x ≡ y }
 {}
 
-/// A token list breaks the rule at one place exactly where it spells no unit, and else nowhere.
+/// A token list breaks the rule at one place exactly where it spells no unit, and else nowhere. What stands before that place is
+/// the longest of its prefixes that some list of constants begins with.
 pub fn one_refusal()
     ensures one { (tokens : List Token) (place other : Place) → BrokenG1 tokens place → BrokenG1 tokens other → place ≡ other }
     ensures none { (tokens : List Token) (place : Place) (source : Source) → BrokenG1 tokens place → Spells kind Language.unit tokens source → ⊥ }
+    ensures longest { (tokens before rest : List Token) → IsBroken kind Language.unit tokens before rest → IsLongestViable kind Language.unit tokens before }
     ensures some { (tokens : List Token) → ((source : Source) × Spells kind Language.unit tokens source) ⊎ ((place : Place) × BrokenG1 tokens place) }
 {}

@@ -9,3 +9,6 @@ returns-clause-none c = not_spelled
 
 pub returns-clause-some : goal.returns-clause-some
 returns-clause-some c = spelled_or_refused
+
+pub returns-clause-longest : goal.returns-clause-longest
+returns-clause-longest c = λ tokens before rest b. broken_longest b
