@@ -1,4 +1,5 @@
 use Rattle.fp_main.proofs.ConstantsBroken.{one_place, not_spelled, spelled_or_refused}
+use Rattle.fp_grammar.proofs.BrokenLemmas.{broken_longest}
 use Rattle.fp_main.proofs.constants.source.one_refusal.Goals as goal
 
 pub returns-clause-one : goal.returns-clause-one
