@@ -4,11 +4,13 @@
 mod answer;
 mod constants;
 mod deliver;
+mod laws;
 mod lines;
 mod listing;
 mod serving;
 mod status;
 mod words;
 
+pub use laws::{one_listing, one_meaning, worked_lines};
 pub use serving::serve;
 pub use status::Status;

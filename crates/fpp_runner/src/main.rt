@@ -13,11 +13,15 @@ fn words<R: Env + AllocGlobal>(rt: &R) -> io::Result<Vec<String>> {
     Ok(env::args(rt)?.skip(1).collect(rt.alloc())?)
 }
 
-/// The status where the words can't be had: one isn't UTF-8, or there is no memory for them.
-fn status_without_words(error: &io::Error) -> Status {
-    match error.kind() {
-        ErrorKind::OutOfMemory => Status::NoMemory,
-        _ => Status::Usage,
+/// Says why the words can't be had: one isn't UTF-8, or there is no memory for them.
+fn refuse_words(rt: &impl Eprint, error: &io::Error) -> Status {
+    let (status, line) = match error.kind() {
+        ErrorKind::OutOfMemory => (Status::NoMemory, "fpp: no memory"),
+        _ => (Status::Usage, "fpp: a word is not UTF-8"),
+    };
+    match rt.eprintln(line) {
+        Ok(()) => status,
+        Err(_) => Status::WriteFault,
     }
 }
 
@@ -32,7 +36,7 @@ fn main(rt: HostRuntime) -> ExitCode {
             &mut HostSink::new(rt.stderr()),
             &OpenGate,
         ),
-        Err(error) => status_without_words(&error),
+        Err(error) => refuse_words(&rt, &error),
     };
     ExitCode::from(status.code())
 }

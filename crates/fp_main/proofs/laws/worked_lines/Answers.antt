@@ -1,0 +1,15 @@
+use Rattle.std.proofs.Common.{refl}
+use Rattle.std.specs.Fmt.{digits}
+use Rattle.fp_main.proofs.laws.worked_lines.Goals as goal
+
+pub returns-clause-listing : goal.returns-clause-listing
+unfolding digits
+returns-clause-listing c at = refl
+
+pub returns-clause-refusal : goal.returns-clause-refusal
+unfolding digits
+returns-clause-refusal c = refl
+
+pub returns-clause-usage : goal.returns-clause-usage
+unfolding digits
+returns-clause-usage c = refl
