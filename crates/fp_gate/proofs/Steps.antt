@@ -15,7 +15,7 @@ use Rattle.fp_gate.specs.declared.view.View.{View}
 use Rattle.fp_gate.specs.Entries.{entries_of}
 use Rattle.fp_gate.specs.Views.{spent, has_ticket}
 use Rattle.fp_gate.specs.Rule.{Ruled}
-use Rattle.fp_gate.specs.Steps.{Known, drew, looked, begun, Meets, ended, advanced}
+use Rattle.fp_gate.specs.Steps.{Known, drew, looked, begun, Meets, Waits, HasTurn, ended, advanced}
 use Rattle.fp_gate.specs.Passes.{MayLeave, Ends}
 use Rattle.fp_gate.proofs.Entries.{entries-append, AllBy, none_by, one_by, own_one, same_entries}
 use Rattle.fp_gate.proofs.Views.{at_less, waiting-set, waiting-le, lives, is_named, still_spent, each_set, apart_set, turn_set, kept_set, only_set}
@@ -231,24 +231,15 @@ module _ {T N I : Type 0} (name : T → N) (history : T → List (Entry I)) wher
         (λ y e. let first : Some x ≡ Some y = ap (held_or (Some x)) e in let same_value : x ≡ y = cc in (ap (λ (z : T). (ended history v z, [])) same_value, ap (entries_of v.number) due.1 ∙ (ap (λ (k : ℕ). entries_of k r.h) mine.1 ∙ ok.left live))),
       )
 
-  -- what the seat has, once its turn has begun: v is the view before the ticket k was drawn
-  abbrev pub Got : View N I → ℕ → Known T N I → Type 0
-  Got v k me = (x : T) × (me ≡ (begun history (record v { ticket = Some k }) x, (0, Some x) ∷ [])) × Meets name history v x
+  pub after_hit : (m m' : Known T N I) (slots ticket found : ℕ) → Waits ticket m → looked name history (step slots 1 0 0 none) m found m' → found ≡ ticket → HasTurn name history m m'
+  after_hit m m' slots ticket found w told hit =
+      let t = (told w.0.0 w.0.1).0 (hit ∙ w.0.2) in (t.0, t.1 ∙ ap (λ (cs : List (ℕ × Option T)). (begun history m.0 t.0, (0, Some t.0) ∷ cs)) w.2, t.2)
 
-  pub after_look : (v : View N I) (slots k found : ℕ) (me me' : Known T N I) → me ≡ (record v { ticket = Some k }, []) → looked name history (step slots 1 0 0 none) me found me' → found ≡ k % 2 ^ 64 → Got v k me'
-  after_look v slots k found me me' is told hit = (subst (λ (m : Known T N I). looked name history (step slots 1 0 0 none) m found me') is told k refl).0 hit
+  pub after_miss : (m m' : Known T N I) (slots ticket found : ℕ) → Waits ticket m → looked name history (step slots 1 0 0 none) m found m' → found ≢ ticket → m' ≡ m
+  after_miss m m' slots ticket found w told miss = (told w.0.0 w.0.1).1 (λ e. miss (e ∙ sym w.0.2))
 
-  pub after_miss : (v : View N I) (slots k found : ℕ) (me me' : Known T N I) → me ≡ (record v { ticket = Some k }, []) → looked name history (step slots 1 0 0 none) me found me' → found ≢ k % 2 ^ 64 → me' ≡ (record v { ticket = Some k }, [])
-  after_miss v slots k found me me' is told miss = (subst (λ (m : Known T N I). looked name history (step slots 1 0 0 none) m found me') is told k refl).1 miss
-
-  pub holds_it : (v : View N I) (k : ℕ) (me : Known T N I) → Got v k me → (y : Option T) × (me.1 ≡ (0, y) ∷ rest me.1)
-  holds_it v k me got = let e : me.1 ≡ (0, Some got.0) ∷ [] = ap (λ (m : Known T N I). m.1) got.1 in (Some got.0, e ∙ ap (λ (cs : List (ℕ × Option T)). (0, Some got.0) ∷ rest cs) (sym e))
-
-  -- what the seat has, once the value is out of the slot
-  pub after_take : (v : View N I) (k : ℕ) (me me' : Known T N I) (y : Option T) → Got v k me → me.1 ≡ (0, y) ∷ rest me.1 → me' ≡ (me.0, (0, None) ∷ rest me.1)
-      → (x : T) × (y ≡ Some x) × Meets name history v x × (me' ≡ (begun history (record v { ticket = Some k }) x, (0, None) ∷ []))
-  after_take v k me me' y got is now = let e : me.1 ≡ (0, Some got.0) ∷ [] = ap (λ (m : Known T N I). m.1) got.1 in
-      (got.0, ap (held_or y) (sym is ∙ e), got.2, now ∙ ap (λ (m : Known T N I). (m.0, (0, None) ∷ rest m.1)) got.1)
+  pub holds_it : (m m' : Known T N I) → HasTurn name history m m' → (y : Option T) × (m'.1 ≡ (0, y) ∷ rest m'.1)
+  holds_it m m' got = let e : m'.1 ≡ (0, Some got.0) ∷ [] = ap (λ (z : Known T N I). z.1) got.1 in (Some got.0, e ∙ ap (λ (cs : List (ℕ × Option T)). (0, Some got.0) ∷ rest cs) (sym e))
 
   -- what the history has got in a turn
   abbrev Tail : View N I → List (Entry I) → Type 0

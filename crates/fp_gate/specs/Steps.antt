@@ -30,6 +30,14 @@ module _ {T N I : Type 0} where
   looked name history st m found m' = (k : ℕ) → m.0.ticket ≡ Some k
       → (found ≡ k % 2 ^ 64 → (x : T) × (m' ≡ (begun history m.0 x, (0, Some x) ∷ m.1)) × Meets name history m.0 x) × (found ≢ k % 2 ^ 64 → m' ≡ m)
 
+  -- the seat has a ticket of which this is the last 64 bits, and waits for its turn
+  abbrev pub Waits : ℕ → Known T N I → Type 0
+  Waits ticket m = ((k : ℕ) × (m.0.ticket ≡ Some k) × (ticket ≡ k % 2 ^ 64)) × (m.0.in_turn ≡ false) × (m.1 ≡ [])
+
+  -- the turn of the seat has begun, and it has the slot with the value
+  abbrev pub HasTurn : (T → N) → (T → List (Entry I)) → Known T N I → Known T N I → Type 0
+  HasTurn name history m m' = (x : T) × (m' ≡ (begun history m.0 x, (0, Some x) ∷ [])) × Meets name history m.0 x
+
   -- the view after the turn, where the pass leaves the value x
   abbrev pub ended : (T → List (Entry I)) → View N I → T → View N I
   ended history v x = record v { left = entries_of v.number (history x); ticket = None; in_turn = false }

@@ -1,10 +1,11 @@
-ghost use Rattle.std.specs.Prelude.{◌≡◌, ◌≢◌, ◌+◌, ◌-◌, ◌%◌, ◌^◌, ◌<◌, [], ◌∷◌, length, Some, None, IsOk, IfOk, IfErr};
+ghost use Rattle.std.specs.Prelude.{◌≡◌, ◌≢◌, ◌+◌, ◌-◌, ◌%◌, ◌^◌, ◌<◌, [], ◌∷◌, length, Some, None, IsOk, IfOk, IfErr, MatchBool};
 
 use crate::booked::Booked;
 use crate::rule::{Advance, Board, Cut, Draw, Glue, Look, Place};
 use atomic_table::Table;
 use fp_base::{NoMemory, Row};
 use std::alloc::Global;
+use std::hint::spin_loop;
 use std::snapshot::Snapshot;
 use std::sync::Wait;
 use std::thread::yield_now;
@@ -12,6 +13,9 @@ use std::thread::yield_now;
 const TICKET: usize = 0;
 
 const SERVING: usize = 1;
+
+// A turn that ends within so many looks isn't worth giving up the processor.
+const LOOKS: u32 = 100;
 
 /// A value that its passes enter one at a time.
 #[derive(Drop)]
@@ -51,7 +55,7 @@ impl<T: Booked> Pass<T> {
 
 impl<T: Booked + Drop> TicketLock<T> {
     ghost use Rattle.fp_gate.specs.Views.{new_view};
-    ghost use Rattle.fp_gate.specs.Steps.{Meets, made_one, newcomer};
+    ghost use Rattle.fp_gate.specs.Steps.{Meets, Waits, HasTurn, made_one, newcomer};
     ghost use Rattle.fp_gate.specs.Passes.{view, IsSamePass, IsIdle, HasEntered, Begins, MayLeave, Ends, EachAt, IsPass, IsNew, Closes};
 
     // The lock, with its first pass.
@@ -103,6 +107,23 @@ impl<T: Booked + Drop> TicketLock<T> {
         Ok((lock, Row::from_vec(passes)))
     }
 
+    // Looks a few times, and says whether the turn of this pass has begun.
+    fn is_served(&self, pass: &mut Pass<T>, ticket: u64) -> bool
+        requires gave { pass.old.seat.table_id ≡ self.now.board.shared.table_id }
+        requires waits { Waits ticket pass.old.seat.me }
+        ensures table { pass.new.seat.table_id ≡ pass.old.seat.table_id }
+        ensures turn { MatchBool result (HasTurn T.name T.history pass.old.seat.me pass.new.seat.me) (pass.new.seat.me ≡ pass.old.seat.me) }
+    {
+        for _ in 0..LOOKS {
+            let serving = self.board.shared.load::<Look>(&mut pass.seat, SERVING);
+            if serving == ticket {
+                return true;
+            }
+            spin_loop();
+        }
+        false
+    }
+
     /// Waits for this pass's turn, and gives the value. It takes no memory.
     pub fn enter<R: Wait>(&self, rt: &R, pass: &mut Pass<T>) -> T
         requires gave { pass.old.seat.table_id ≡ self.now.board.shared.table_id }
@@ -115,8 +136,7 @@ impl<T: Booked + Drop> TicketLock<T> {
         let shared = &self.board.shared;
         let ticket = shared.fetch_add::<Draw>(&mut pass.seat, TICKET, 1);
         for _ in rt.forever() {
-            let serving = shared.load::<Look>(&mut pass.seat, SERVING);
-            if serving == ticket {
+            if self.is_served(pass, ticket) {
                 return shared.exchange(&mut pass.seat, 0, None).unwrap();
             }
             yield_now();

@@ -1,0 +1,35 @@
+use crate::blank::Blank;
+use std::alloc::Global;
+use std::rt::Clock;
+use std::sync::{Mutex, Wait};
+use std::thread;
+use std::thread::Threads;
+use std::time::Instant;
+
+const MOST: usize = 16;
+
+/// How many nanoseconds so many threads take for so many turns each.
+pub fn time<R: Threads + Wait + Clock + Sync>(
+    rt: &R,
+    alloc: Global,
+    threads: u32,
+    turns: u32,
+) -> anyhow::Result<u128> {
+    let mutex = Mutex::new(Blank);
+    let mut places = vec![in alloc; (); threads as usize]?;
+    let start = Instant::now(rt)?;
+    thread::for_each_mut(
+        rt,
+        places.as_mut_slice(),
+        MOST,
+        &|_, _| cross(rt, &mutex, turns),
+    );
+    Ok(start.elapsed(rt)?.as_nanos())
+}
+
+fn cross<R: Wait>(rt: &R, mutex: &Mutex<Blank>, turns: u32) {
+    for _ in 0..turns {
+        let held = mutex.lock(rt);
+        drop(held);
+    }
+}
