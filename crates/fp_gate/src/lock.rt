@@ -14,7 +14,7 @@ const TICKET: usize = 0;
 
 const SERVING: usize = 1;
 
-// A turn that ends within so many looks isn't worth giving up the processor.
+// The next in line looks so often before it gives up the processor, since a turn is often shorter than that costs.
 const LOOKS: u32 = 100;
 
 /// A value that its passes enter one at a time.
@@ -107,7 +107,7 @@ impl<T: Booked + Drop> TicketLock<T> {
         Ok((lock, Row::from_vec(passes)))
     }
 
-    // Looks a few times, and says whether the turn of this pass has begun.
+    // Looks once, or a few times where this pass is the next, and says whether its turn has begun.
     fn is_served(&self, pass: &mut Pass<T>, ticket: u64) -> bool
         requires gave { pass.old.seat.table_id ≡ self.now.board.shared.table_id }
         requires waits { Waits ticket pass.old.seat.me }
@@ -118,6 +118,9 @@ impl<T: Booked + Drop> TicketLock<T> {
             let serving = self.board.shared.load::<Look>(&mut pass.seat, SERVING);
             if serving == ticket {
                 return true;
+            }
+            if ticket.wrapping_sub(serving) > 1 {
+                return false;
             }
             spin_loop();
         }

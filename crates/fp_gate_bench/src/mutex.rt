@@ -1,4 +1,5 @@
 use crate::blank::Blank;
+use crate::start::Start;
 use std::alloc::Global;
 use std::rt::Clock;
 use std::sync::{Mutex, Wait};
@@ -17,17 +18,19 @@ pub fn time<R: Threads + Wait + Clock + Sync>(
 ) -> anyhow::Result<u128> {
     let mutex = Mutex::new(Blank);
     let mut places = vec![in alloc; (); threads as usize]?;
-    let start = Instant::now(rt)?;
+    let start = Start::new(threads);
+    let began = Instant::now(rt)?;
     thread::for_each_mut(
         rt,
         places.as_mut_slice(),
         MOST,
-        &|_, _| cross(rt, &mutex, turns),
+        &|_, _| cross(rt, &mutex, &start, turns),
     );
-    Ok(start.elapsed(rt)?.as_nanos())
+    Ok(began.elapsed(rt)?.as_nanos())
 }
 
-fn cross<R: Wait>(rt: &R, mutex: &Mutex<Blank>, turns: u32) {
+fn cross<R: Wait>(rt: &R, mutex: &Mutex<Blank>, start: &Start, turns: u32) {
+    start.wait();
     for _ in 0..turns {
         let held = mutex.lock(rt);
         drop(held);
