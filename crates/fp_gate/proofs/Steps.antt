@@ -1,5 +1,5 @@
 -- Each step on a word keeps the rule, and what a caller knows after it.
-use Rattle.std.proofs.Common.{◌≡◌, ◌≢◌, ℕ, zero, suc, ◌+◌, ◌%◌, ◌^◌, ◌<◌, ◌≤◌, Bool, true, false, List, [], ◌∷◌, ◌++◌, length, get_or, set, sym, refl, ap, ◌∙◌, subst, ⊎_elim, inl, inr, arith, Option, Some, None, length-set, append-nil}
+use Rattle.std.proofs.Common.{◌≡◌, ◌≢◌, ℕ, ◌+◌, ◌%◌, ◌^◌, ◌≤◌, true, false, List, [], ◌∷◌, ◌++◌, length, get_or, set, sym, refl, ap, ◌∙◌, subst, ⊎_elim, inl, inr, arith, Option, Some, None, length-set, append-nil}
 use Rattle.std.proofs.Math.Nat.{mod-add-mod}
 use Rattle.std.proofs.lemmas.List.{set-get_or}
 use mathlib.Core.Option.{none, some, some-injective}
@@ -15,7 +15,7 @@ use Rattle.fp_gate.specs.declared.view.View.{View}
 use Rattle.fp_gate.specs.Entries.{entries_of}
 use Rattle.fp_gate.specs.Views.{spent, has_ticket}
 use Rattle.fp_gate.specs.Rule.{Ruled}
-use Rattle.fp_gate.specs.Steps.{Known, drew, looked, begun, Meets, Waits, HasTurn, ended, advanced}
+use Rattle.fp_gate.specs.Steps.{Known, drew, looked, begun, Waits, HasTurn, ended, advanced}
 use Rattle.fp_gate.specs.Passes.{MayLeave, Ends}
 use Rattle.fp_gate.proofs.Entries.{entries-append, AllBy, none_by, one_by, own_one, same_entries}
 use Rattle.fp_gate.proofs.Views.{at_less, waiting-set, waiting-le, lives, is_named, still_spent, each_set, apart_set, turn_set, kept_set, only_set}

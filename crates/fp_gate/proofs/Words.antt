@@ -1,5 +1,5 @@
 -- The distances of the tickets out, from the rule's unbounded counts.
-use Rattle.std.proofs.Common.{◌≡◌, ℕ, ◌+◌, ◌-◌, ◌*◌, ◌/◌, ◌%◌, ◌^◌, ◌<◌, ◌≤◌, List, get_or, sym, ap, ◌∙◌, arith, Some, Option, div-add-mod'}
+use Rattle.std.proofs.Common.{◌≡◌, ℕ, ◌+◌, ◌-◌, ◌*◌, ◌/◌, ◌%◌, ◌^◌, ◌<◌, ◌≤◌, List, get_or, sym, ap, ◌∙◌, arith, Some, Option, true, div-add-mod'}
 use Rattle.std.proofs.Math.Nat.{mod-add-mod, mod-mod, add-mul-mod_self_right}
 use mathlib.Core.Option.{some}
 use native.Mathlib.Decide.{dec_le}
@@ -61,5 +61,8 @@ module _ {T N I : Type 0} (name : T → N) (history : T → List (Entry I)) (n :
       let q = r.out i k v at has in let p = r.out j l w at' has' in let e : k ≡ l = omega (arith, far i k v at has, far j l w at' has', same, q.0, p.0) in
       r.apart i j l v w at at' (has ∙ ap Some e) has'
 
+  served : (j : ℕ) (v : View N I) → get_elem? s.views j ≡ some v → v.in_turn ≡ true → (k : ℕ) × (v.ticket ≡ Some k) × (k % 2 ^ 64 ≡ serving s)
+  served j v at on = (r.served, r.turn j v at on, sym is_serving)
+
 pub counts_modulo : {T N I : Type 0} (name : T → N) (history : T → List (Entry I)) → CountsModulo name history
-counts_modulo name history n s r = (counted name history n s r, below name history n s r, differ name history n s r)
+counts_modulo name history n s r = (counted name history n s r, below name history n s r, differ name history n s r, served name history n s r)

@@ -172,23 +172,11 @@ impl<T: Booked + Drop> TicketLock<T> {
         ensures untouched { IfErr result (λ back. (back.lock ≡ self) × (back.passes ≡ passes)) }
     {
         let mut passes = passes;
-        let TicketLock { board, seats: _ } = self;
-        let Some(
-            Pass {
-                seat: mut all,
-                number: _,
-            },
-        ) = passes.pop()
-        else {
+        let TicketLock { board, .. } = self;
+        let Some(Pass { seat: mut all, .. }) = passes.pop() else {
             unreachable!()
         };
-        while let Some(
-            Pass {
-                mut seat,
-                number: _,
-            },
-        ) = passes.pop()
-        {
+        while let Some(Pass { mut seat, .. }) = passes.pop() {
             board.shared.join_seat::<Glue>(&mut seat, all);
             all = seat;
         }

@@ -1,5 +1,5 @@
-use Rattle.std.proofs.Common.{rules, ap, ◌∙◌, sym, subst}
-use Rattle.fp_gate.proofs.Steps.{looks, after_hit, after_miss}
+use Rattle.std.proofs.Common.{rules, ap, ◌∙◌}
+use Rattle.fp_gate.proofs.Steps.{looks}
 use Rattle.fp_gate.proofs.lock.TicketLock.is_served.Goals as goal
 
 pub load-serving-requires : goal.load-serving-requires
