@@ -12,9 +12,11 @@ use Rattle.fp_gate.specs.Views.{spent, waiting, Keeps, IsKeptOnce}
 
 module _ {T N I : Type 0} (name : T → N) (history : T → List (Entry I)) where
   pub record Ruled (one_name : N) (s : State (Option T) (View N I)) : Type 0 where
-    -- the history that the passes share, how many turns have ended, and how many tickets were drawn, in all and without end
+    -- the history that the passes share
     pub past : List (Entry I)
+    -- how many turns have ended, counted without end
     pub served : ℕ
+    -- how many tickets were drawn, counted without end
     pub drawn : ℕ
     -- the word 0 is the number of tickets drawn, and the word 1 the number of turns ended, both modulo 2 ^ 64
     pub words : s.words ≡ drawn % 2 ^ 64 ∷ served % 2 ^ 64 ∷ []

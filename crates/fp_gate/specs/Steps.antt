@@ -59,6 +59,6 @@ module _ {N I : Type 0} where
   abbrev pub own : View N I → Kept N I
   own v = record { name = v.name; number = v.number; left = v.left }
 
-  -- join: the first view keeps the lists of both
+  -- join: the one view keeps the lists of both
   abbrev pub both : View N I → View N I → View N I
   both v w = record v { others = own w ∷ (w.others ++ v.others) }
