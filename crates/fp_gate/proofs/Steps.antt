@@ -15,7 +15,7 @@ use Rattle.fp_gate.specs.declared.view.View.{View}
 use Rattle.fp_gate.specs.Entries.{entries_of}
 use Rattle.fp_gate.specs.Views.{spent, has_ticket}
 use Rattle.fp_gate.specs.Rule.{Ruled}
-use Rattle.fp_gate.specs.Steps.{Known, drew, looked, begun, Waits, HasTurn, ended, advanced}
+use Rattle.fp_gate.specs.Steps.{Known, drew, looked, begun, HasTurn, ended, advanced}
 use Rattle.fp_gate.specs.Passes.{MayLeave, Ends}
 use Rattle.fp_gate.proofs.Entries.{entries-append, AllBy, none_by, one_by, own_one, same_entries}
 use Rattle.fp_gate.proofs.Views.{at_less, waiting-set, waiting-le, lives, is_named, still_spent, each_set, apart_set, turn_set, kept_set, only_set}
@@ -98,9 +98,6 @@ module _ {T N I : Type 0} (name : T → N) (history : T → List (Entry I)) wher
 
       Goes : Type 0
       Goes = (w : View N I) × (a : Act (Option T)) × Valid s.homes me.1 a × Rule n (stepped s 1 (get_or s.words 1 0) id me.1 w a) × looked name history (step slots 1 0 0 none) me (get_or s.words 1 0) (w, carried_after me.1 a)
-
-      served_le : r.served ≤ r.drawn
-      served_le = omega (arith, r.count)
 
       near : r.drawn ≤ r.served + 2 ^ 32
       near = omega (arith, r.count, waiting-le s.views, r.few)
@@ -230,13 +227,6 @@ module _ {T N I : Type 0} (name : T → N) (history : T → List (Entry I)) wher
         },
         (λ y e. let first : Some x ≡ Some y = ap (held_or (Some x)) e in let same_value : x ≡ y = cc in (ap (λ (z : T). (ended history v z, [])) same_value, ap (entries_of v.number) due.1 ∙ (ap (λ (k : ℕ). entries_of k r.h) mine.1 ∙ ok.left live))),
       )
-
-  pub after_hit : (m m' : Known T N I) (slots ticket found : ℕ) → Waits ticket m → looked name history (step slots 1 0 0 none) m found m' → found ≡ ticket → HasTurn name history m m'
-  after_hit m m' slots ticket found w told hit =
-      let t = (told w.0.0 w.0.1).0 (hit ∙ w.0.2) in (t.0, t.1 ∙ ap (λ (cs : List (ℕ × Option T)). (begun history m.0 t.0, (0, Some t.0) ∷ cs)) w.2, t.2)
-
-  pub after_miss : (m m' : Known T N I) (slots ticket found : ℕ) → Waits ticket m → looked name history (step slots 1 0 0 none) m found m' → found ≢ ticket → m' ≡ m
-  after_miss m m' slots ticket found w told miss = (told w.0.0 w.0.1).1 (λ e. miss (e ∙ sym w.0.2))
 
   pub holds_it : (m m' : Known T N I) → HasTurn name history m m' → (y : Option T) × (m'.1 ≡ (0, y) ∷ rest m'.1)
   holds_it m m' got = let e : m'.1 ≡ (0, Some got.0) ∷ [] = ap (λ (z : Known T N I). z.1) got.1 in (Some got.0, e ∙ ap (λ (cs : List (ℕ × Option T)). (0, Some got.0) ∷ rest cs) (sym e))
