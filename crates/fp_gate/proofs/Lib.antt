@@ -1,0 +1,7 @@
+mod Entries
+mod Views
+mod Working
+mod Steps
+mod Ends
+mod Passes
+mod Words
