@@ -7,6 +7,9 @@ use Rattle.std.specs.List.Sorted.{IsSorted, IsBinarySearchResult}
 use Rattle.std.specs.Ordering.{int_cmp, is_lt, MatchOrdering}
 use Rattle.std.specs.Result.{MatchResult}
 use Rattle.std.specs.declared.cmp.Ordering.TheVariants.{Less, Equal, Greater}
+use Rattle.std.proofs.Common.{Option, Some, None, IsSome, IfSome, is_some, ◌↔◌}
+use Rattle.std.specs.Option.{option_map, option_map_or, option_and_then}
+use Rattle.std.proofs.lemmas.List.Sorted.{le_from_greatest}
 use Rattle.std.proofs.Common.{Result, Ok, Err, Ordering, IsOk, OnOk}
 use Rattle.std.proofs.lemmas.Bool.{cases_lt}
 use Rattle.std.proofs.lemmas.Int.{ints}
@@ -14,7 +17,7 @@ use Rattle.std.proofs.lemmas.Cmp.{tied_itself, int_cmp_total, int_ranked}
 use Rattle.std.proofs.lemmas.List.Sorted.{searchable_from_sorted, sorted_far, ranks_by}
 use Rattle.fp_queue.specs.Lanes.{IsRanking, IsLaid, IsReady}
 use Rattle.std.specs.VecDeque.{deque_capacity, deque_len}
-use Rattle.std.specs.BinaryHeap.{IsHeap, heap_items, heap_len, heap_capacity}
+use Rattle.std.specs.BinaryHeap.{IsHeap, IsUpperBound, PopsGreatest, heap_items, heap_len, heap_capacity}
 use Rattle.std.specs.declared.collections.BinaryHeap.{BinaryHeap}
 use Rattle.std.specs.Ordering.{nat_cmp}
 use Rattle.std.proofs.lemmas.List.{length_push}
@@ -28,9 +31,10 @@ use Rattle.std.proofs.lemmas.List.Sums.{sum_by-cons, sum_by-set, count_by-le-len
 use Rattle.std.proofs.lemmas.List.Sorted.{sum_by-IsPermutation, length_permutation, All-permutation}
 use Rattle.std.proofs.lemmas.List.Elements.{All-cons, All-tail, All-from_recursion, recursion_from_All}
 use Rattle.fp_queue.specs.declared.pending.Pending.{Pending}
-use Rattle.fp_queue.specs.Taking.{without_first}
+use Rattle.fp_queue.specs.Contents.{Contents}
+use Rattle.fp_queue.specs.Taking.{greatest_priority, first_of, without_first, taken_of, rest_of}
 use Rattle.fp_queue.specs.Lanes.{items_of, is_in_use, HoldEach, AreNoted}
-use Rattle.fp_queue.proofs.TakingLemmas.{items_of-push_own, items_of-push_other, items_left, items_kept, one_fewer, all_kept, each_some, fewer_of_one}
+use Rattle.fp_queue.proofs.TakingLemmas.{items_of-push_own, items_of-push_other, items_left, items_kept, one_fewer, all_kept, each_some, fewer_of_one, first_of_is, greatest_is}
 
 abbrev one_if : Bool → ℕ
 one_if b = cond b 1 0
@@ -329,3 +333,117 @@ known_rank mine own ranks shown k x ranking is show e h = subst (Contains shown)
 pub at_ok : {T E : Type 0} (r : Result T E) (P : Type 0) → IsOk r → OnOk r P → P
 at_ok (Ok x) P h p = p
 at_ok (Err e) P h p = absurd (false≢true h)
+
+-- the number that a heap's pop gives is the one that was seen at its top
+pub popped : (r : Option ℕ) (noted now : List ℕ) (at : ℕ) → IsSome r → IfSome r (λ x. x ≡ get_or noted 0 x) → at ≡ get_or noted 0 at → 0 < length noted → IfSome r (λ x. IsPermutation noted (x ∷ now)) → IsPermutation noted (at ∷ now)
+popped None noted now at h top is some moved = absurd (false≢true h)
+popped (Some x) noted now at h top is some moved =
+    subst (λ n. IsPermutation noted (n ∷ now)) (top ∙ get_or_default noted 0 x at some ∙ sym is) moved
+
+pub still_heap : (r : Option ℕ) (noted now : List ℕ) → IsSome r → IfSome r (λ x. PopsGreatest nat_cmp noted x now) → IsHeap nat_cmp noted → IsHeap nat_cmp now
+still_heap None noted now h pops heap = absurd (false≢true h)
+still_heap (Some x) noted now h pops heap = (pops heap).0
+
+pub nothing_seen : {A : Type 0} (r : Option A) (n : ℕ) → r ≡ None → (IsSome r ↔ (0 < n)) → n ≡ 0
+nothing_seen r zero e h = refl
+nothing_seen r (suc n) e h = absurd (false≢true (subst (λ s. is_some s ≡ true) e (h.1 (omega arith))))
+
+pub something_seen : {A : Type 0} (r : Option A) (x : A) (n : ℕ) → r ≡ Some x → (IsSome r ↔ (0 < n)) → 0 < n
+something_seen r x n e h = h.0 (ap is_some e)
+
+no_items : {A : Type 0} (xs : List A) → length xs ≡ 0 → xs ≡ []
+no_items [] h = refl
+no_items (x ∷ xs) h = absurd (omega arith)
+
+module _ {M : Type 0} where
+  -- where nothing waits, a queue stays as it is
+  pub rest_of_none : (q : Contents M) → q.pending ≡ [] → q ≡ record q { pending = rest_of q.pending }
+  rest_of_none q e = ap (λ (ps : List (Pending M)). record q { pending = ps }) (e ∙ ap rest_of (sym e))
+
+module _ {M : Type 0} (size len : ℕ) (priorities ranks : List ℤ) (lanes : List (VecDeque M Global)) (noted : BinaryHeap ℕ Global) (pending : List (Pending M)) (ready : IsReady size len priorities ranks lanes noted pending) where
+  pub nothing_waits : heap_len noted ≡ 0 → pending ≡ []
+  nothing_waits e =
+      let own = noted.data.ok.0 in
+      none_waits size ranks lanes pending (subst (λ ns. IsLaid size ranks lanes ns pending) (no_items (heap_items noted) (omega arith)) ready.laid)
+
+  -- the lane at the heap's top
+  module _ (at : ℕ) (some : 0 < heap_len noted) (is : at ≡ get_or (heap_items noted) 0 at) where
+    some_noted : 0 < length (heap_items noted)
+    some_noted = let own = noted.data.ok.0 in omega arith
+
+    pub top_within : (at < length lanes)
+    top_within = subst (λ n. n < length lanes) (sym is) (ready.laid.notes.within 0 at some_noted)
+
+    pub top_not_empty : (lane : VecDeque M Global) → lane ≡ get_or lanes at lane → 0 < deque_len lane
+    top_not_empty lane read =
+        let own = lane.ok.0 in
+        let u = (top_in_use lanes (heap_items noted) at lane ready.laid.notes some_noted is).1 in
+        let e : length lane.items ≡ length (get_or lanes at lane).items = ap (λ (v : VecDeque M Global). length v.items) read in omega arith
+
+    module _ (heap : IsHeap nat_cmp (heap_items noted) → IsUpperBound nat_cmp at (heap_items noted)) (lane : VecDeque M Global) (read : lane ≡ get_or lanes at lane) where
+      abbrev rank : ℤ
+      rank = get_or ranks at (pos 0)
+
+      lane_items : lane.items ≡ items_of rank pending
+      lane_items = ap (λ (v : VecDeque M Global). v.items) read ∙ (ready.laid.each at lane top_within).0
+
+      some_items : 0 < length (items_of rank pending)
+      some_items = let e : length lane.items ≡ length (items_of rank pending) = ap length lane_items in let n = top_not_empty lane read in let own = lane.ok.0 in omega arith
+
+      top_rank : greatest_priority pending ≡ Some rank
+      top_rank =
+          greatest_is rank pending
+          (bounded_by_top size ranks lanes (heap_items noted) pending at lane ready.ranking.ascending ready.laid top_within (le_from_greatest at (heap_items noted) (heap ready.ordered)))
+          some_items
+
+      -- the item that leaves the lane is the one that is taken
+      pub taken_item : (x : M) (xs : List M) → lane.items ≡ x ∷ xs → option_map (λ p. p.item) (taken_of pending) ≡ Some x
+      taken_item x xs e =
+          ap (λ g. option_map (λ p. p.item) (option_and_then (λ k. first_of k pending) g)) top_rank
+          ∙ first_of_is rank pending x xs (sym lane_items ∙ e)
+
+      -- after a take, where what is noted is right
+      take_ready : (now : BinaryHeap ℕ Global) (pending' : List (Pending M)) (lane' : VecDeque M Global)
+          → lane'.items ≡ drop 1 lane.items → deque_capacity lane' ≡ deque_capacity lane → pending' ≡ rest_of pending
+          → AreNoted (set lanes at lane') (heap_items now) → IsHeap nat_cmp (heap_items now) → heap_capacity now ≡ heap_capacity noted
+          → IsReady size (len - 1) priorities ranks (set lanes at lane') now pending'
+      take_ready now pending' lane' items cap less notes ordered room =
+          subst (λ ps. IsReady size (len - 1) priorities ranks (set lanes at lane') now ps)
+          (sym (less ∙ ap (λ g. option_map_or (λ k. without_first k pending) g pending) top_rank)) (record {
+            counted = let e = one_fewer rank pending some_items in let c = ready.counted in omega arith;
+            ranking = ready.ranking;
+            laid = record {
+              short = let e = one_fewer rank pending some_items in let s = ready.laid.short in omega arith;
+              level = length-set lanes at lane' ∙ ready.laid.level;
+              each = hold_take size ranks lanes pending at lane lane' ready.laid.each ready.laid.level top_within ready.ranking.apart
+                  (items ∙ ap (λ (v : VecDeque M Global). drop 1 v.items) read) (cap ∙ ap (λ (v : VecDeque M Global). deque_capacity v) read);
+              ranked = All-from_recursion (λ p. Contains ranks p.priority) (without_first rank pending)
+                  (all_kept (λ p. Contains ranks p.priority) rank pending (recursion_from_All (λ p. Contains ranks p.priority) pending ready.laid.ranked));
+              notes = notes;
+            };
+            ordered = ordered;
+            room = let e = length-set lanes at lane' in let r = ready.room in omega arith;
+          })
+
+      lane_used : 0 < length (get_or lanes at lane).items
+      lane_used = (top_in_use lanes (heap_items noted) at lane ready.laid.notes some_noted is).1
+
+      -- after a take from a lane that stays in use
+      pub take_more : (pending' : List (Pending M)) (lane' : VecDeque M Global)
+          → lane'.items ≡ drop 1 lane.items → deque_capacity lane' ≡ deque_capacity lane → pending' ≡ rest_of pending → deque_len lane' ≢ 0
+          → IsReady size (len - 1) priorities ranks (set lanes at lane') noted pending'
+      take_more pending' lane' items cap less some_left =
+          let own = lane'.ok.0 in let u = lane_used in
+          take_ready noted pending' lane' items cap less (note_kept lanes (heap_items noted) at lane lane' ready.laid.notes top_within (omega arith)) ready.ordered refl
+
+      -- after the last item of a lane was taken
+      pub take_last : (now : BinaryHeap ℕ Global) (pending' : List (Pending M)) (lane' : VecDeque M Global) (r : Option ℕ)
+          → lane'.items ≡ drop 1 lane.items → deque_capacity lane' ≡ deque_capacity lane → pending' ≡ rest_of pending → deque_len lane' ≡ 0
+          → (IsSome r ↔ (0 < heap_len noted)) → IfSome r (λ x. x ≡ get_or (heap_items noted) 0 x) → IfSome r (λ x. IsPermutation (heap_items noted) (x ∷ heap_items now))
+          → IfSome r (λ x. PopsGreatest nat_cmp (heap_items noted) x (heap_items now)) → heap_capacity now ≡ heap_capacity noted
+          → IsReady size (len - 1) priorities ranks (set lanes at lane') now pending'
+      take_last now pending' lane' r items cap less none_left variant top moved pops room =
+          let own = lane'.ok.0 in let there = variant.1 some in
+          take_ready now pending' lane' items cap less
+          (note_dropped lanes (heap_items noted) (heap_items now) at lane lane' ready.laid.notes top_within lane_used (omega arith) (popped r (heap_items noted) (heap_items now) at there top is some_noted moved))
+          (still_heap r (heap_items noted) (heap_items now) there pops ready.ordered) room

@@ -78,6 +78,24 @@ impl<M> Queue<M> {
         }
         Ok(())
     }
+
+    /// Takes the earliest of those of the greatest priority.
+    pub fn take(&mut self) -> Option<M>
+        ensures item { result ≡ option_map (λ p. p.item) (taken_of self.old.pending) }
+        ensures rest { self.new ≡ record self.old { pending = rest_of self.old.pending } }
+    {
+        let Some(&at) = self.noted.peek() else {
+            return None;
+        };
+        let lane = &mut self.lanes[at];
+        let item = lane.pop_front().unwrap();
+        self.line = Snapshot::of(&Line::without_taken(&self.line));
+        self.len -= 1;
+        if lane.is_empty() {
+            self.noted.pop();
+        }
+        Some(item)
+    }
 }
 
 // The place of a priority among the ranks.
