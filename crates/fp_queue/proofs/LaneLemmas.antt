@@ -34,7 +34,11 @@ use Rattle.fp_queue.specs.declared.pending.Pending.{Pending}
 use Rattle.fp_queue.specs.Contents.{Contents}
 use Rattle.fp_queue.specs.Taking.{greatest_priority, first_of, without_first, taken_of, rest_of}
 use Rattle.fp_queue.specs.Lanes.{items_of, is_in_use, HoldEach, AreNoted}
-use Rattle.fp_queue.proofs.TakingLemmas.{items_of-push_own, items_of-push_other, items_left, items_kept, one_fewer, all_kept, each_some, fewer_of_one, first_of_is, greatest_is}
+use Rattle.fp_queue.proofs.TakingLemmas.{items_of-push_own, items_of-push_other, items_left, items_kept, one_fewer, all_kept, each_some, fewer_of_one, first_of_is, greatest_is, differs, cases_int}
+use Rattle.std.specs.Ordering.{int_eq}
+use Rattle.std.specs.List.{AllPairs}
+use Rattle.std.proofs.lemmas.Bool.Decides.{Decides-int_eq}
+use Rattle.std.proofs.lemmas.List.Sorted.{Contains-permutation}
 
 abbrev one_if : Bool → ℕ
 one_if b = cond b 1 0
@@ -447,3 +451,92 @@ module _ {M : Type 0} (size len : ℕ) (priorities ranks : List ℤ) (lanes : Li
           take_ready now pending' lane' items cap less
           (note_dropped lanes (heap_items noted) (heap_items now) at lane lane' ready.laid.notes top_within lane_used (omega arith) (popped r (heap_items noted) (heap_items now) at there top is some_noted moved))
           (still_heap r (heap_items noted) (heap_items now) there pops ready.ordered) room
+
+-- elements that differ are each counted once at most
+count_none : (k : ℤ) (xs : List ℤ) → ((i : ℕ) (d : ℤ) → i < length xs → get_or xs i d ≢ k) → count_by (λ j. int_eq j k) xs ≡ 0
+count_none k [] h = refl
+count_none k (x ∷ xs) h =
+    let b = count_by-cons (λ j. int_eq j k) x xs in
+    let z : one_if (int_eq x k) ≡ 0 = ap one_if (differs x k (h 0 x (omega arith))) in
+    let r = count_none k xs (λ i d l. h (suc i) d (omega arith)) in omega arith
+
+count_once : (k : ℤ) (xs : List ℤ) → AllPairs (λ a b. a ≢ b) xs → count_by (λ j. int_eq j k) xs ≤ 1
+count_once k [] h = omega arith
+count_once k (x ∷ xs) h =
+    let b = count_by-cons (λ j. int_eq j k) x xs in
+    cases_int x k
+    (λ f e. let z : one_if (int_eq x k) ≡ 1 = ap one_if f in
+    let n = count_none k xs (λ i d l same. h 0 (suc i) d (omega arith) (omega arith) (e ∙ sym same)) in omega arith)
+    (λ f ne. let z : one_if (int_eq x k) ≡ 0 = ap one_if f in
+    let r = count_once k xs (λ i j d lt below. h (suc i) (suc j) d (omega arith) (omega arith)) in omega arith)
+
+count_hit : (k : ℤ) (xs : List ℤ) (i : ℕ) → i < length xs → get_or xs i (pos 0) ≡ k → 0 < count_by (λ j. int_eq j k) xs
+count_hit k [] i h e = absurd (omega arith)
+count_hit k (x ∷ xs) zero h e =
+    let b = count_by-cons (λ j. int_eq j k) x xs in let z : one_if (int_eq x k) ≡ 1 = ap one_if ((Decides-int_eq x k).1 e) in omega arith
+count_hit k (x ∷ xs) (suc i) h e = let b = count_by-cons (λ j. int_eq j k) x xs in let r = count_hit k xs i (omega arith) e in omega arith
+
+counted_apart : (xs : List ℤ) → ((k : ℤ) → count_by (λ j. int_eq j k) xs ≤ 1) → (i j : ℕ) → i < length xs → j < length xs → get_or xs i (pos 0) ≡ get_or xs j (pos 0) → i ≡ j
+counted_apart [] once i j h g e = absurd (omega arith)
+counted_apart (x ∷ xs) once zero zero h g e = refl
+counted_apart (x ∷ xs) once zero (suc j) h g e =
+    let b = count_by-cons (λ n. int_eq n x) x xs in let z : one_if (int_eq x x) ≡ 1 = ap one_if ((Decides-int_eq x x).1 refl) in
+    let c = count_hit x xs j (omega arith) (sym e) in let o = once x in absurd (omega arith)
+counted_apart (x ∷ xs) once (suc i) zero h g e =
+    let b = count_by-cons (λ n. int_eq n x) x xs in let z : one_if (int_eq x x) ≡ 1 = ap one_if ((Decides-int_eq x x).1 refl) in
+    let c = count_hit x xs i (omega arith) e in let o = once x in absurd (omega arith)
+counted_apart (x ∷ xs) once (suc i) (suc j) h g e =
+    ap suc (counted_apart xs (λ k. let b = count_by-cons (λ n. int_eq n k) x xs in let o = once k in omega arith) i j (omega arith) (omega arith) e)
+
+-- the priorities in order
+pub ranking_made : (priorities ranks : List ℤ) → AllPairs (λ a b. a ≢ b) priorities → IsPermutation priorities ranks → IsSorted int_cmp ranks → IsRanking priorities ranks
+ranking_made priorities ranks differ moved up = record {
+  ascending = up;
+  apart = counted_apart ranks (λ k.
+      let c = sum_by-IsPermutation (λ j. cond (int_eq j k) 1 0) priorities ranks moved in let o = count_once k priorities differ in omega arith);
+  known = λ k h. Contains-permutation priorities ranks k moved h;
+}
+
+-- the same, by what the code has of them
+pub ranking_at : (mine own given start ranks : List ℤ) → mine ≡ given → given ≡ own → start ≡ given → AllPairs (λ a b. a ≢ b) own → IsPermutation start ranks → IsSorted int_cmp ranks → IsRanking mine ranks
+ranking_at mine own given start ranks e f h differ moved up =
+    subst (λ ks. IsRanking ks ranks) (sym (e ∙ f)) (ranking_made own ranks differ (subst (λ ks. IsPermutation ks ranks) (h ∙ f) moved) up)
+
+module _ {M : Type 0} where
+  pub lanes_more : (size n : ℕ) (lanes lanes' : List (VecDeque M Global)) (lane : VecDeque M Global) → lanes' ≡ lanes ++ lane ∷ [] → length lanes ≡ n
+      → All (λ (l : VecDeque M Global). (l.items ≡ []) × (size ≤ deque_capacity l)) lanes → lane.items ≡ [] → size ≤ deque_capacity lane
+      → (length lanes' ≡ n + 1) × All (λ (l : VecDeque M Global). (l.items ≡ []) × (size ≤ deque_capacity l)) lanes'
+  lanes_more size n lanes lanes' lane e count each none room =
+      subst (λ (ls : List (VecDeque M Global)). (length ls ≡ n + 1) × All (λ (l : VecDeque M Global). (l.items ≡ []) × (size ≤ deque_capacity l)) ls) (sym e)
+      (length_push lanes lane ∙ ap (λ m. m + 1) count, All-push (λ (l : VecDeque M Global). (l.items ≡ []) × (size ≤ deque_capacity l)) lanes lane each (none, room))
+
+  none_in_use : (lanes : List (VecDeque M Global)) → AllByRecursion (λ (lane : VecDeque M Global). lane.items ≡ []) lanes → count_by is_in_use lanes ≡ 0
+  none_in_use [] h = refl
+  none_in_use (lane ∷ lanes) h =
+      let b = count_by-cons is_in_use lane lanes in let r = none_in_use lanes h.1 in
+      let z : one_if (is_in_use lane) ≡ 0 = ap (λ (ws : List M). one_if (nat_lt 0 (length ws))) h.0 in omega arith
+
+  -- a queue that was just made
+  pub new_ready : (size : ℕ) (priorities ranks : List ℤ) (lanes : List (VecDeque M Global)) (noted : BinaryHeap ℕ Global) (pending : List (Pending M))
+      → IsRanking priorities ranks → length lanes ≡ length ranks
+      → All (λ (lane : VecDeque M Global). (lane.items ≡ []) × (size ≤ deque_capacity lane)) lanes
+      → heap_items noted ≡ [] → IsHeap nat_cmp (heap_items noted) → length ranks ≤ heap_capacity noted → pending ≡ []
+      → IsReady size 0 priorities ranks lanes noted pending
+  new_ready size priorities ranks lanes noted pending ranking level each none ordered room nothing =
+      subst (λ ps. IsReady size 0 priorities ranks lanes noted ps) (sym nothing) (record {
+        counted = refl;
+        ranking = ranking;
+        laid = record {
+          short = omega arith;
+          level = level;
+          each = each;
+          ranked = λ k d h. absurd (omega arith);
+          notes = subst (λ ns. AreNoted lanes ns) (sym none) (record {
+            each = λ i d h. sym (ap (λ (ws : List M). min 1 (length ws)) (each i d h).0);
+            within = λ k d h. absurd (omega arith);
+            total = sym (none_in_use lanes (recursion_from_All (λ (lane : VecDeque M Global). lane.items ≡ []) lanes (λ i d h. (each i d h).0)));
+          });
+        };
+        ordered = ordered;
+        room = omega arith;
+      })

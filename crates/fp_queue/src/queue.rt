@@ -1,7 +1,8 @@
 ghost use Rattle.std.specs.Prelude.{◌≡◌, ◌≢◌, ◌+◌, ◌<◌, ◌≤◌, ◌↔◌, [], ◌∷◌, IsTrue, IsOk, IfOk, OnOk, IfErr, length, slice_index_or, pos};
-ghost use Rattle.std.specs.List.{AllPairs, Contains};
+ghost use Rattle.std.specs.List.{All, AllPairs, Contains};
 ghost use Rattle.std.specs.List.Sorted.{IsSorted};
 ghost use Rattle.std.specs.Option.{option_map};
+ghost use Rattle.std.specs.VecDeque.{deque_capacity};
 ghost use Rattle.std.specs.Ordering.{int_cmp};
 
 use crate::line::Line;
@@ -35,6 +36,30 @@ impl<M> Model for Queue<M> {
     ghost view = { λ q. record { size = q.size; priorities = q.priorities.value; pending = q.line.value.pending } };
 
     ghost invariant = { λ q. IsReady q.size q.len q.priorities.value q.ranks.items q.lanes.items q.noted q.line.value.pending };
+}
+
+impl<M: Drop> Queue<M> {
+    pub fn new(alloc: Global, size: u32, priorities: &[i32]) -> Result<Queue<M>, NoMemory>
+        requires size { 0 < size }
+        requires differ { AllPairs (λ a b. a ≢ b) priorities.now }
+        ensures { IfOk result (λ q. q ≡ record { size = size; priorities = priorities.now; pending = [] }) }
+    {
+        let given = Row::from_slice(alloc, priorities)?;
+        let known = Snapshot::of(&given);
+        let mut ranks = given.into_vec();
+        ranks.sort()?;
+        let lanes = empty_lanes(alloc, size, ranks.len())?;
+        let noted = BinaryHeap::with_capacity(alloc, ranks.len())?;
+        Ok(Queue {
+            size,
+            len: 0,
+            priorities: known,
+            ranks,
+            lanes,
+            noted,
+            line: Snapshot::of(&Line::new()),
+        })
+    }
 }
 
 impl<M> Queue<M> {
@@ -106,4 +131,17 @@ fn rank_of(ranks: &[i32], priority: i32) -> usize
     ensures rank { slice_index_or ranks.now result (pos 0) ≡ priority }
 {
     ranks.binary_search(&priority).unwrap()
+}
+
+// Lanes with nothing in them, each with room for so many.
+fn empty_lanes<M: Drop>(alloc: Global, size: u32, count: usize) -> Result<Vec<VecDeque<M>>, NoMemory>
+    ensures count { IfOk result (λ lanes. length lanes.items ≡ count) }
+    ensures each { IfOk result (λ lanes. All (λ lane. (lane.items ≡ []) × (size ≤ deque_capacity lane)) lanes.items) }
+{
+    let mut lanes = Vec::with_capacity(alloc, count)?;
+    for _ in 0..count {
+        let lane = VecDeque::with_capacity(alloc, size as usize)?;
+        lanes.push(lane)?;
+    }
+    Ok(lanes)
 }
