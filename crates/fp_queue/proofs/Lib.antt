@@ -1,3 +1,4 @@
+pub mod CallLemmas
 pub mod LaneLemmas
 pub mod TakingLemmas
 pub mod Walks
