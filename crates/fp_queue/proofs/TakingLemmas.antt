@@ -1,18 +1,20 @@
 -- What a taken item is, by the items of each priority.
 use Rattle.std.proofs.Common.{◌≡◌, ◌≢◌, ◌≤ℤ◌, ◌<ℤ◌, ℕ, ℤ, ◌+◌, ◌<◌, ◌≤◌, Bool, true, false, cond, List, [], ◌∷◌, ◌++◌, length, map, drop, Option, Some, None, refl, sym, ap, subst, ◌∙◌, arith, rules, inl, inr, ⊎_elim}
-use Rattle.std.specs.List.{All, AllByRecursion, filter}
+use Rattle.std.specs.List.{All, AllByRecursion, remove}
+use Rattle.std.proofs.Common.{zero, suc, get_or, slice_get}
 use Rattle.std.specs.Int.{int_max}
-use Rattle.std.specs.Option.{option_map, option_map_or, MatchOption}
+use Rattle.std.specs.Option.{option_map, option_map_or, option_and_then, MatchOption}
 use Rattle.std.specs.Bool.{⊤}
 use Rattle.std.specs.Ordering.{int_eq}
-use Rattle.std.proofs.lemmas.Bool.{cases_Bool, cond_both, false≢true}
+use Rattle.std.proofs.lemmas.Bool.{cases_Bool, cases_eq, cond_both, false≢true}
 use Rattle.std.proofs.lemmas.Bool.Decides.{Decides-int_eq}
-use Rattle.std.proofs.lemmas.Int.{ints, clamps}
+use Rattle.std.proofs.lemmas.Int.{ints, clamps, to_z-of_z}
+use Rattle.std.proofs.Common.{FitsSigned, w32, to_z, of_z}
 use Rattle.std.specs.Prelude.{int_lt}
-use Rattle.std.proofs.lemmas.List.Elements.{All-from_recursion}
-use Rattle.std.proofs.lemmas.List.{append-nil}
+use Rattle.std.proofs.lemmas.List.Elements.{All-from_recursion, recursion_from_All}
+use Rattle.std.proofs.lemmas.List.{append-nil, get_or_default, get_or_read}
 use Rattle.fp_queue.specs.declared.pending.Pending.{Pending}
-use Rattle.fp_queue.specs.Taking.{greatest_priority, first_of, without_first, taken_of, rest_of, IsTaken}
+use Rattle.fp_queue.specs.Taking.{greatest_priority, first_of, without_first, taken_of, rest_of, IsTaken, IsPlaceToTake}
 use Rattle.fp_queue.specs.Lanes.{items_of}
 
 -- two priorities are one or differ
@@ -33,6 +35,30 @@ lt_from a b e = grind (arith, ints)
 
 le_from : (a b : ℤ) → int_lt a b ≡ false → b ≤ℤ a
 le_from a b e = grind (arith, ints)
+
+pub below_then : (a b c : ℤ) → a ≤ℤ b → b <ℤ c → a <ℤ c
+below_then a b c h g = omega (arith, ints)
+
+itself : (a : ℤ) → a ≤ℤ a
+itself a = omega (arith, ints)
+
+under : (a b : ℤ) → a <ℤ b → a ≤ℤ b
+under a b h = omega (arith, ints)
+
+apart_below : (a b : ℤ) → a <ℤ b → a ≢ b
+apart_below a b h e = let g : a <ℤ a = subst (λ c. a <ℤ c) (sym e) h in absurd (omega (arith, ints))
+
+pairs : {a x b y : ℤ} → a ≡ x → b ≡ y → ◌≡◌ {A = ℤ × ℤ} (a, b) (x, y)
+pairs e h = cc
+
+-- what the code's comparison of two priorities says
+pub less_read : (a b x y : ℤ) → FitsSigned w32 a → FitsSigned w32 b → a ≡ x → b ≡ y → int_lt (to_z w32 (of_z w32 x)) (to_z w32 (of_z w32 y)) ≡ true → a <ℤ b
+less_read a b x y f g e h t =
+    lt_from a b (ap (λ p. int_lt p.0 p.1) (pairs (sym (to_z-of_z w32 a f) ∙ ap (λ z. to_z w32 (of_z w32 z)) e) (sym (to_z-of_z w32 b g) ∙ ap (λ z. to_z w32 (of_z w32 z)) h)) ∙ t)
+
+pub not_less_read : (a b x y : ℤ) → FitsSigned w32 a → FitsSigned w32 b → a ≡ x → b ≡ y → int_lt (to_z w32 (of_z w32 x)) (to_z w32 (of_z w32 y)) ≡ false → b ≤ℤ a
+not_less_read a b x y f g e h t =
+    le_from a b (ap (λ p. int_lt p.0 p.1) (pairs (sym (to_z-of_z w32 a f) ∙ ap (λ z. to_z w32 (of_z w32 z)) e) (sym (to_z-of_z w32 b g) ∙ ap (λ z. to_z w32 (of_z w32 z)) h)) ∙ t)
 
 pub differs : (a b : ℤ) → a ≢ b → int_eq a b ≡ false
 differs a b ne = cases_int a b (λ _ e. absurd (ne e)) (λ f _. f)
@@ -202,3 +228,60 @@ module _ {M : Type 0} where
   pub is_taken : (ps : List (Pending M)) → MatchOption (taken_of ps) (ps ≡ []) (λ p. IsTaken ps p (rest_of ps))
   is_taken [] = refl
   is_taken (p ∷ ps) = is_taken_at _ (p ∷ ps) (tops p ps)
+
+  -- the first of a priority, by its place
+  first_at : (k : ℤ) (ps : List (Pending M)) (b : ℕ) (d : Pending M) → b < length ps → (get_or ps b d).priority ≡ k → ((i : ℕ) → i < b → (get_or ps i d).priority ≢ k)
+      → (first_of k ps ≡ slice_get ps b) × (without_first k ps ≡ remove ps b) × (0 < length (items_of k ps))
+  first_at k [] b d h own none = absurd (omega arith)
+  first_at k (p ∷ ps) zero d h own none =
+      let f = (Decides-int_eq p.priority k).1 own in (rw f refl, rw f refl, subst (λ (ws : List M). 0 < length ws) (sym (items_of-yes k p ps f)) (omega arith))
+  first_at k (p ∷ ps) (suc b) d h own none =
+      let f = differs p.priority k (none 0 (omega arith)) in
+      let r = first_at k ps b d (omega arith) own (λ i l. none (suc i) (omega arith)) in
+      (rw f r.0, rw f (ap (λ (qs : List (Pending M)). p ∷ qs) r.1), one_more k p ps r.2)
+
+  -- the place of the first that no other exceeds
+  pub place_found : (ps : List (Pending M)) (b : ℕ) → b < length ps → ((k : ℕ) (d : Pending M) → k < length ps → (get_or ps k d).priority ≤ℤ (get_or ps b d).priority)
+      → ((k : ℕ) (d : Pending M) → k < b → (get_or ps k d).priority ≢ (get_or ps b d).priority) → IsPlaceToTake ps b
+  place_found [] b h top first = absurd (omega arith)
+  place_found (p ∷ ps) b h top first =
+      let k : ℤ = (get_or (p ∷ ps) b p).priority in
+      let f = first_at k (p ∷ ps) b p h refl (λ i l. first i p l) in
+      let bound : All (λ q. q.priority ≤ℤ k) (p ∷ ps) = λ i d l. subst (λ (q : Pending M). q.priority ≤ℤ k) (get_or_default (p ∷ ps) i p d l) (top i p l) in
+      let g : greatest_priority (p ∷ ps) ≡ Some k = greatest_is k (p ∷ ps) (recursion_from_All (λ q. q.priority ≤ℤ k) (p ∷ ps) bound) f.2 in
+      (h, ap (λ o. option_and_then (λ j. first_of j (p ∷ ps)) o) g ∙ f.0, ap (λ o. option_map_or (λ j. without_first j (p ∷ ps)) o (p ∷ ps)) g ∙ f.1)
+
+  -- at b stands the first of the greatest priority below i
+  pub record IsBest (ps : List (Pending M)) (i b : ℕ) : Type 0 where
+    pub within : b < i
+    pub greatest : (k : ℕ) (d : Pending M) → k < i → (get_or ps k d).priority ≤ℤ (get_or ps b d).priority
+    pub earliest : (k : ℕ) (d : Pending M) → k < b → (get_or ps k d).priority ≢ (get_or ps b d).priority
+
+  pub best_stays : (ps : List (Pending M)) (i b : ℕ) (x y : Pending M) → i < length ps → x ≡ get_or ps b x → y ≡ get_or ps i y → y.priority ≤ℤ x.priority → IsBest ps i b → IsBest ps (i + 1) b
+  best_stays ps i b x y l is own le best = record {
+    within = let w = best.within in omega arith;
+    greatest = λ k d h.
+        ⊎_elim
+        (λ (e : k ≡ i). subst (λ n. (get_or ps n d).priority ≤ℤ (get_or ps b d).priority) (sym e)
+        (let w = best.within in let f = get_or_read ps b x (omega arith) is d in let g = get_or_read ps i y l own d in
+        subst (λ (p : Pending M). p.priority ≤ℤ (get_or ps b d).priority) g (subst (λ (p : Pending M). y.priority ≤ℤ p.priority) f le)))
+        (λ ne. best.greatest k d (omega arith))
+        (cases_eq k i);
+    earliest = best.earliest;
+  }
+
+  pub best_moves : (ps : List (Pending M)) (i b : ℕ) (x y : Pending M) → i < length ps → x ≡ get_or ps b x → y ≡ get_or ps i y → x.priority <ℤ y.priority → IsBest ps i b → IsBest ps (i + 1) i
+  best_moves ps i b x y l is own lt best =
+      let below : (k : ℕ) (d : Pending M) → k < i → (get_or ps k d).priority <ℤ (get_or ps i d).priority =
+          λ k d h. let w = best.within in let f = get_or_read ps b x (omega arith) is d in let g = get_or_read ps i y l own d in
+          subst (λ (p : Pending M). (get_or ps k d).priority <ℤ p.priority) g
+          (below_then (get_or ps k d).priority x.priority y.priority (subst (λ (p : Pending M). (get_or ps k d).priority ≤ℤ p.priority) (sym f) (best.greatest k d h)) lt) in
+      record {
+        within = omega arith;
+        greatest = λ k d h.
+            ⊎_elim
+            (λ (e : k ≡ i). subst (λ n. (get_or ps n d).priority ≤ℤ (get_or ps i d).priority) (sym e) (itself (get_or ps i d).priority))
+            (λ ne. under _ _ (below k d (omega arith)))
+            (cases_eq k i);
+        earliest = λ k d h. apart_below _ _ (below k d h);
+      }
