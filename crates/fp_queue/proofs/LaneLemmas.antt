@@ -1,5 +1,5 @@
 -- What a put and a take leave in the lanes.
-use Rattle.std.proofs.Common.{suc, zero, ◌≡◌, ◌≢◌, ◌≤ℤ◌, ◌<ℤ◌, ℕ, ℤ, pos, ◌+◌, ◌-◌, ◌<◌, ◌≤◌, Bool, true, false, cond, min, nat_eq, nat_lt, List, [], ◌∷◌, ◌++◌, length, map, drop, get_or, set, refl, sym, ap, subst, ◌∙◌, arith, rules, inl, inr, ⊎_elim, length-append}
+use Rattle.std.proofs.Common.{suc, zero, ◌≡◌, ◌≢◌, ◌≤ℤ◌, ◌<ℤ◌, ℕ, ℤ, pos, ◌+◌, ◌-◌, ◌<◌, ◌≤◌, Bool, true, false, cond, min, nat_eq, nat_lt, List, [], ◌∷◌, ◌++◌, length, drop, get_or, set, refl, sym, ap, subst, ◌∙◌, arith, ⊎_elim}
 use Rattle.std.specs.List.{All, Contains, count_by}
 use Rattle.std.specs.List.Sorted.{IsPermutation}
 use Rattle.std.specs.List.{AllByRecursion}
@@ -24,8 +24,7 @@ use Rattle.std.proofs.lemmas.List.{length_push}
 use Rattle.std.proofs.lemmas.List.Elements.{All-push, Contains-get_or}
 use Rattle.std.specs.declared.collections.VecDeque.{VecDeque}
 use Rattle.std.specs.declared.alloc.Global.{Global}
-use Rattle.std.proofs.lemmas.Bool.{cases_Bool, cond_both, false≢true, cases_eq, eq-eqb, ne_eqb, lt-ltb, le-ltb}
-use Rattle.std.proofs.lemmas.Bool.Decides.{nat_tests}
+use Rattle.std.proofs.lemmas.Bool.{cond_both, false≢true, cases_eq, eq-eqb, ne_eqb, lt-ltb}
 use Rattle.std.proofs.lemmas.List.{get_or-set_same, get_or-set_other, length-set, get_or_default}
 use Rattle.std.proofs.lemmas.List.Sums.{sum_by-cons, sum_by-set, count_by-le-length}
 use Rattle.std.proofs.lemmas.List.Sorted.{sum_by-IsPermutation, length_permutation, All-permutation}
@@ -142,10 +141,12 @@ module _ {M : Type 0} where
       (λ own. subst (λ n. ((get_or (set lanes at lane) n e).items ≡ items_of (get_or ranks n (pos 0)) (pending ++ p ∷ [])) × (size ≤ deque_capacity (get_or (set lanes at lane) n e))) (sym own)
       (rw (get_or-set_same lanes at lane e h) (
         items ∙ ap (λ (ws : List M). ws ++ p.item ∷ []) (each at d h).0 ∙ sym (items_of-push_own (get_or ranks at (pos 0)) pending p rank),
-        subst (λ n. size ≤ n) (sym cap) (each at d h).1)))
+        subst (λ n. size ≤ n) (sym cap) (each at d h).1,
+      )))
       (λ ne. rw (get_or-set_other lanes at i lane e ne) (
         (each i e l).0 ∙ sym (items_of-push_other (get_or ranks i (pos 0)) pending p (λ same. ne (apart i at (omega arith) (omega arith) (same ∙ sym rank)))),
-        (each i e l).1))
+        (each i e l).1,
+      ))
       (cases_eq i at)
 
   -- the first item leaves the lane of its priority
@@ -161,10 +162,12 @@ module _ {M : Type 0} where
       (λ own. subst (λ n. ((get_or (set lanes at lane) n e).items ≡ items_of (get_or ranks n (pos 0)) (without_first k pending)) × (size ≤ deque_capacity (get_or (set lanes at lane) n e))) (sym own)
       (rw (get_or-set_same lanes at lane e h) (
         items ∙ ap (λ (ws : List M). drop 1 ws) (each at d h).0 ∙ sym (items_left k pending),
-        subst (λ n. size ≤ n) (sym cap) (each at d h).1)))
+        subst (λ n. size ≤ n) (sym cap) (each at d h).1,
+      )))
       (λ ne. rw (get_or-set_other lanes at i lane e ne) (
         (each i e l).0 ∙ sym (items_kept (get_or ranks i (pos 0)) k pending (λ same. ne (apart i at (omega arith) (omega arith) same))),
-        (each i e l).1))
+        (each i e l).1,
+      ))
       (cases_eq i at)
 
 less≢equal : Less ≡ Equal → ⊥

@@ -1,5 +1,5 @@
 -- How a queue's lanes hold what waits.
-use Rattle.std.specs.Prelude.{◌≡◌, ℕ, ℤ, pos, ◌<◌, ◌≤◌, Bool, min, List, [], ◌∷◌, length, map, nat_eq, nat_lt, slice_index_or}
+use Rattle.std.specs.Prelude.{◌≡◌, ℕ, ℤ, pos, ◌<◌, ◌≤◌, Bool, min, List, length, map, nat_eq, nat_lt, slice_index_or}
 use Rattle.std.specs.List.{All, Contains, count_by, filter}
 use Rattle.std.specs.List.Sorted.{IsSorted}
 use Rattle.std.specs.Ordering.{int_cmp, int_eq, nat_cmp}

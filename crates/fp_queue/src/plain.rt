@@ -29,11 +29,7 @@ impl<M> Model for PlainQueue<M> {
 }
 
 impl<M: Drop> PlainQueue<M> {
-    pub fn new(
-        alloc: Global,
-        size: u32,
-        priorities: &[i32],
-    ) -> Result<PlainQueue<M>, NoMemory>
+    pub fn new(alloc: Global, size: u32, priorities: &[i32]) -> Result<PlainQueue<M>, NoMemory>
         requires size { 0 < size }
         requires differ { AllPairs (λ a b. a ≢ b) priorities.now }
         ensures { IfOk result (λ q. q ≡ record { size = size; priorities = priorities.now; pending = [] }) }

@@ -134,7 +134,11 @@ fn rank_of(ranks: &[i32], priority: i32) -> usize
 }
 
 // Lanes with nothing in them, each with room for so many.
-fn empty_lanes<M: Drop>(alloc: Global, size: u32, count: usize) -> Result<Vec<VecDeque<M>>, NoMemory>
+fn empty_lanes<M: Drop>(
+    alloc: Global,
+    size: u32,
+    count: usize,
+) -> Result<Vec<VecDeque<M>>, NoMemory>
     ensures count { IfOk result (λ lanes. length lanes.items ≡ count) }
     ensures each { IfOk result (λ lanes. All (λ lane. (lane.items ≡ []) × (size ≤ deque_capacity lane)) lanes.items) }
 {

@@ -1,4 +1,4 @@
-use Rattle.std.proofs.Common.{◌≡◌, ◌≤◌, length, ap, sym, ◌∙◌, subst, arith}
+use Rattle.std.proofs.Common.{◌≤◌, length, ap, ◌∙◌, arith}
 use Rattle.std.specs.BinaryHeap.{heap_capacity}
 use Rattle.fp_queue.proofs.LaneLemmas.{new_ready, ranking_at}
 use Rattle.fp_queue.proofs.queue.Queue.new.Goals as goal
