@@ -10,8 +10,8 @@ use Rattle.std.specs.declared.cmp.Ordering.TheVariants.{Less, Equal, Greater}
 use Rattle.std.proofs.Common.{Option, Some, None, IsSome, IfSome, is_some, ◌↔◌}
 use Rattle.std.specs.Option.{option_map, option_map_or, option_and_then}
 use Rattle.std.proofs.lemmas.List.Sorted.{le_from_greatest}
-use Rattle.std.proofs.Common.{Result, Ok, Err, Ordering, IsOk, OnOk}
-use Rattle.std.proofs.lemmas.Bool.{cases_lt}
+use Rattle.std.proofs.Common.{Result, Ok, Err, Ordering, IsOk, OnOk, IsTrue}
+use Rattle.std.proofs.lemmas.Bool.{cases_lt, iff_false}
 use Rattle.std.proofs.lemmas.Int.{ints}
 use Rattle.std.proofs.lemmas.Cmp.{tied_itself, int_cmp_total, int_ranked}
 use Rattle.std.proofs.lemmas.List.Sorted.{searchable_from_sorted, sorted_far, ranks_by}
@@ -543,3 +543,8 @@ module _ {M : Type 0} where
         ordered = ordered;
         room = omega arith;
       })
+
+-- what the answer that a queue is not full says of its fields
+pub not_full : {M : Type 0} (b : Bool) (len : ℕ) (shown q : Contents M) → shown ≡ q → len ≡ length shown.pending → (IsTrue b ↔ (length q.pending ≡ q.size)) → b ≡ false → len ≢ shown.size
+not_full b len shown q e count full below h =
+    iff_false full below (ap (λ (c : Contents _). length c.pending) (sym e) ∙ sym count ∙ h ∙ ap (λ (c : Contents _). c.size) e)

@@ -88,7 +88,7 @@ impl<M> Queue<M> {
         ensures ok { OnOk result (self.new ≡ with_last self.old priority item) }
         ensures err { IfErr result (λ back. (back ≡ item) × (self.new ≡ self.old)) }
     {
-        if self.len == self.size {
+        if self.is_full() {
             return Err(item);
         }
         let newcomer = Pending { priority, item };
@@ -99,6 +99,7 @@ impl<M> Queue<M> {
         lane.push_back_reserved(newcomer.item);
         self.len += 1;
         if first {
+            // There is room for each lane's number.
             let _ = self.noted.push(at);
         }
         Ok(())
