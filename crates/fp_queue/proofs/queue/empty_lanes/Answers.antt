@@ -1,4 +1,4 @@
-use Rattle.fp_queue.proofs.LaneLemmas.{lanes_more}
+use Rattle.fp_queue.proofs.ReadyLemmas.{lanes_more}
 use Rattle.fp_queue.proofs.queue.empty_lanes.Goals as goal
 
 pub loop-preserved : goal.loop-preserved

@@ -1,6 +1,7 @@
 use Rattle.std.proofs.Common.{◌≤◌, length, ap, ◌∙◌, arith}
 use Rattle.std.specs.BinaryHeap.{heap_capacity}
-use Rattle.fp_queue.proofs.LaneLemmas.{new_ready, ranking_at}
+use Rattle.fp_queue.proofs.RankLemmas.{ranking_at}
+use Rattle.fp_queue.proofs.ReadyLemmas.{new_ready}
 use Rattle.fp_queue.proofs.queue.Queue.new.Goals as goal
 
 pub invariant_of-result : goal.invariant_of-result

@@ -2,7 +2,8 @@ use Rattle.std.proofs.Common.{ap, sym, ◌∙◌, arith, w32, to_z, of_z}
 use Rattle.std.proofs.lemmas.Bool.{eqb-true, eqb-false}
 use Rattle.std.proofs.lemmas.Int.{to_z-of_z}
 use Rattle.fp_queue.specs.Contents.{pending_at}
-use Rattle.fp_queue.proofs.LaneLemmas.{known_rank, room_in_lane, room_in_heap, put_more, put_first, at_ok, not_full}
+use Rattle.fp_queue.proofs.RankLemmas.{known_rank}
+use Rattle.fp_queue.proofs.ReadyLemmas.{room_in_lane, room_in_heap, put_more, put_first, at_ok, not_full}
 use Rattle.fp_queue.proofs.queue.Queue.put.Goals as goal
 
 pub rank_of-at-requires-clause-known : goal.rank_of-at-requires-clause-known

@@ -2,7 +2,7 @@ use Rattle.std.proofs.Common.{◌++◌, ap, sym, ◌∙◌}
 use Rattle.std.specs.Option.{option_map, option_to_list}
 use Rattle.std.proofs.lemmas.Bool.{eqb-true, eqb-false}
 use Rattle.fp_queue.specs.Taking.{taken_of}
-use Rattle.fp_queue.proofs.LaneLemmas.{nothing_seen, something_seen, nothing_waits, rest_of_none, taken_item, take_more, take_last}
+use Rattle.fp_queue.proofs.ReadyLemmas.{nothing_seen, something_seen, nothing_waits, rest_of_none, taken_item, take_more, take_last}
 use Rattle.fp_queue.proofs.queue.Queue.take.Goals as goal
 
 pub returns-in_default-clause-item : goal.returns-in_default-clause-item
