@@ -87,6 +87,8 @@ impl<M> Queue<M> {
         ensures room { IsOk result ↔ (length self.old.pending < self.old.size) }
         ensures ok { OnOk result (self.new ≡ with_last self.old priority item) }
         ensures err { IfErr result (λ back. (back ≡ item) × (self.new ≡ self.old)) }
+        ensures size { self.new.size ≡ self.old.size }
+        ensures priorities { self.new.priorities ≡ self.old.priorities }
     {
         if self.is_full() {
             return Err(item);
