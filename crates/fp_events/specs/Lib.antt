@@ -1,0 +1,16 @@
+pub mod Lookup
+pub mod Kinds
+pub mod Machine
+pub mod Instance
+pub mod Manners
+pub mod Queue
+pub mod Tells
+pub mod Leaves
+pub mod Actor
+pub mod Due
+pub mod Follows
+pub mod Answers
+pub mod Fits
+pub mod Step
+pub mod Ends
+pub mod Waits
