@@ -1,3 +1,5 @@
 pub mod formers
 pub mod Places
+pub mod Rendered
 pub mod Rules
+pub mod Same

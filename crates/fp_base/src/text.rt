@@ -1,4 +1,4 @@
-ghost use Rattle.std.specs.Prelude.{◌≡◌, ◌++◌, [], length, IfOk, OnOk, OnErr, MatchOption};
+ghost use Rattle.std.specs.Prelude.{◌≡◌, ◌↔◌, IsTrue, ◌++◌, [], length, IfOk, OnOk, OnErr, MatchOption};
 ghost use Rattle.std.specs.Str.{IsUtf8};
 
 use crate::memory::NoMemory;
@@ -73,6 +73,12 @@ impl Text {
     {
         self.inner.push_str(more)?;
         Ok(())
+    }
+
+    pub fn same(&self, other: &Text) -> bool
+        ensures { IsTrue result ↔ (self.now ≡ other.now) }
+    {
+        self.inner.as_str() == other.inner.as_str()
     }
 
     pub fn copy(&self, alloc: Global) -> Result<Text, NoMemory>
