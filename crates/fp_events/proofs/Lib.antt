@@ -1,1 +1,18 @@
-
+pub mod SameArrival
+pub mod StepLaws
+pub mod Ended
+pub mod Waiting
+pub mod Fitting
+pub mod Room
+pub mod Recorded
+pub mod MachineStartsThenMoves
+pub mod CommandToResponse
+pub mod FullQueueBlocks
+pub mod GreatestPriorityFirst
+pub mod QueuesFillEachOther
+pub mod CallersInterleave
+pub mod ParameterSetReadSaved
+pub mod ThrottledAndUnchanged
+pub mod ChoiceByAnswers
+pub mod GuardKeptOverFrames
+pub mod NestedStates

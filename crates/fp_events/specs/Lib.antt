@@ -12,5 +12,8 @@ pub mod Follows
 pub mod Answers
 pub mod Fits
 pub mod Step
+pub mod Run
 pub mod Ends
 pub mod Waits
+pub mod Worked
+pub mod FullQueue
