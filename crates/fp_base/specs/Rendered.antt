@@ -1,54 +1,56 @@
 -- The text of a value, and a format with its fields filled.
-use Rattle.std.specs.Prelude.{ℕ, zero, suc, true, false, cond, ◌+◌, ◌/◌, ◌%◌, nat_lt, nat_le, ◌&&◌, ◌||◌, ◌==◌, ℤ, pos, negsuc, List, [], ◌∷◌, ◌++◌, flat_map}
+use Rattle.std.specs.Prelude.{ℕ, zero, suc, Bool, true, false, cond, ◌+◌, ◌/◌, ◌%◌, nat_lt, nat_le, ◌&&◌, ◌||◌, ◌==◌, ℤ, pos, negsuc, List, [], ◌∷◌, ◌++◌, flat_map}
+use Rattle.std.specs.Fmt.{digits, digit_glyph}
 use Rattle.fp_base.specs.declared.value.Value.{Value, Int, Bool as Truth, Text, Enumerated, Array', Struct', Opaque, Row_of-Value, more_of-Value, end_of-Value}
 use Rattle.fp_base.specs.declared.value.Value.TheBlock as block
+use Rattle.fp_base.specs.declared.value.Part.{Part}
 use Rattle.fp_base.specs.declared.format.Piece.{Piece}
 use Rattle.fp_base.specs.declared.format.Piece.TheVariants as piece
 
--- a digit as a character: 0 to 9, then a to f
-abbrev pub digit : ℕ → ℕ
-digit n = cond (nat_lt n 10) (48 + n) (87 + n)
-
--- the digits of a number in a base, at most as many as the first argument says
-abbrev pub digits : ℕ → ℕ → ℕ → List ℕ
-digits zero base n = []
-digits (suc k) base n = cond (nat_lt n base) (digit n ∷ []) (digits k base (n / base) ++ digit (n % base) ∷ [])
-
--- a number in a base: numbers have fewer than 128 digits
+-- a number in a base, in lower case
 abbrev pub in_base : ℕ → ℤ → List ℕ
-in_base base (pos n) = digits 128 base n
-in_base base (negsuc n) = 45 ∷ digits 128 base (suc n)
+in_base base (pos n) = digits base false n
+in_base base (negsuc n) = 45 ∷ digits base false (suc n)
 
 -- a byte of a text in quotes: `"` and `\` after `\`, control bytes as `\x` and two digits
 abbrev pub escaped : ℕ → List ℕ
 escaped b =
     cond (b == 34 || b == 92) (92 ∷ b ∷ [])
-    (cond (nat_lt b 32 || b == 127) (92 ∷ 120 ∷ digit (b / 16) ∷ digit (b % 16) ∷ []) (b ∷ []))
+    (cond (nat_lt b 32 || b == 127) (92 ∷ 120 ∷ digit_glyph false (b / 16) ∷ digit_glyph false (b % 16) ∷ []) (b ∷ []))
 
 abbrev pub quoted : List ℕ → List ℕ
 quoted s = 34 ∷ flat_map escaped s ++ 34 ∷ []
+
+-- texts with `, ` between them
+abbrev pub joined : List (List ℕ) → List ℕ
+joined [] = []
+joined (s ∷ ss) = s ++ flat_map (λ t. 44 ∷ 32 ∷ t) ss
+
+-- the text of a struct's member
+abbrev pub named_text : List ℕ → List ℕ → List ℕ
+named_text name text = name ++ 32 ∷ 61 ∷ 32 ∷ text
 
 -- a value's text: numbers in decimal, texts in quotes, constants by their own names, arrays in [ ] and structs in { }
 abbrev mutual
   pub value_text : Value → List ℕ
   value_text (Int n) = in_base 10 n
-  value_text (Truth true) = 116 ∷ 114 ∷ 117 ∷ 101 ∷ []
-  value_text (Truth false) = 102 ∷ 97 ∷ 108 ∷ 115 ∷ 101 ∷ []
+  value_text (Truth b) = cond b (116 ∷ 114 ∷ 117 ∷ 101 ∷ []) (102 ∷ 97 ∷ 108 ∷ 115 ∷ 101 ∷ [])
   value_text (Text s) = quoted s
   value_text (Enumerated e c n) = c
-  value_text (Array' m vs) = 91 ∷ items_text vs ++ 93 ∷ []
-  value_text (Struct' m ps) = 123 ∷ parts_text ps ++ 125 ∷ []
+  value_text (Array' m vs) = 91 ∷ joined (item_texts vs) ++ 93 ∷ []
+  value_text (Struct' m ps) = 123 ∷ joined (part_texts ps) ++ 125 ∷ []
   value_text Opaque = 111 ∷ 112 ∷ 97 ∷ 113 ∷ 117 ∷ 101 ∷ []
 
-  pub items_text : {m : _} → Row_of-Value m → List ℕ
-  items_text end_of-Value = []
-  items_text (more_of-Value v end_of-Value) = value_text v
-  items_text (more_of-Value v (more_of-Value w ws)) = value_text v ++ 44 ∷ 32 ∷ items_text (more_of-Value w ws)
+  pub item_texts : {m : _} → Row_of-Value m → List (List ℕ)
+  item_texts end_of-Value = []
+  item_texts (more_of-Value v vs) = value_text v ∷ item_texts vs
 
-  pub parts_text : {m : _} → block.Row_of-Part m → List ℕ
-  parts_text block.end_of-Part = []
-  parts_text (block.more_of-Part n v block.end_of-Part) = n ++ 32 ∷ 61 ∷ 32 ∷ value_text v
-  parts_text (block.more_of-Part n v (block.more_of-Part o w ps)) = n ++ 32 ∷ 61 ∷ 32 ∷ value_text v ++ 44 ∷ 32 ∷ parts_text (block.more_of-Part o w ps)
+  pub part_texts : {m : _} → block.Row_of-Part m → List (List ℕ)
+  part_texts block.end_of-Part = []
+  part_texts (block.more_of-Part n v ps) = named_text n (value_text v) ∷ part_texts ps
+
+abbrev pub part_text : Part → List ℕ
+part_text p = named_text p.name (value_text p.value)
 
 -- the number of an integer or an enumerated constant
 abbrev pub number_of : Value → ℤ

@@ -5,6 +5,7 @@ mod boxed;
 mod format;
 mod memory;
 mod place;
+mod print;
 mod refusal;
 mod row;
 mod rule;
