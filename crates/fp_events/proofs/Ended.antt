@@ -1,7 +1,6 @@
 -- A run is ended exactly where no actor has a due step within the limit, and a spent run reaches the limit.
-use Rattle.std.proofs.Common.{◌≡◌, ℕ, zero, suc, ◌<◌, Bool, true, false, cond, ◌&&◌, ◌||◌, nat_lt, nat_le, Option, Some, None, option_map, option_and_then, is_some, unwrap_or, List, [], ◌∷◌, refl, sym, ap, ◌∙◌, ◌↔◌, arith, ◌⊎◌, inl, inr}
-use Rattle.std.specs.List.{list_any}
-use Rattle.std.proofs.lemmas.List.Folds.{list_any-append}
+use Rattle.std.proofs.Common.{◌≡◌, ℕ, zero, suc, ◌+◌, ◌<◌, ◌≤◌, zero-le, Bool, true, false, cond, ◌&&◌, ◌||◌, nat_lt, nat_le, Option, Some, None, option_map, option_and_then, is_some, unwrap_or, List, [], ◌∷◌, refl, sym, ap, ◌∙◌, ◌↔◌, arith, ◌⊎◌, inl, inr}
+use Rattle.std.specs.List.{list_any, range_with_len}
 use Rattle.std.proofs.lemmas.Bool.Decides.{nat_tests}
 use Rattle.fp_system.proofs.Ended.{ended_stuck, stuck_dues}
 use Rattle.fp_system.proofs.Spent.{spent_stamp}
@@ -17,26 +16,26 @@ use Rattle.fp_events.specs.Instance.{InstanceState}
 use Rattle.fp_events.specs.Due.{due}
 use Rattle.fp_events.specs.Fits.{fits, actor_count, is_placed, what_fits}
 use Rattle.fp_events.specs.Step.{core, instance_part}
-use Rattle.fp_events.specs.Run.{World, RunTo, IsRun, HasStamp}
-use Rattle.fp_events.specs.Ends.{numbers, can_step, next_stamp, finish, is_asserted, is_complete, HasNoDueStep, IsEnded, EndsAs, actors}
+use Rattle.fp_events.specs.Run.{World, actors, RunTo, IsRun, HasStamp}
+use Rattle.fp_events.specs.Ends.{can_step, next_stamp, finish, is_asserted, is_complete, HasNoDueStep, IsEnded, EndsAs}
 use Rattle.fp_events.proofs.StepLaws.{given, core_laws, core_taking, mapped_some, then_some}
 
 neither : (a b : Bool) → (a || b) ≡ false → (a ≡ false) × (b ≡ false)
 neither true b h = absurd (cc)
 neither false b h = (refl, h)
 
-none_below : (p : ℕ → Bool) (n a : ℕ) → a < n → list_any p (numbers n) ≡ false → p a ≡ false
-none_below p zero a lt h = absurd (omega arith)
-none_below p (suc n) a lt h =
-    let parts = neither (list_any p (numbers n)) (p n || false) (sym (list_any-append p (numbers n) (n ∷ [])) ∙ h) in
-    go (split a n lt) parts.0 (neither (p n) false parts.1).0 (λ less. none_below p n a less parts.0)
+none_from : (p : ℕ → Bool) (b n a : ℕ) → b ≤ a → a < b + n → list_any p (range_with_len b n) ≡ false → p a ≡ false
+none_from p b zero a low high h = absurd (omega arith)
+none_from p b (suc n) a low high h =
+    let parts = neither (p b) (list_any p (range_with_len (b + 1) n)) h in
+    go (first b a low) parts.0 (λ above. none_from p (b + 1) n a (omega arith) (omega arith) parts.1)
   where
-    split : (a n : ℕ) → a < suc n → (a ≡ n) ⊎ (a < n)
-    split a n lt = grind (arith)
+    first : (b a : ℕ) → b ≤ a → (a ≡ b) ⊎ (b < a)
+    first b a low = grind (arith)
 
-    go : (a ≡ n) ⊎ (a < n) → list_any p (numbers n) ≡ false → p n ≡ false → (a < n → p a ≡ false) → p a ≡ false
-    go (inl e) all here again = rw e here
-    go (inr less) all here again = again less
+    go : (a ≡ b) ⊎ (b < a) → p b ≡ false → (b < a → p a ≡ false) → p a ≡ false
+    go (inl e) here again = rw e here
+    go (inr above) here again = again above
 
 none_any : {A : Type 0} (p : A → Bool) (xs : List A) → ((x : A) → p x ≡ false) → list_any p xs ≡ false
 none_any p [] h = refl
@@ -89,7 +88,7 @@ module _ (t : Tables) (program : Program) where
   no_due w none a i q s e is_due gives =
       let g = given t program i a (w.actors a).last (w.instances i) s q e gives in
       let low = fit_actor a i e.what g.fit in
-      let cannot : can_step t program w a ≡ false = none_below (can_step t program w) (actor_count t program) a low none in
+      let cannot : can_step t program w a ≡ false = none_from (can_step t program w) 0 (actor_count t program) a zero-le (omega (arith, low)) none in
       let seen : can_step t program w a ≡ nat_le e.stamp program.steps = ap (λ (o : Option ℕ). unwrap_or (option_map (λ n. nat_le n program.steps) o) false) (stamp_is w a i q e s is_due gives) in
       above e.stamp (sym seen ∙ cannot)
 

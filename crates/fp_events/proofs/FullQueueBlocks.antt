@@ -15,6 +15,13 @@ use Rattle.fp_events.specs.declared.event.Finish.TheVariants as finish
 use Rattle.fp_tables.specs.declared.tables.Tables.{Tables}
 use Rattle.fp_tables.specs.declared.program.Program.{Program}
 use Rattle.fp_events.specs.declared.event.Entry.{Entry}
+use Rattle.fp_events.specs.Due.{due}
+use Rattle.fp_events.specs.Follows.{follows}
+use Rattle.fp_events.specs.Tells.{tells}
+use Rattle.fp_events.specs.Leaves.{leaves}
+use Rattle.fp_events.specs.Answers.{answers}
+use Rattle.fp_events.specs.Fits.{fits, what_fits}
+use Rattle.fp_events.specs.Step.{instance_part, actor_part}
 use Rattle.fp_events.specs.Worked.{Makes}
 
 abbrev tables : Tables
@@ -23,33 +30,33 @@ tables = record {
     constants = [];
     types = [];
     ports =
-        (record {
-          name = codes "P";
-          formals = (record { name = codes "a"; kind = kind.U8; by_ref = false; note = [] }) ∷ [];
-          result = None;
-        }) ∷
-        [];
+      (record {
+        name = codes "P";
+        formals = (record { name = codes "a"; kind = kind.U8; by_ref = false; note = [] }) ∷ [];
+        result = None;
+      }) ∷
+      [];
     components =
-        (record {
-          name = codes "Q";
-          queueing = queueing.Queued;
-          ports =
-              (record {
-                name = codes "i";
-                role = role.Input (way.Later (pos 0) full.Block);
-                size = 1;
-                of = Some 0;
-                formals = (record { name = codes "a"; kind = kind.U8; by_ref = false; note = [] }) ∷ [];
-              }) ∷
-              [];
-          commands = [];
-          events = [];
-          channels = [];
-          params = [];
-          matches = [];
-          machines = [];
-        }) ∷
-        [];
+      (record {
+        name = codes "Q";
+        queueing = queueing.Queued;
+        ports =
+          (record {
+            name = codes "i";
+            role = role.Input (way.Later (pos 0) full.Block);
+            size = 1;
+            of = Some 0;
+            formals = (record { name = codes "a"; kind = kind.U8; by_ref = false; note = [] }) ∷ [];
+          }) ∷
+          [];
+        commands = [];
+        events = [];
+        channels = [];
+        params = [];
+        matches = [];
+        machines = [];
+      }) ∷
+      [];
     machines = [];
     instances = (record { name = codes "q"; component = 0; base = 0; queue = Some 1; stack = None; priority = None; cpu = None }) ∷ [];
     topologies = (record { name = codes "T"; instances = 0 ∷ []; links = []; wires = [] }) ∷ [];
@@ -62,26 +69,26 @@ abbrev program : Program
 program = record {
   steps = 10000;
   callers =
-      (record {
-        name = codes "k";
-        acts =
-            (record {
-              verb = verb.Call;
-              subject = record { instance = 0; port = 0; number = 0 };
-              name = 0;
-              with = arg.Given (value.Int (pos 1)) ∷ [];
-              bind = None;
-            }) ∷
-            (record {
-              verb = verb.Call;
-              subject = record { instance = 0; port = 0; number = 0 };
-              name = 0;
-              with = arg.Given (value.Int (pos 2)) ∷ [];
-              bind = None;
-            }) ∷
-            [];
-      }) ∷
-      [];
+    (record {
+      name = codes "k";
+      acts =
+        (record {
+          verb = verb.Call;
+          subject = record { instance = 0; port = 0; number = 0 };
+          name = 0;
+          with = arg.Given (value.Int (pos 1)) ∷ [];
+          bind = None;
+        }) ∷
+        (record {
+          verb = verb.Call;
+          subject = record { instance = 0; port = 0; number = 0 };
+          name = 0;
+          with = arg.Given (value.Int (pos 2)) ∷ [];
+          bind = None;
+        }) ∷
+        [];
+    }) ∷
+    [];
   handlers = [];
   answers = [];
 }
@@ -107,5 +114,5 @@ idle =
     []
 
 computed : Makes tables program order entries finish.Stuck idle
-unfolding Rattle.fp_events.specs.Step.instance_part Rattle.fp_events.specs.Step.actor_part Rattle.fp_events.specs.Fits.fits Rattle.fp_events.specs.Fits.what_fits Rattle.fp_events.specs.Tells.tells Rattle.fp_events.specs.Leaves.leaves Rattle.fp_events.specs.Due.due Rattle.fp_events.specs.Follows.follows Rattle.fp_events.specs.Answers.answers
+unfolding due follows tells leaves answers fits what_fits instance_part actor_part
 computed = record { entries = refl; ending = refl; waiting = refl }

@@ -5,6 +5,10 @@ pub mod Waiting
 pub mod Fitting
 pub mod Room
 pub mod Recorded
+pub mod Records
+pub mod NextCalls
+pub mod QueueLaws
+pub mod GuardLaws
 pub mod MachineStartsThenMoves
 pub mod CommandToResponse
 pub mod FullQueueBlocks
@@ -16,3 +20,5 @@ pub mod ThrottledAndUnchanged
 pub mod ChoiceByAnswers
 pub mod GuardKeptOverFrames
 pub mod NestedStates
+pub mod ReturnedValueIsBound
+pub mod TurnHeldByOne

@@ -23,7 +23,7 @@ use Rattle.fp_events.specs.Run.{World, at, by, opening, RunTo, IsRun, IsKept, Is
 use Rattle.fp_events.proofs.StepLaws.{given, taken, core_laws}
 
 -- the list of a number that stands nowhere, or past the end, is empty
-row_absent : {E : Type 0} (ns : List ℕ) (rows : List (List E)) (i : ℕ) → is_in i ns ≡ false → system.row_of ns rows i ≡ []
+pub row_absent : {E : Type 0} (ns : List ℕ) (rows : List (List E)) (i : ℕ) → is_in i ns ≡ false → system.row_of ns rows i ≡ []
 row_absent [] rows i h = refl
 row_absent (n ∷ ns) [] i h = refl
 row_absent (n ∷ ns) (es ∷ rows) i h = go (eqb i n) refl h (row_absent ns rows i)
@@ -32,16 +32,16 @@ row_absent (n ∷ ns) (es ∷ rows) i h = go (eqb i n) refl h (row_absent ns row
     go true is out again = absurd (cc)
     go false is out again = again out
 
-row_past : {E : Type 0} (rows : List (List E)) (k : ℕ) → length rows ≤ k → system.row rows k ≡ []
+pub row_past : {E : Type 0} (rows : List (List E)) (k : ℕ) → length rows ≤ k → system.row rows k ≡ []
 row_past [] k past = refl
 row_past (es ∷ rows) zero past = absurd (omega arith)
 row_past (es ∷ rows) (suc k) past = row_past rows k (omega arith)
 
-near : (m n : ℕ) → (m < n) ⊎ (n ≤ m)
+pub near : (m n : ℕ) → (m < n) ⊎ (n ≤ m)
 near m n = grind arith
 
 module _ (t : Tables) (program : Program) where
-  fit_parts : (a i : ℕ) (w : What) → fits t program a i w ≡ true → (a < actor_count t program) × (is_placed t program i ≡ true)
+  pub fit_parts : (a i : ℕ) (w : What) → fits t program a i w ≡ true → (a < actor_count t program) × (is_placed t program i ≡ true)
   unfolding fits
   fit_parts a i w h =
       let x = both (nat_lt a (actor_count t program) && is_placed t program i) (what_fits t program i w) h in

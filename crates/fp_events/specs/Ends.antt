@@ -1,5 +1,5 @@
 -- When a run is ended, and its four ends.
-use Rattle.std.specs.Prelude.{◌≡◌, ◌<◌, ℕ, zero, suc, Bool, true, false, cond, ◌&&◌, nat_le, List, [], ◌∷◌, ◌++◌, Option, Some, None, option_map, option_and_then, is_some, is_none, unwrap_or}
+use Rattle.std.specs.Prelude.{◌≡◌, ◌<◌, ℕ, Bool, true, false, cond, ◌&&◌, nat_le, List, [], ◌∷◌, ◌++◌, Option, Some, None, option_map, option_and_then, is_some, is_none, unwrap_or}
 use Rattle.std.specs.List.{list_all, list_any}
 use Rattle.fp_tables.specs.declared.tables.Tables.{Tables}
 use Rattle.fp_tables.specs.declared.program.Program.{Program}
@@ -13,13 +13,8 @@ use Rattle.fp_events.specs.Lookup.{actives}
 use Rattle.fp_events.specs.Instance.{InstanceState, Pending}
 use Rattle.fp_events.specs.Actor.{Frame, Opened, own}
 use Rattle.fp_events.specs.Due.{due, first_action}
-use Rattle.fp_events.specs.Fits.{actor_count}
 use Rattle.fp_events.specs.Step.{instance_part}
-use Rattle.fp_events.specs.Run.{World, RunTo, IsRun}
-
-abbrev pub numbers : ℕ → List ℕ
-numbers zero = []
-numbers (suc n) = numbers n ++ n ∷ []
+use Rattle.fp_events.specs.Run.{World, actors, RunTo, IsRun}
 
 abbrev pub is_asserted : What → Bool
 is_asserted (what.Asserted r) = true
@@ -49,9 +44,6 @@ module _ (t : Tables) (program : Program) where
   HasNoDueStep w = (a i : ℕ) (ask : Ask) (s : InstanceState) (e : Entry) → due t program a (w.actors a).thread ≡ Some (i, ask) →
       instance_part t program i (w.instances i) a ask (w.actors a).last ≡ Some (e, s) → program.steps < e.stamp
 
-  abbrev pub actors : List ℕ
-  actors = numbers (actor_count t program)
-
   -- the stamp of the actor's next step, if it has one, be it above the limit or not
   abbrev pub next_stamp : World → ℕ → Option ℕ
   next_stamp w a =
@@ -63,14 +55,14 @@ module _ (t : Tables) (program : Program) where
 
   -- every caller is through, no frame but the callers' own lists is open, and nothing is pending at an active instance
   abbrev pub is_complete : World → Bool
-  is_complete w = list_all (λ a. is_through (w.actors a).thread.frames) actors && list_all (λ i. none_pending (w.instances i).inside.pending) (actives t)
+  is_complete w = list_all (λ a. is_through (w.actors a).thread.frames) (actors t program) && list_all (λ i. none_pending (w.instances i).inside.pending) (actives t)
 
   -- the end of a run that leaves this world, none where an actor can step: asserted where an assert entry stands in it, else spent where a step
   -- above the limit exists, else complete, else stuck
   abbrev pub finish : List Entry → World → Option Finish
   finish es w =
-      cond (list_any (can_step w) actors) None
-      (Some (cond (list_any (λ e. is_asserted e.what) es) Asserted (cond (list_any (λ a. is_some (next_stamp w a)) actors) Spent (cond (is_complete w) Complete Stuck))))
+      cond (list_any (can_step w) (actors t program)) None
+      (Some (cond (list_any (λ e. is_asserted e.what) es) Asserted (cond (list_any (λ a. is_some (next_stamp w a)) (actors t program)) Spent (cond (is_complete w) Complete Stuck))))
 
   -- the entries are a run that ends so
   abbrev pub EndsAs : List Entry → Finish → Type 0

@@ -17,3 +17,5 @@ pub mod Ends
 pub mod Waits
 pub mod Worked
 pub mod FullQueue
+pub mod QueueOrder
+pub mod GuardOrder

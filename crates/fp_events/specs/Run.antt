@@ -1,5 +1,6 @@
 -- Runs of a topology by a program, the histories of its instances and the traces of its actors.
 use Rattle.std.specs.Prelude.{◌≡◌, ◌<◌, ℕ, suc, max, Bool, true, List, ◌∷◌, ◌++◌, length}
+use Rattle.std.specs.List.{range_with_len}
 use Rattle.std.specs.Ordering.{nat_cmp, ordering_then, is_lt}
 use Rattle.fp_system.specs.Run as system
 use Rattle.fp_tables.specs.declared.tables.Tables.{Tables}
@@ -39,6 +40,10 @@ abbrev pub HasStamp : ℕ → List Entry → Type 0
 HasStamp n es = system.HasStamp (λ e. e.stamp) n es
 
 module _ (t : Tables) (program : Program) where
+  -- the numbers of the actors: the callers, and then a dispatcher for each active instance
+  abbrev pub actors : List ℕ
+  actors = range_with_len 0 (actor_count t program)
+
   abbrev pub opening : World
   opening = system.opening (core t program)
 

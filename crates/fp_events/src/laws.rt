@@ -1,4 +1,4 @@
-ghost use Rattle.std.specs.Prelude.{◌≡◌, ◌<◌, ◌↔◌, ℕ, List, [], ◌∷◌, ◌++◌, nat_eq, is_some, not, true};
+ghost use Rattle.std.specs.Prelude.{◌≡◌, ◌<◌, ◌↔◌, ℕ, List, map, ◌∷◌, ◌++◌, nat_eq, is_some, not, true};
 ghost use Rattle.std.specs.List.{IsDistinct};
 ghost use Rattle.std.specs.List.Sorted.{IsSortedBy, IsStableBy};
 ghost use Rattle.fp_system.specs.System.{IsOneChange, IsTaking, Laws};
@@ -14,7 +14,7 @@ ghost use Rattle.fp_events.specs.Instance.{Inside};
 ghost use Rattle.fp_events.specs.Tells.{tells};
 ghost use Rattle.fp_events.specs.Fits.{fits};
 ghost use Rattle.fp_events.specs.Step.{core};
-ghost use Rattle.fp_events.specs.Run.{World, at, by, entry_lt, IsRising, HasStamp, RunTo, IsRun, IsKept, IsTold, Agree, AreRecords, history, trace};
+ghost use Rattle.fp_events.specs.Run.{World, actors, at, by, entry_lt, IsRising, HasStamp, RunTo, IsRun, IsKept, IsTold, Agree, AreRecords, history, trace};
 ghost use Rattle.fp_events.specs.Ends.{IsEnded, HasNoDueStep, EndsAs};
 ghost use Rattle.fp_events.specs.Waits.{is_there, waits};
 
@@ -32,7 +32,8 @@ pub fn prefixes()
         → IsRun tables program (before ++ rest) → IsRun tables program before }
 {}
 
-/// The entries of a run at an instance are a history of it, those of an actor are a trace of it, and these agree.
+/// The entries of a run at an instance are a history of it, those of an actor are a trace of it, and these agree, also when
+/// they are listed for the instances of the topology and the actors of the program.
 pub fn projections()
     ensures kept { (tables : Tables) (program : Program) (es : List Entry) → IsRun tables program es
         → (i : ℕ) → IsKept tables program i (at i es) }
@@ -40,6 +41,8 @@ pub fn projections()
         → (a : ℕ) → IsTold tables program a (by a es) }
     ensures agree { (tables : Tables) (program : Program) (es : List Entry) → IsRun tables program es
         → Agree tables program (λ i. at i es) (λ a. by a es) }
+    ensures records { (tables : Tables) (program : Program) (es : List Entry) → IsRun tables program es
+        → AreRecords tables program (map (λ i. at i es) (placed tables)) (map (λ a. by a es) (actors tables program)) }
 {}
 
 /// Stamps rise along a history and along a trace, and so in a run at each instance and by each actor.

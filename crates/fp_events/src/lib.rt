@@ -5,6 +5,7 @@ mod copy;
 mod event;
 mod full_queue;
 mod laws;
+mod orders;
 
 pub use event::{Arrival, Ask, Entry, Fate, Finish, Origin, Point, What, Why};
 pub use full_queue::full_queue_log;
@@ -12,3 +13,4 @@ pub use laws::{
     causes, decomposition, ends, fitting_entries, merging, outcomes, prefixes, projections,
     rising_stamps, steps,
 };
+pub use orders::{guard_order, queue_order};

@@ -3,7 +3,13 @@ use Rattle.fp_system.proofs.Scheduled.{schedule_run}
 use Rattle.fp_system.proofs.OfRun.{run_stamped}
 use Rattle.fp_system.proofs.Replay.{run_replayed}
 use Rattle.fp_tables.specs.declared.component.Full.TheVariants as full
-use Rattle.fp_events.specs.Step.{core}
+use Rattle.fp_events.specs.Due.{due}
+use Rattle.fp_events.specs.Follows.{follows}
+use Rattle.fp_events.specs.Tells.{tells}
+use Rattle.fp_events.specs.Leaves.{leaves}
+use Rattle.fp_events.specs.Answers.{answers}
+use Rattle.fp_events.specs.Fits.{fits, what_fits}
+use Rattle.fp_events.specs.Step.{instance_part, actor_part, core}
 use Rattle.fp_events.specs.Run.{opening}
 use Rattle.fp_events.specs.FullQueue.{full_queue, two_calls, arrival_with, first_put, second}
 use Rattle.fp_events.specs.declared.event.Entry.{Entry}
@@ -12,25 +18,25 @@ use Rattle.fp_events.proofs.StepLaws.{core_laws, core_taking}
 use Rattle.fp_events.proofs.full_queue.full_queue_log.Goals as goal
 
 pub returns-clause-drop : goal.returns-clause-drop
-unfolding Rattle.fp_events.specs.Step.instance_part Rattle.fp_events.specs.Step.actor_part Rattle.fp_events.specs.Fits.fits Rattle.fp_events.specs.Fits.what_fits Rattle.fp_events.specs.Tells.tells Rattle.fp_events.specs.Leaves.leaves Rattle.fp_events.specs.Due.due Rattle.fp_events.specs.Follows.follows Rattle.fp_events.specs.Answers.answers
+unfolding due follows tells leaves answers fits what_fits instance_part actor_part
 returns-clause-drop c =
     let tables = full_queue full.Dropped in
     (_, schedule_run (core tables two_calls) (core_taking tables two_calls) (0 ∷ 0 ∷ []) (opening tables two_calls) _ (first_put ∷ second what.Dropped ∷ []) refl, refl)
 
 pub returns-clause-hook : goal.returns-clause-hook
-unfolding Rattle.fp_events.specs.Step.instance_part Rattle.fp_events.specs.Step.actor_part Rattle.fp_events.specs.Fits.fits Rattle.fp_events.specs.Fits.what_fits Rattle.fp_events.specs.Tells.tells Rattle.fp_events.specs.Leaves.leaves Rattle.fp_events.specs.Due.due Rattle.fp_events.specs.Follows.follows Rattle.fp_events.specs.Answers.answers
+unfolding due follows tells leaves answers fits what_fits instance_part actor_part
 returns-clause-hook c =
     let tables = full_queue full.Hook in
     (_, schedule_run (core tables two_calls) (core_taking tables two_calls) (0 ∷ 0 ∷ []) (opening tables two_calls) _ (first_put ∷ second what.Hooked ∷ []) refl, refl)
 
 pub returns-clause-assert : goal.returns-clause-assert
-unfolding Rattle.fp_events.specs.Step.instance_part Rattle.fp_events.specs.Step.actor_part Rattle.fp_events.specs.Fits.fits Rattle.fp_events.specs.Fits.what_fits Rattle.fp_events.specs.Tells.tells Rattle.fp_events.specs.Leaves.leaves Rattle.fp_events.specs.Due.due Rattle.fp_events.specs.Follows.follows Rattle.fp_events.specs.Answers.answers
+unfolding due follows tells leaves answers fits what_fits instance_part actor_part
 returns-clause-assert c =
     let tables = full_queue full.Assert in
     (_, schedule_run (core tables two_calls) (core_taking tables two_calls) (0 ∷ 0 ∷ []) (opening tables two_calls) _ (first_put ∷ second what.Asserted ∷ []) refl, refl)
 
 pub returns-clause-block : goal.returns-clause-block
-unfolding Rattle.fp_events.specs.Step.instance_part Rattle.fp_events.specs.Step.actor_part Rattle.fp_events.specs.Fits.fits Rattle.fp_events.specs.Fits.what_fits Rattle.fp_events.specs.Tells.tells Rattle.fp_events.specs.Leaves.leaves Rattle.fp_events.specs.Due.due Rattle.fp_events.specs.Follows.follows Rattle.fp_events.specs.Answers.answers
+unfolding due follows tells leaves answers fits what_fits instance_part actor_part
 returns-clause-block c =
     let tables = full_queue full.Block in
     (_, schedule_run (core tables two_calls) (core_taking tables two_calls) (0 ∷ []) (opening tables two_calls) _ (first_put ∷ []) refl, refl)
@@ -48,6 +54,6 @@ not_dropped h =
     absurd (cc)
 
 pub returns-clause-other_policy : goal.returns-clause-other_policy
-unfolding Rattle.fp_events.specs.Step.instance_part Rattle.fp_events.specs.Step.actor_part Rattle.fp_events.specs.Fits.fits Rattle.fp_events.specs.Fits.what_fits Rattle.fp_events.specs.Tells.tells Rattle.fp_events.specs.Leaves.leaves Rattle.fp_events.specs.Due.due Rattle.fp_events.specs.Follows.follows Rattle.fp_events.specs.Answers.answers
+unfolding due follows tells leaves answers fits what_fits instance_part actor_part
 returns-clause-other_policy c = λ h.
     not_dropped (run_replayed (core (full_queue full.Assert) two_calls) (first_put ∷ second what.Dropped ∷ []) h)
