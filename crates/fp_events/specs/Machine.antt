@@ -25,6 +25,10 @@ stays actions leaf asked = record { actions = actions; reached = record { leaf =
 abbrev pub first_these : List ℕ → Walk → Walk
 first_these actions w = record { actions = actions ++ w.actions; reached = w.reached }
 
+-- initial transitions and branches have a target
+abbrev pub target_of : Step → ℕ
+target_of step = unwrap_or step.target 0
+
 -- the answer to the k-th asking, from 0 on: after the last one the last again, true where there is none
 abbrev pub answer_at : List Bool → ℕ → Bool
 answer_at [] k = true
@@ -48,7 +52,7 @@ abbrev pub transitions_of : Node → List On
 transitions_of (State initial entry exit transitions) = transitions
 transitions_of (Choice guard positive negative) = []
 
-module _ (m : Machine) (answers : ℕ → List Bool) where
+module _ (m : Machine) where
   abbrev pub node : ℕ → Option Node
   node v = option_map (λ (x : Vertex). x.node) (slice_get m.vertices v)
 
@@ -76,33 +80,40 @@ module _ (m : Machine) (answers : ℕ → List Bool) where
       let inside : ℕ → Bool = λ v. not (is_in v around && is_in v (upward (parent target))) in
       lists exit_of (filter inside source) ++ actions ++ lists entry_of (reverse (filter inside (upward (Some target))))
 
+  -- the transition on a signal of the nearest of these states, and that state
+  abbrev pub nearest : ℕ → List ℕ → Option (ℕ × On)
+  nearest signal [] = None
+  nearest signal (v ∷ vs) = option_or (option_map (λ o. (v, o)) (option_and_then (λ x. find (λ o. o.signal == signal) (transitions_of x)) (node v))) (nearest signal vs)
+
+  -- no guard was asked yet
+  abbrev pub unasked : List ℕ
+  unasked = replicate (length m.guards) 0
+
+  -- each initial transition and each branch goes to a vertex of lower rank
+  pub record IsRanked (rank : ℕ → ℕ) : Type 0 where
+    pub initial : (v : ℕ) (step : Step) (entry exit : List ℕ) (transitions : List On) → node v ≡ Some (State (Some step) entry exit transitions) → rank (target_of step) < rank v
+    pub branches : (v guard : ℕ) (positive negative : Step) → node v ≡ Some (Choice guard positive negative) → (rank (target_of positive) < rank v) × (rank (target_of negative) < rank v)
+
+module _ (m : Machine) (answers : ℕ → List Bool) where
   abbrev pub answer : List ℕ → ℕ → Bool
   answer asked guard = answer_at (answers guard) (get_or asked guard 0)
 
   abbrev pub ask : List ℕ → ℕ → List ℕ
   ask asked guard = set asked guard (suc (get_or asked guard 0))
 
-  abbrev pub target_of : Step → ℕ
-  target_of step = unwrap_or step.target 0
-
   -- on from a target: by the initial transition of a state that has one, by the branch of a choice that its guard tells
   abbrev pub onward : (List ℕ → List ℕ → Step → List ℕ → Walk) → ℕ → List ℕ → Option Node → Walk
   onward again target asked None = stays [] target asked
   onward again target asked (Some (State None entry exit transitions)) = stays [] target asked
-  onward again target asked (Some (State (Some initial) entry exit transitions)) = again (upward (Some target)) (upward (Some target)) initial asked
+  onward again target asked (Some (State (Some initial) entry exit transitions)) = again (upward m (Some target)) (upward m (Some target)) initial asked
   onward again target asked (Some (Choice guard positive negative)) =
-      again (upward (parent target)) (upward (parent target)) (cond (answer asked guard) positive negative) (ask asked guard)
+      again (upward m (parent m target)) (upward m (parent m target)) (cond (answer asked guard) positive negative) (ask asked guard)
 
   -- to the target of a step, and on from there. No vertex comes twice on the way, since initial transitions go inward and choices don't go
   -- round: so as many crossings as there are vertices, which the first argument counts, are enough
   abbrev pub goes : ℕ → List ℕ → List ℕ → Step → List ℕ → Walk
   goes zero around source step asked = stays [] (target_of step) asked
-  goes (suc n) around source step asked = first_these (crossing around source step.actions (target_of step)) (onward (goes n) (target_of step) asked (node (target_of step)))
-
-  -- the transition on a signal of the nearest of these states, and that state
-  abbrev pub nearest : ℕ → List ℕ → Option (ℕ × On)
-  nearest signal [] = None
-  nearest signal (v ∷ vs) = option_or (option_map (λ o. (v, o)) (option_and_then (λ x. find (λ o. o.signal == signal) (transitions_of x)) (node v))) (nearest signal vs)
+  goes (suc n) around source step asked = first_these (crossing m around source step.actions (target_of step)) (onward (goes n) (target_of step) asked (node m (target_of step)))
 
   -- a transition that state v declares, with the leaf as source: without a target nothing is left or entered
   abbrev pub transits : ℕ → Step → ℕ → List ℕ → Walk
@@ -110,19 +121,16 @@ module _ (m : Machine) (answers : ℕ → List Bool) where
     where
       by : Option ℕ → Walk
       by None = stays step.actions leaf asked
-      by (Some target) = goes (length m.vertices) (upward (parent v)) (upward (Some leaf)) step asked
-
-  abbrev pub unasked : List ℕ
-  unasked = replicate (length m.guards) 0
+      by (Some target) = goes (length m.vertices) (upward m (parent m v)) (upward m (Some leaf)) step asked
 
   -- the initial transition of the machine
   abbrev pub starts : Walk
-  starts = unwrap_or (option_map (λ step. goes (length m.vertices) [] [] step unasked) m.initial) (stays [] 0 unasked)
+  starts = unwrap_or (option_map (λ step. goes (length m.vertices) [] [] step (unasked m)) m.initial) (stays [] 0 (unasked m))
 
   -- the transition on the signal of the nearest state from the leaf upward. Where there is none, or its guard answers false, there are no actions and
   -- the leaf stays
   abbrev pub moves : Configuration → ℕ → Walk
-  moves c signal = by (nearest signal (upward (Some c.leaf)))
+  moves c signal = by (nearest m signal (upward m (Some c.leaf)))
     where
       guarded : ℕ → Step → Option ℕ → Walk
       guarded v step None = transits v step c.leaf c.asked
@@ -131,8 +139,3 @@ module _ (m : Machine) (answers : ℕ → List Bool) where
       by : Option (ℕ × On) → Walk
       by None = stays [] c.leaf c.asked
       by (Some found) = guarded found.0 found.1.step found.1.guard
-
-  -- each initial transition and each branch goes to a vertex of lower rank
-  pub record IsRanked (rank : ℕ → ℕ) : Type 0 where
-    pub initial : (v : ℕ) (step : Step) (entry exit : List ℕ) (transitions : List On) → node v ≡ Some (State (Some step) entry exit transitions) → rank (target_of step) < rank v
-    pub branches : (v guard : ℕ) (positive negative : Step) → node v ≡ Some (Choice guard positive negative) → (rank (target_of positive) < rank v) × (rank (target_of negative) < rank v)

@@ -1,15 +1,18 @@
-ghost use Rattle.std.specs.Prelude.{◌≡◌, ◌<◌, ◌↔◌, ℕ, List, map, ◌∷◌, ◌++◌, nat_eq, is_some, not, true};
+ghost use Rattle.std.specs.Prelude.{◌≡◌, ◌<◌, ◌≤◌, ◌↔◌, ℕ, Bool, Some, List, map, length, ◌∷◌, ◌++◌, nat_eq, is_some, not, true};
 ghost use Rattle.std.specs.List.{IsDistinct};
 ghost use Rattle.std.specs.List.Sorted.{IsSortedBy, IsStableBy};
 ghost use Rattle.fp_system.specs.System.{IsOneChange, IsTaking, Laws};
 ghost use Rattle.fp_system.specs.Run.{joined};
 ghost use Rattle.fp_tables.specs.declared.tables.Tables.{Tables};
+ghost use Rattle.fp_tables.specs.declared.machine.Machine.{Machine};
+ghost use Rattle.fp_tables.specs.declared.machine.Step.{Step};
 ghost use Rattle.fp_tables.specs.declared.program.Program.{Program};
 ghost use Rattle.fp_events.specs.declared.event.Ask.{Ask};
 ghost use Rattle.fp_events.specs.declared.event.Entry.{Entry};
 ghost use Rattle.fp_events.specs.declared.event.Finish.{Finish};
 ghost use Rattle.fp_events.specs.declared.event.Finish.TheVariants.{Spent};
 ghost use Rattle.fp_events.specs.Lookup.{placed};
+ghost use Rattle.fp_events.specs.Machine.{IsRanked, climb, goes, parent, target_of, upward};
 ghost use Rattle.fp_events.specs.Instance.{Inside};
 ghost use Rattle.fp_events.specs.Tells.{tells};
 ghost use Rattle.fp_events.specs.Fits.{fits};
@@ -104,4 +107,15 @@ pub fn fitting_entries()
 pub fn causes()
     ensures { (tables : Tables) (program : Program) (i : ℕ) (inside : Inside) (ask : Ask) → is_there tables i inside ask ≡ true
         → is_some (tells tables program i inside ask) ≡ not (is_some (waits tables i inside ask)) }
+{}
+
+/// A machine's walks end by themselves: where parents stand before their children, and initial transitions and branches go to
+/// vertices of lower rank, more steps than there are vertices change nothing.
+pub fn walks()
+    ensures upward { (m : Machine) → ((v p : ℕ) → parent m v ≡ Some p → p < v)
+        → (n v : ℕ) → v < length m.vertices → length m.vertices ≤ n → climb m n (Some v) ≡ upward m (Some v) }
+    ensures onward { (m : Machine) (answers : ℕ → List Bool) (rank : ℕ → ℕ) → IsRanked m rank
+        → (n : ℕ) (around source : List ℕ) (step : Step) (asked : List ℕ)
+        → rank (target_of step) < length m.vertices → length m.vertices ≤ n
+        → goes m answers n around source step asked ≡ goes m answers (length m.vertices) around source step asked }
 {}

@@ -11,6 +11,9 @@ pub use event::{Arrival, Ask, Entry, Fate, Finish, Origin, Point, What, Why};
 pub use full_queue::full_queue_log;
 pub use laws::{
     causes, decomposition, ends, fitting_entries, merging, outcomes, prefixes, projections,
-    rising_stamps, steps,
+    rising_stamps, steps, walks,
 };
 pub use orders::{guard_order, queue_order};
+
+#[cfg(test)]
+mod tests;
