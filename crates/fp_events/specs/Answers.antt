@@ -61,9 +61,12 @@ suits (Some (by (Later priority policy))) (what.Asserted r) = true
 suits _ _ = false
 
 module _ (t : Tables) where
+  -- the rendered text of an event with these values
   abbrev pub text_of_event : ℕ → ℕ → List Value → List ℕ
   text_of_event i event with = unwrap_or (option_map (λ x. rendered x.fields.parts with) (slice_get (component t i).events event)) []
 
+  -- an arrival is answered by an entry with it, of a kind that its place can have; the other asks by an entry of their own kind with the returned value,
+  -- the event and its text, the channel and the value, the parameter, the machine, and for a move the signal
   unfoldable pub answers : ℕ → What → Ask → Bool
   answers i w (ask.Arrive q) = same_option same_arrival (arrival_in w) (Some q) && suits (manner t i q.point) w
   answers i (what.Leave v) (ask.Leave w) = same_option same v w

@@ -103,7 +103,7 @@ pub fn fitting_entries()
         → fits tables program e.actor e.instance e.what ≡ true }
 {}
 
-/// An ask of what is there has a step exactly where no cause stands against it.
+/// The instance tells an entry for an ask of what is there exactly where no cause stands against it.
 pub fn causes()
     ensures { (tables : Tables) (program : Program) (i : ℕ) (inside : Inside) (ask : Ask) → is_there tables i inside ask ≡ true
         → is_some (tells tables program i inside ask) ≡ not (is_some (waits tables i inside ask)) }
