@@ -27,37 +27,37 @@ tables = record {
     types = [];
     ports = (record { name = codes "P"; formals = []; result = None }) ∷ [];
     components =
-      (record {
-        name = codes "A";
-        queueing = queueing.Passive;
-        ports =
-          (record { name = codes "g"; role = role.Input way.Guarded; size = 1; of = Some 0; formals = [] }) ∷
-          (record { name = codes "s"; role = role.Input way.Sync; size = 1; of = Some 0; formals = [] }) ∷
-          [];
-        commands = [];
-        events = [];
-        channels = [];
-        params = [];
-        matches = [];
-        machines = [];
-      }) ∷
-      (record {
-        name = codes "B";
-        queueing = queueing.Passive;
-        ports = (record { name = codes "i"; role = role.Input way.Sync; size = 1; of = Some 0; formals = [] }) ∷ [];
-        commands = [];
-        events = [];
-        channels = [];
-        params = [];
-        matches = [];
-        machines = [];
-      }) ∷
-      [];
+        (record {
+          name = codes "A";
+          queueing = queueing.Passive;
+          ports =
+              (record { name = codes "g"; role = role.Input way.Guarded; size = 1; of = Some 0; formals = [] }) ∷
+              (record { name = codes "s"; role = role.Input way.Sync; size = 1; of = Some 0; formals = [] }) ∷
+              [];
+          commands = [];
+          events = [];
+          channels = [];
+          params = [];
+          matches = [];
+          machines = [];
+        }) ∷
+        (record {
+          name = codes "B";
+          queueing = queueing.Passive;
+          ports = (record { name = codes "i"; role = role.Input way.Sync; size = 1; of = Some 0; formals = [] }) ∷ [];
+          commands = [];
+          events = [];
+          channels = [];
+          params = [];
+          matches = [];
+          machines = [];
+        }) ∷
+        [];
     machines = [];
     instances =
-      (record { name = codes "a"; component = 0; base = 0; queue = None; stack = None; priority = None; cpu = None }) ∷
-      (record { name = codes "b"; component = 1; base = 1; queue = None; stack = None; priority = None; cpu = None }) ∷
-      [];
+        (record { name = codes "a"; component = 0; base = 0; queue = None; stack = None; priority = None; cpu = None }) ∷
+        (record { name = codes "b"; component = 1; base = 1; queue = None; stack = None; priority = None; cpu = None }) ∷
+        [];
     topologies = (record { name = codes "T"; instances = 0 ∷ 1 ∷ []; links = []; wires = [] }) ∷ [];
     order = [];
   };
@@ -68,23 +68,23 @@ abbrev program : Program
 program = record {
   steps = 10000;
   callers =
-    (record {
-      name = codes "k0";
-      acts = (record { verb = verb.Call; subject = record { instance = 0; port = 1; number = 0 }; name = 0; with = []; bind = None }) ∷ [];
-    }) ∷
-    (record {
-      name = codes "k1";
-      acts = (record { verb = verb.Call; subject = record { instance = 1; port = 0; number = 0 }; name = 0; with = []; bind = None }) ∷ [];
-    }) ∷
-    (record {
-      name = codes "k2";
-      acts = (record { verb = verb.Call; subject = record { instance = 0; port = 0; number = 0 }; name = 0; with = []; bind = None }) ∷ [];
-    }) ∷
-    (record {
-      name = codes "k3";
-      acts = (record { verb = verb.Call; subject = record { instance = 0; port = 0; number = 0 }; name = 0; with = []; bind = None }) ∷ [];
-    }) ∷
-    [];
+      (record {
+        name = codes "k0";
+        acts = (record { verb = verb.Call; subject = record { instance = 0; port = 1; number = 0 }; name = 0; with = []; bind = None }) ∷ [];
+      }) ∷
+      (record {
+        name = codes "k1";
+        acts = (record { verb = verb.Call; subject = record { instance = 1; port = 0; number = 0 }; name = 0; with = []; bind = None }) ∷ [];
+      }) ∷
+      (record {
+        name = codes "k2";
+        acts = (record { verb = verb.Call; subject = record { instance = 0; port = 0; number = 0 }; name = 0; with = []; bind = None }) ∷ [];
+      }) ∷
+      (record {
+        name = codes "k3";
+        acts = (record { verb = verb.Call; subject = record { instance = 0; port = 0; number = 0 }; name = 0; with = []; bind = None }) ∷ [];
+      }) ∷
+      [];
   handlers = [];
   answers = [];
 }

@@ -30,41 +30,41 @@ tables = record {
     types = [];
     ports = (record { name = codes "P"; formals = []; result = None }) ∷ [];
     components =
-      (record {
-        name = codes "C";
-        queueing = queueing.Active;
-        ports = (record { name = codes "go"; role = role.Input way.Sync; size = 1; of = Some 0; formals = [] }) ∷ [];
-        commands = [];
-        events = [];
-        channels = [];
-        params = [];
-        matches = [];
-        machines = (record { name = codes "m"; machine = 0; way = way.Later (pos 0) full.Assert }) ∷ [];
-      }) ∷
-      [];
+        (record {
+          name = codes "C";
+          queueing = queueing.Active;
+          ports = (record { name = codes "go"; role = role.Input way.Sync; size = 1; of = Some 0; formals = [] }) ∷ [];
+          commands = [];
+          events = [];
+          channels = [];
+          params = [];
+          matches = [];
+          machines = (record { name = codes "m"; machine = 0; way = way.Later (pos 0) full.Assert }) ∷ [];
+        }) ∷
+        [];
     machines =
-      (record {
-        name = codes "M";
-        external = false;
-        signals = (record { name = codes "s"; kind = None }) ∷ [];
-        actions = [];
-        guards = (record { name = codes "g"; kind = None }) ∷ [];
-        initial = Some (record { actions = []; target = Some 0 });
-        vertices =
-          (record {
-            name = codes "A";
-            parent = None;
-            node = node.State None [] [] ((record { signal = 0; guard = None; step = record { actions = []; target = Some 2 } }) ∷ []);
-          }) ∷
-          (record { name = codes "B"; parent = None; node = node.State None [] [] [] }) ∷
-          (record {
-            name = codes "X";
-            parent = None;
-            node = node.Choice 0 (record { actions = []; target = Some 1 }) (record { actions = []; target = Some 0 });
-          }) ∷
-          [];
-      }) ∷
-      [];
+        (record {
+          name = codes "M";
+          external = false;
+          signals = (record { name = codes "s"; kind = None }) ∷ [];
+          actions = [];
+          guards = (record { name = codes "g"; kind = None }) ∷ [];
+          initial = Some (record { actions = []; target = Some 0 });
+          vertices =
+              (record {
+                name = codes "A";
+                parent = None;
+                node = node.State None [] [] ((record { signal = 0; guard = None; step = record { actions = []; target = Some 2 } }) ∷ []);
+              }) ∷
+              (record { name = codes "B"; parent = None; node = node.State None [] [] [] }) ∷
+              (record {
+                name = codes "X";
+                parent = None;
+                node = node.Choice 0 (record { actions = []; target = Some 1 }) (record { actions = []; target = Some 0 });
+              }) ∷
+              [];
+        }) ∷
+        [];
     instances = (record { name = codes "c"; component = 0; base = 0; queue = Some 4; stack = None; priority = None; cpu = None }) ∷ [];
     topologies = (record { name = codes "T"; instances = 0 ∷ []; links = []; wires = [] }) ∷ [];
     order = [];
@@ -76,23 +76,23 @@ abbrev program : Program
 program = record {
   steps = 10000;
   callers =
-    (record {
-      name = codes "k";
-      acts =
-        (record { verb = verb.Call; subject = record { instance = 0; port = 0; number = 0 }; name = 0; with = []; bind = None }) ∷
-        (record { verb = verb.Call; subject = record { instance = 0; port = 0; number = 0 }; name = 0; with = []; bind = None }) ∷
-        [];
-    }) ∷
-    [];
+      (record {
+        name = codes "k";
+        acts =
+            (record { verb = verb.Call; subject = record { instance = 0; port = 0; number = 0 }; name = 0; with = []; bind = None }) ∷
+            (record { verb = verb.Call; subject = record { instance = 0; port = 0; number = 0 }; name = 0; with = []; bind = None }) ∷
+            [];
+      }) ∷
+      [];
   handlers =
-    (record {
-      instance = 0;
-      place = spot.Port 0;
-      acts =
-        (record { verb = verb.Signal; subject = record { instance = 0; port = 0; number = 0 }; name = 0; with = []; bind = None }) ∷
-        [];
-    }) ∷
-    [];
+      (record {
+        instance = 0;
+        place = spot.Port 0;
+        acts =
+            (record { verb = verb.Signal; subject = record { instance = 0; port = 0; number = 0 }; name = 0; with = []; bind = None }) ∷
+            [];
+      }) ∷
+      [];
   answers = (record { instance = 0; running = 0; guard = 0; given = false ∷ true ∷ [] }) ∷ [];
 }
 

@@ -36,244 +36,244 @@ tables = record {
   model = record {
     constants = [];
     types =
-      (record { name = codes "Fw.CmdArgs"; form = form.Abstract; default = value.Opaque; note = [] }) ∷
-      (record {
-        name = codes "Fw.Response";
-        form = form.Enum kind.I32 (
-          (record { name = codes "OK"; value = value.Enumerated (codes "Fw.Response") (codes "OK") (pos 0); note = [] }) ∷
-          (record { name = codes "FAIL"; value = value.Enumerated (codes "Fw.Response") (codes "FAIL") (pos 1); note = [] }) ∷
-          []);
-        default = value.Enumerated (codes "Fw.Response") (codes "OK") (pos 0);
-        note = [];
-      }) ∷
-      [];
+        (record { name = codes "Fw.CmdArgs"; form = form.Abstract; default = value.Opaque; note = [] }) ∷
+        (record {
+          name = codes "Fw.Response";
+          form = form.Enum kind.I32 (
+              (record { name = codes "OK"; value = value.Enumerated (codes "Fw.Response") (codes "OK") (pos 0); note = [] }) ∷
+              (record { name = codes "FAIL"; value = value.Enumerated (codes "Fw.Response") (codes "FAIL") (pos 1); note = [] }) ∷
+              []);
+          default = value.Enumerated (codes "Fw.Response") (codes "OK") (pos 0);
+          note = [];
+        }) ∷
+        [];
     ports =
-      (record {
-        name = codes "Fw.Cmd";
-        formals =
-          (record { name = codes "opCode"; kind = kind.U32; by_ref = false; note = [] }) ∷
-          (record { name = codes "args"; kind = kind.Named 0; by_ref = true; note = [] }) ∷
-          [];
-        result = None;
-      }) ∷
-      (record {
-        name = codes "Fw.CmdReg";
-        formals = (record { name = codes "opCode"; kind = kind.U32; by_ref = false; note = [] }) ∷ [];
-        result = None;
-      }) ∷
-      (record {
-        name = codes "Fw.CmdResponse";
-        formals =
-          (record { name = codes "opCode"; kind = kind.U32; by_ref = false; note = [] }) ∷
-          (record { name = codes "response"; kind = kind.Named 1; by_ref = false; note = [] }) ∷
-          [];
-        result = None;
-      }) ∷
-      (record {
-        name = codes "Fw.Log";
-        formals = (record { name = codes "n"; kind = kind.U32; by_ref = false; note = [] }) ∷ [];
-        result = None;
-      }) ∷
-      (record {
-        name = codes "Fw.LogText";
-        formals = (record { name = codes "n"; kind = kind.U32; by_ref = false; note = [] }) ∷ [];
-        result = None;
-      }) ∷
-      (record { name = codes "Fw.Time"; formals = []; result = None }) ∷
-      (record {
-        name = codes "Fw.Tlm";
-        formals = (record { name = codes "n"; kind = kind.U32; by_ref = false; note = [] }) ∷ [];
-        result = None;
-      }) ∷
-      (record { name = codes "D.G"; formals = []; result = None }) ∷
-      [];
+        (record {
+          name = codes "Fw.Cmd";
+          formals =
+              (record { name = codes "opCode"; kind = kind.U32; by_ref = false; note = [] }) ∷
+              (record { name = codes "args"; kind = kind.Named 0; by_ref = true; note = [] }) ∷
+              [];
+          result = None;
+        }) ∷
+        (record {
+          name = codes "Fw.CmdReg";
+          formals = (record { name = codes "opCode"; kind = kind.U32; by_ref = false; note = [] }) ∷ [];
+          result = None;
+        }) ∷
+        (record {
+          name = codes "Fw.CmdResponse";
+          formals =
+              (record { name = codes "opCode"; kind = kind.U32; by_ref = false; note = [] }) ∷
+              (record { name = codes "response"; kind = kind.Named 1; by_ref = false; note = [] }) ∷
+              [];
+          result = None;
+        }) ∷
+        (record {
+          name = codes "Fw.Log";
+          formals = (record { name = codes "n"; kind = kind.U32; by_ref = false; note = [] }) ∷ [];
+          result = None;
+        }) ∷
+        (record {
+          name = codes "Fw.LogText";
+          formals = (record { name = codes "n"; kind = kind.U32; by_ref = false; note = [] }) ∷ [];
+          result = None;
+        }) ∷
+        (record { name = codes "Fw.Time"; formals = []; result = None }) ∷
+        (record {
+          name = codes "Fw.Tlm";
+          formals = (record { name = codes "n"; kind = kind.U32; by_ref = false; note = [] }) ∷ [];
+          result = None;
+        }) ∷
+        (record { name = codes "D.G"; formals = []; result = None }) ∷
+        [];
     components =
-      (record {
-        name = codes "D.Dispatcher";
-        queueing = queueing.Active;
-        ports =
-          (record {
-            name = codes "regIn";
-            role = role.Input way.Sync;
-            size = 2;
-            of = Some 1;
-            formals = (record { name = codes "opCode"; kind = kind.U32; by_ref = false; note = [] }) ∷ [];
-          }) ∷
-          (record {
-            name = codes "cmdOut";
-            role = role.Output;
-            size = 2;
-            of = Some 0;
-            formals =
-              (record { name = codes "opCode"; kind = kind.U32; by_ref = false; note = [] }) ∷
-              (record { name = codes "args"; kind = kind.Named 0; by_ref = true; note = [] }) ∷
+        (record {
+          name = codes "D.Dispatcher";
+          queueing = queueing.Active;
+          ports =
+              (record {
+                name = codes "regIn";
+                role = role.Input way.Sync;
+                size = 2;
+                of = Some 1;
+                formals = (record { name = codes "opCode"; kind = kind.U32; by_ref = false; note = [] }) ∷ [];
+              }) ∷
+              (record {
+                name = codes "cmdOut";
+                role = role.Output;
+                size = 2;
+                of = Some 0;
+                formals =
+                    (record { name = codes "opCode"; kind = kind.U32; by_ref = false; note = [] }) ∷
+                    (record { name = codes "args"; kind = kind.Named 0; by_ref = true; note = [] }) ∷
+                    [];
+              }) ∷
+              (record {
+                name = codes "status";
+                role = role.Input (way.Later (pos 0) full.Assert);
+                size = 2;
+                of = Some 2;
+                formals =
+                    (record { name = codes "opCode"; kind = kind.U32; by_ref = false; note = [] }) ∷
+                    (record { name = codes "response"; kind = kind.Named 1; by_ref = false; note = [] }) ∷
+                    [];
+              }) ∷
+              (record { name = codes "go"; role = role.Input (way.Later (pos 0) full.Assert); size = 1; of = Some 7; formals = [] }) ∷
               [];
-          }) ∷
-          (record {
-            name = codes "status";
-            role = role.Input (way.Later (pos 0) full.Assert);
-            size = 2;
-            of = Some 2;
-            formals =
-              (record { name = codes "opCode"; kind = kind.U32; by_ref = false; note = [] }) ∷
-              (record { name = codes "response"; kind = kind.Named 1; by_ref = false; note = [] }) ∷
+          commands = [];
+          events = [];
+          channels = [];
+          params = [];
+          matches = [];
+          machines = [];
+        }) ∷
+        (record {
+          name = codes "D.Sinks";
+          queueing = queueing.Passive;
+          ports =
+              (record {
+                name = codes "logIn";
+                role = role.Input way.Sync;
+                size = 1;
+                of = Some 3;
+                formals = (record { name = codes "n"; kind = kind.U32; by_ref = false; note = [] }) ∷ [];
+              }) ∷
+              (record {
+                name = codes "textIn";
+                role = role.Input way.Sync;
+                size = 1;
+                of = Some 4;
+                formals = (record { name = codes "n"; kind = kind.U32; by_ref = false; note = [] }) ∷ [];
+              }) ∷
+              (record {
+                name = codes "tlmIn";
+                role = role.Input way.Sync;
+                size = 1;
+                of = Some 6;
+                formals = (record { name = codes "n"; kind = kind.U32; by_ref = false; note = [] }) ∷ [];
+              }) ∷
+              (record { name = codes "timeIn"; role = role.Input way.Sync; size = 1; of = Some 5; formals = [] }) ∷
               [];
-          }) ∷
-          (record { name = codes "go"; role = role.Input (way.Later (pos 0) full.Assert); size = 1; of = Some 7; formals = [] }) ∷
-          [];
-        commands = [];
-        events = [];
-        channels = [];
-        params = [];
-        matches = [];
-        machines = [];
-      }) ∷
-      (record {
-        name = codes "D.Sinks";
-        queueing = queueing.Passive;
-        ports =
-          (record {
-            name = codes "logIn";
-            role = role.Input way.Sync;
-            size = 1;
-            of = Some 3;
-            formals = (record { name = codes "n"; kind = kind.U32; by_ref = false; note = [] }) ∷ [];
-          }) ∷
-          (record {
-            name = codes "textIn";
-            role = role.Input way.Sync;
-            size = 1;
-            of = Some 4;
-            formals = (record { name = codes "n"; kind = kind.U32; by_ref = false; note = [] }) ∷ [];
-          }) ∷
-          (record {
-            name = codes "tlmIn";
-            role = role.Input way.Sync;
-            size = 1;
-            of = Some 6;
-            formals = (record { name = codes "n"; kind = kind.U32; by_ref = false; note = [] }) ∷ [];
-          }) ∷
-          (record { name = codes "timeIn"; role = role.Input way.Sync; size = 1; of = Some 5; formals = [] }) ∷
-          [];
-        commands = [];
-        events = [];
-        channels = [];
-        params = [];
-        matches = [];
-        machines = [];
-      }) ∷
-      (record {
-        name = codes "D.Worker";
-        queueing = queueing.Active;
-        ports =
-          (record {
-            name = codes "cmdIn";
-            role = role.Special special.CmdRecv;
-            size = 1;
-            of = Some 0;
-            formals =
-              (record { name = codes "opCode"; kind = kind.U32; by_ref = false; note = [] }) ∷
-              (record { name = codes "args"; kind = kind.Named 0; by_ref = true; note = [] }) ∷
+          commands = [];
+          events = [];
+          channels = [];
+          params = [];
+          matches = [];
+          machines = [];
+        }) ∷
+        (record {
+          name = codes "D.Worker";
+          queueing = queueing.Active;
+          ports =
+              (record {
+                name = codes "cmdIn";
+                role = role.Special special.CmdRecv;
+                size = 1;
+                of = Some 0;
+                formals =
+                    (record { name = codes "opCode"; kind = kind.U32; by_ref = false; note = [] }) ∷
+                    (record { name = codes "args"; kind = kind.Named 0; by_ref = true; note = [] }) ∷
+                    [];
+              }) ∷
+              (record {
+                name = codes "cmdReg";
+                role = role.Special special.CmdReg;
+                size = 1;
+                of = Some 1;
+                formals = (record { name = codes "opCode"; kind = kind.U32; by_ref = false; note = [] }) ∷ [];
+              }) ∷
+              (record {
+                name = codes "cmdResp";
+                role = role.Special special.CmdResp;
+                size = 1;
+                of = Some 2;
+                formals =
+                    (record { name = codes "opCode"; kind = kind.U32; by_ref = false; note = [] }) ∷
+                    (record { name = codes "response"; kind = kind.Named 1; by_ref = false; note = [] }) ∷
+                    [];
+              }) ∷
+              (record {
+                name = codes "log";
+                role = role.Special special.Event;
+                size = 1;
+                of = Some 3;
+                formals = (record { name = codes "n"; kind = kind.U32; by_ref = false; note = [] }) ∷ [];
+              }) ∷
+              (record {
+                name = codes "logText";
+                role = role.Special special.TextEvent;
+                size = 1;
+                of = Some 4;
+                formals = (record { name = codes "n"; kind = kind.U32; by_ref = false; note = [] }) ∷ [];
+              }) ∷
+              (record {
+                name = codes "tlm";
+                role = role.Special special.Tlm;
+                size = 1;
+                of = Some 6;
+                formals = (record { name = codes "n"; kind = kind.U32; by_ref = false; note = [] }) ∷ [];
+              }) ∷
+              (record { name = codes "clock"; role = role.Special special.Time; size = 1; of = Some 5; formals = [] }) ∷
               [];
-          }) ∷
-          (record {
-            name = codes "cmdReg";
-            role = role.Special special.CmdReg;
-            size = 1;
-            of = Some 1;
-            formals = (record { name = codes "opCode"; kind = kind.U32; by_ref = false; note = [] }) ∷ [];
-          }) ∷
-          (record {
-            name = codes "cmdResp";
-            role = role.Special special.CmdResp;
-            size = 1;
-            of = Some 2;
-            formals =
-              (record { name = codes "opCode"; kind = kind.U32; by_ref = false; note = [] }) ∷
-              (record { name = codes "response"; kind = kind.Named 1; by_ref = false; note = [] }) ∷
+          commands =
+              (record {
+                name = codes "RUN";
+                part = part.Plain;
+                way = way.Later (pos 0) full.Assert;
+                opcode = 0;
+                formals = (record { name = codes "n"; kind = kind.U8; by_ref = false; note = [] }) ∷ [];
+                note = [];
+              }) ∷
               [];
-          }) ∷
-          (record {
-            name = codes "log";
-            role = role.Special special.Event;
-            size = 1;
-            of = Some 3;
-            formals = (record { name = codes "n"; kind = kind.U32; by_ref = false; note = [] }) ∷ [];
-          }) ∷
-          (record {
-            name = codes "logText";
-            role = role.Special special.TextEvent;
-            size = 1;
-            of = Some 4;
-            formals = (record { name = codes "n"; kind = kind.U32; by_ref = false; note = [] }) ∷ [];
-          }) ∷
-          (record {
-            name = codes "tlm";
-            role = role.Special special.Tlm;
-            size = 1;
-            of = Some 6;
-            formals = (record { name = codes "n"; kind = kind.U32; by_ref = false; note = [] }) ∷ [];
-          }) ∷
-          (record { name = codes "clock"; role = role.Special special.Time; size = 1; of = Some 5; formals = [] }) ∷
-          [];
-        commands =
-          (record {
-            name = codes "RUN";
-            part = part.Plain;
-            way = way.Later (pos 0) full.Assert;
-            opcode = 0;
-            formals = (record { name = codes "n"; kind = kind.U8; by_ref = false; note = [] }) ∷ [];
-            note = [];
-          }) ∷
-          [];
-        events =
-          (record {
-            name = codes "Ran";
-            id = 0;
-            severity = 0;
-            formals = (record { name = codes "n"; kind = kind.U8; by_ref = false; note = [] }) ∷ [];
-            format = codes "ran {}";
-            fields = record { parts = piece.Plain (codes "ran ") ∷ piece.Any ∷ [] };
-            throttle = None;
-            note = [];
-          }) ∷
-          [];
-        channels = (record { name = codes "Count"; id = 0; kind = kind.U32; on_change = true; format = None; limits = []; note = [] }) ∷ [];
-        params = [];
-        matches = [];
-        machines = [];
-      }) ∷
-      [];
+          events =
+              (record {
+                name = codes "Ran";
+                id = 0;
+                severity = 0;
+                formals = (record { name = codes "n"; kind = kind.U8; by_ref = false; note = [] }) ∷ [];
+                format = codes "ran {}";
+                fields = record { parts = piece.Plain (codes "ran ") ∷ piece.Any ∷ [] };
+                throttle = None;
+                note = [];
+              }) ∷
+              [];
+          channels = (record { name = codes "Count"; id = 0; kind = kind.U32; on_change = true; format = None; limits = []; note = [] }) ∷ [];
+          params = [];
+          matches = [];
+          machines = [];
+        }) ∷
+        [];
     machines = [];
     instances =
-      (record { name = codes "D.disp"; component = 0; base = 256; queue = Some 10; stack = None; priority = None; cpu = None }) ∷
-      (record { name = codes "D.sinks"; component = 1; base = 512; queue = None; stack = None; priority = None; cpu = None }) ∷
-      (record { name = codes "D.w1"; component = 2; base = 768; queue = Some 5; stack = None; priority = None; cpu = None }) ∷
-      (record { name = codes "D.w2"; component = 2; base = 1024; queue = Some 5; stack = None; priority = None; cpu = None }) ∷
-      [];
+        (record { name = codes "D.disp"; component = 0; base = 256; queue = Some 10; stack = None; priority = None; cpu = None }) ∷
+        (record { name = codes "D.sinks"; component = 1; base = 512; queue = None; stack = None; priority = None; cpu = None }) ∷
+        (record { name = codes "D.w1"; component = 2; base = 768; queue = Some 5; stack = None; priority = None; cpu = None }) ∷
+        (record { name = codes "D.w2"; component = 2; base = 1024; queue = Some 5; stack = None; priority = None; cpu = None }) ∷
+        [];
     topologies =
-      (record {
-        name = codes "D.Main";
-        instances = 0 ∷ 1 ∷ 2 ∷ 3 ∷ [];
-        links = [];
-        wires =
-          (record { from = record { instance = 0; port = 1; number = 0 }; to = record { instance = 2; port = 0; number = 0 } }) ∷
-          (record { from = record { instance = 0; port = 1; number = 1 }; to = record { instance = 3; port = 0; number = 0 } }) ∷
-          (record { from = record { instance = 2; port = 6; number = 0 }; to = record { instance = 1; port = 3; number = 0 } }) ∷
-          (record { from = record { instance = 2; port = 1; number = 0 }; to = record { instance = 0; port = 0; number = 0 } }) ∷
-          (record { from = record { instance = 2; port = 2; number = 0 }; to = record { instance = 0; port = 2; number = 0 } }) ∷
-          (record { from = record { instance = 2; port = 3; number = 0 }; to = record { instance = 1; port = 0; number = 0 } }) ∷
-          (record { from = record { instance = 2; port = 4; number = 0 }; to = record { instance = 1; port = 1; number = 0 } }) ∷
-          (record { from = record { instance = 2; port = 5; number = 0 }; to = record { instance = 1; port = 2; number = 0 } }) ∷
-          (record { from = record { instance = 3; port = 6; number = 0 }; to = record { instance = 1; port = 3; number = 0 } }) ∷
-          (record { from = record { instance = 3; port = 1; number = 0 }; to = record { instance = 0; port = 0; number = 1 } }) ∷
-          (record { from = record { instance = 3; port = 2; number = 0 }; to = record { instance = 0; port = 2; number = 0 } }) ∷
-          (record { from = record { instance = 3; port = 3; number = 0 }; to = record { instance = 1; port = 0; number = 0 } }) ∷
-          (record { from = record { instance = 3; port = 4; number = 0 }; to = record { instance = 1; port = 1; number = 0 } }) ∷
-          (record { from = record { instance = 3; port = 5; number = 0 }; to = record { instance = 1; port = 2; number = 0 } }) ∷
-          [];
-      }) ∷
-      [];
+        (record {
+          name = codes "D.Main";
+          instances = 0 ∷ 1 ∷ 2 ∷ 3 ∷ [];
+          links = [];
+          wires =
+              (record { from = record { instance = 0; port = 1; number = 0 }; to = record { instance = 2; port = 0; number = 0 } }) ∷
+              (record { from = record { instance = 0; port = 1; number = 1 }; to = record { instance = 3; port = 0; number = 0 } }) ∷
+              (record { from = record { instance = 2; port = 6; number = 0 }; to = record { instance = 1; port = 3; number = 0 } }) ∷
+              (record { from = record { instance = 2; port = 1; number = 0 }; to = record { instance = 0; port = 0; number = 0 } }) ∷
+              (record { from = record { instance = 2; port = 2; number = 0 }; to = record { instance = 0; port = 2; number = 0 } }) ∷
+              (record { from = record { instance = 2; port = 3; number = 0 }; to = record { instance = 1; port = 0; number = 0 } }) ∷
+              (record { from = record { instance = 2; port = 4; number = 0 }; to = record { instance = 1; port = 1; number = 0 } }) ∷
+              (record { from = record { instance = 2; port = 5; number = 0 }; to = record { instance = 1; port = 2; number = 0 } }) ∷
+              (record { from = record { instance = 3; port = 6; number = 0 }; to = record { instance = 1; port = 3; number = 0 } }) ∷
+              (record { from = record { instance = 3; port = 1; number = 0 }; to = record { instance = 0; port = 0; number = 1 } }) ∷
+              (record { from = record { instance = 3; port = 2; number = 0 }; to = record { instance = 0; port = 2; number = 0 } }) ∷
+              (record { from = record { instance = 3; port = 3; number = 0 }; to = record { instance = 1; port = 0; number = 0 } }) ∷
+              (record { from = record { instance = 3; port = 4; number = 0 }; to = record { instance = 1; port = 1; number = 0 } }) ∷
+              (record { from = record { instance = 3; port = 5; number = 0 }; to = record { instance = 1; port = 2; number = 0 } }) ∷
+              [];
+        }) ∷
+        [];
     order = [];
   };
   topology = 0;
@@ -283,80 +283,80 @@ abbrev program : Program
 program = record {
   steps = 10000;
   callers =
-    (record {
-      name = codes "k";
-      acts = (record { verb = verb.Call; subject = record { instance = 0; port = 3; number = 0 }; name = 0; with = []; bind = None }) ∷ [];
-    }) ∷
-    [];
+      (record {
+        name = codes "k";
+        acts = (record { verb = verb.Call; subject = record { instance = 0; port = 3; number = 0 }; name = 0; with = []; bind = None }) ∷ [];
+      }) ∷
+      [];
   handlers =
-    (record {
-      instance = 0;
-      place = spot.Port 3;
-      acts =
-        (record {
-          verb = verb.Command;
-          subject = record { instance = 0; port = 1; number = 0 };
-          name = 0;
-          with = arg.Given (value.Int (pos 7)) ∷ [];
-          bind = None;
-        }) ∷
-        [];
-    }) ∷
-    (record {
-      instance = 2;
-      place = spot.Command 0;
-      acts =
-        (record {
-          verb = verb.Emit;
-          subject = record { instance = 2; port = 0; number = 0 };
-          name = 0;
-          with = arg.Bound (codes "n") ∷ [];
-          bind = None;
-        }) ∷
-        (record {
-          verb = verb.Write;
-          subject = record { instance = 2; port = 0; number = 0 };
-          name = 0;
-          with = arg.Given (value.Int (pos 1)) ∷ [];
-          bind = None;
-        }) ∷
-        (record {
-          verb = verb.Respond;
-          subject = record { instance = 2; port = 2; number = 0 };
-          name = 0;
-          with = [];
-          bind = Some (codes "OK");
-        }) ∷
-        [];
-    }) ∷
-    (record {
-      instance = 3;
-      place = spot.Command 0;
-      acts =
-        (record {
-          verb = verb.Emit;
-          subject = record { instance = 3; port = 0; number = 0 };
-          name = 0;
-          with = arg.Bound (codes "n") ∷ [];
-          bind = None;
-        }) ∷
-        (record {
-          verb = verb.Write;
-          subject = record { instance = 3; port = 0; number = 0 };
-          name = 0;
-          with = arg.Given (value.Int (pos 1)) ∷ [];
-          bind = None;
-        }) ∷
-        (record {
-          verb = verb.Respond;
-          subject = record { instance = 3; port = 2; number = 0 };
-          name = 0;
-          with = [];
-          bind = Some (codes "OK");
-        }) ∷
-        [];
-    }) ∷
-    [];
+      (record {
+        instance = 0;
+        place = spot.Port 3;
+        acts =
+            (record {
+              verb = verb.Command;
+              subject = record { instance = 0; port = 1; number = 0 };
+              name = 0;
+              with = arg.Given (value.Int (pos 7)) ∷ [];
+              bind = None;
+            }) ∷
+            [];
+      }) ∷
+      (record {
+        instance = 2;
+        place = spot.Command 0;
+        acts =
+            (record {
+              verb = verb.Emit;
+              subject = record { instance = 2; port = 0; number = 0 };
+              name = 0;
+              with = arg.Bound (codes "n") ∷ [];
+              bind = None;
+            }) ∷
+            (record {
+              verb = verb.Write;
+              subject = record { instance = 2; port = 0; number = 0 };
+              name = 0;
+              with = arg.Given (value.Int (pos 1)) ∷ [];
+              bind = None;
+            }) ∷
+            (record {
+              verb = verb.Respond;
+              subject = record { instance = 2; port = 2; number = 0 };
+              name = 0;
+              with = [];
+              bind = Some (codes "OK");
+            }) ∷
+            [];
+      }) ∷
+      (record {
+        instance = 3;
+        place = spot.Command 0;
+        acts =
+            (record {
+              verb = verb.Emit;
+              subject = record { instance = 3; port = 0; number = 0 };
+              name = 0;
+              with = arg.Bound (codes "n") ∷ [];
+              bind = None;
+            }) ∷
+            (record {
+              verb = verb.Write;
+              subject = record { instance = 3; port = 0; number = 0 };
+              name = 0;
+              with = arg.Given (value.Int (pos 1)) ∷ [];
+              bind = None;
+            }) ∷
+            (record {
+              verb = verb.Respond;
+              subject = record { instance = 3; port = 2; number = 0 };
+              name = 0;
+              with = [];
+              bind = Some (codes "OK");
+            }) ∷
+            [];
+      }) ∷
+      [];
   answers = [];
 }
 

@@ -30,33 +30,33 @@ tables = record {
     constants = [];
     types = [];
     ports =
-      (record {
-        name = codes "P";
-        formals = (record { name = codes "a"; kind = kind.U8; by_ref = false; note = [] }) ∷ [];
-        result = None;
-      }) ∷
-      [];
+        (record {
+          name = codes "P";
+          formals = (record { name = codes "a"; kind = kind.U8; by_ref = false; note = [] }) ∷ [];
+          result = None;
+        }) ∷
+        [];
     components =
-      (record {
-        name = codes "Q";
-        queueing = queueing.Queued;
-        ports =
-          (record {
-            name = codes "i";
-            role = role.Input (way.Later (pos 0) full.Block);
-            size = 1;
-            of = Some 0;
-            formals = (record { name = codes "a"; kind = kind.U8; by_ref = false; note = [] }) ∷ [];
-          }) ∷
-          [];
-        commands = [];
-        events = [];
-        channels = [];
-        params = [];
-        matches = [];
-        machines = [];
-      }) ∷
-      [];
+        (record {
+          name = codes "Q";
+          queueing = queueing.Queued;
+          ports =
+              (record {
+                name = codes "i";
+                role = role.Input (way.Later (pos 0) full.Block);
+                size = 1;
+                of = Some 0;
+                formals = (record { name = codes "a"; kind = kind.U8; by_ref = false; note = [] }) ∷ [];
+              }) ∷
+              [];
+          commands = [];
+          events = [];
+          channels = [];
+          params = [];
+          matches = [];
+          machines = [];
+        }) ∷
+        [];
     machines = [];
     instances = (record { name = codes "q"; component = 0; base = 0; queue = Some 1; stack = None; priority = None; cpu = None }) ∷ [];
     topologies = (record { name = codes "T"; instances = 0 ∷ []; links = []; wires = [] }) ∷ [];
@@ -69,26 +69,26 @@ abbrev program : Program
 program = record {
   steps = 10000;
   callers =
-    (record {
-      name = codes "k";
-      acts =
-        (record {
-          verb = verb.Call;
-          subject = record { instance = 0; port = 0; number = 0 };
-          name = 0;
-          with = arg.Given (value.Int (pos 1)) ∷ [];
-          bind = None;
-        }) ∷
-        (record {
-          verb = verb.Call;
-          subject = record { instance = 0; port = 0; number = 0 };
-          name = 0;
-          with = arg.Given (value.Int (pos 2)) ∷ [];
-          bind = None;
-        }) ∷
-        [];
-    }) ∷
-    [];
+      (record {
+        name = codes "k";
+        acts =
+            (record {
+              verb = verb.Call;
+              subject = record { instance = 0; port = 0; number = 0 };
+              name = 0;
+              with = arg.Given (value.Int (pos 1)) ∷ [];
+              bind = None;
+            }) ∷
+            (record {
+              verb = verb.Call;
+              subject = record { instance = 0; port = 0; number = 0 };
+              name = 0;
+              with = arg.Given (value.Int (pos 2)) ∷ [];
+              bind = None;
+            }) ∷
+            [];
+      }) ∷
+      [];
   handlers = [];
   answers = [];
 }

@@ -31,49 +31,49 @@ tables = record {
     constants = [];
     types = [];
     ports =
-      (record {
-        name = codes "P";
-        formals = (record { name = codes "a"; kind = kind.U8; by_ref = false; note = [] }) ∷ [];
-        result = None;
-      }) ∷
-      (record { name = codes "G"; formals = []; result = None }) ∷
-      [];
+        (record {
+          name = codes "P";
+          formals = (record { name = codes "a"; kind = kind.U8; by_ref = false; note = [] }) ∷ [];
+          result = None;
+        }) ∷
+        (record { name = codes "G"; formals = []; result = None }) ∷
+        [];
     components =
-      (record {
-        name = codes "Q";
-        queueing = queueing.Queued;
-        ports =
-          (record {
-            name = codes "a";
-            role = role.Input (way.Later (pos 1) full.Assert);
-            size = 1;
-            of = Some 0;
-            formals = (record { name = codes "a"; kind = kind.U8; by_ref = false; note = [] }) ∷ [];
-          }) ∷
-          (record {
-            name = codes "b";
-            role = role.Input (way.Later (pos 5) full.Assert);
-            size = 1;
-            of = Some 0;
-            formals = (record { name = codes "a"; kind = kind.U8; by_ref = false; note = [] }) ∷ [];
-          }) ∷
-          (record {
-            name = codes "c";
-            role = role.Input (way.Later (pos 3) full.Assert);
-            size = 1;
-            of = Some 0;
-            formals = (record { name = codes "a"; kind = kind.U8; by_ref = false; note = [] }) ∷ [];
-          }) ∷
-          (record { name = codes "go"; role = role.Input way.Sync; size = 1; of = Some 1; formals = [] }) ∷
-          [];
-        commands = [];
-        events = [];
-        channels = [];
-        params = [];
-        matches = [];
-        machines = [];
-      }) ∷
-      [];
+        (record {
+          name = codes "Q";
+          queueing = queueing.Queued;
+          ports =
+              (record {
+                name = codes "a";
+                role = role.Input (way.Later (pos 1) full.Assert);
+                size = 1;
+                of = Some 0;
+                formals = (record { name = codes "a"; kind = kind.U8; by_ref = false; note = [] }) ∷ [];
+              }) ∷
+              (record {
+                name = codes "b";
+                role = role.Input (way.Later (pos 5) full.Assert);
+                size = 1;
+                of = Some 0;
+                formals = (record { name = codes "a"; kind = kind.U8; by_ref = false; note = [] }) ∷ [];
+              }) ∷
+              (record {
+                name = codes "c";
+                role = role.Input (way.Later (pos 3) full.Assert);
+                size = 1;
+                of = Some 0;
+                formals = (record { name = codes "a"; kind = kind.U8; by_ref = false; note = [] }) ∷ [];
+              }) ∷
+              (record { name = codes "go"; role = role.Input way.Sync; size = 1; of = Some 1; formals = [] }) ∷
+              [];
+          commands = [];
+          events = [];
+          channels = [];
+          params = [];
+          matches = [];
+          machines = [];
+        }) ∷
+        [];
     machines = [];
     instances = (record { name = codes "q"; component = 0; base = 0; queue = Some 4; stack = None; priority = None; cpu = None }) ∷ [];
     topologies = (record { name = codes "T"; instances = 0 ∷ []; links = []; wires = [] }) ∷ [];
@@ -86,54 +86,54 @@ abbrev program : Program
 program = record {
   steps = 10000;
   callers =
-    (record {
-      name = codes "k";
-      acts =
-        (record {
-          verb = verb.Call;
-          subject = record { instance = 0; port = 0; number = 0 };
-          name = 0;
-          with = arg.Given (value.Int (pos 1)) ∷ [];
-          bind = None;
-        }) ∷
-        (record {
-          verb = verb.Call;
-          subject = record { instance = 0; port = 1; number = 0 };
-          name = 0;
-          with = arg.Given (value.Int (pos 2)) ∷ [];
-          bind = None;
-        }) ∷
-        (record {
-          verb = verb.Call;
-          subject = record { instance = 0; port = 1; number = 0 };
-          name = 0;
-          with = arg.Given (value.Int (pos 3)) ∷ [];
-          bind = None;
-        }) ∷
-        (record {
-          verb = verb.Call;
-          subject = record { instance = 0; port = 2; number = 0 };
-          name = 0;
-          with = arg.Given (value.Int (pos 4)) ∷ [];
-          bind = None;
-        }) ∷
-        (record { verb = verb.Call; subject = record { instance = 0; port = 3; number = 0 }; name = 0; with = []; bind = None }) ∷
-        [];
-    }) ∷
-    [];
+      (record {
+        name = codes "k";
+        acts =
+            (record {
+              verb = verb.Call;
+              subject = record { instance = 0; port = 0; number = 0 };
+              name = 0;
+              with = arg.Given (value.Int (pos 1)) ∷ [];
+              bind = None;
+            }) ∷
+            (record {
+              verb = verb.Call;
+              subject = record { instance = 0; port = 1; number = 0 };
+              name = 0;
+              with = arg.Given (value.Int (pos 2)) ∷ [];
+              bind = None;
+            }) ∷
+            (record {
+              verb = verb.Call;
+              subject = record { instance = 0; port = 1; number = 0 };
+              name = 0;
+              with = arg.Given (value.Int (pos 3)) ∷ [];
+              bind = None;
+            }) ∷
+            (record {
+              verb = verb.Call;
+              subject = record { instance = 0; port = 2; number = 0 };
+              name = 0;
+              with = arg.Given (value.Int (pos 4)) ∷ [];
+              bind = None;
+            }) ∷
+            (record { verb = verb.Call; subject = record { instance = 0; port = 3; number = 0 }; name = 0; with = []; bind = None }) ∷
+            [];
+      }) ∷
+      [];
   handlers =
-    (record {
-      instance = 0;
-      place = spot.Port 3;
-      acts =
-        (record { verb = verb.Dispatch; subject = record { instance = 0; port = 0; number = 0 }; name = 0; with = []; bind = None }) ∷
-        (record { verb = verb.Dispatch; subject = record { instance = 0; port = 0; number = 0 }; name = 0; with = []; bind = None }) ∷
-        (record { verb = verb.Dispatch; subject = record { instance = 0; port = 0; number = 0 }; name = 0; with = []; bind = None }) ∷
-        (record { verb = verb.Dispatch; subject = record { instance = 0; port = 0; number = 0 }; name = 0; with = []; bind = None }) ∷
-        (record { verb = verb.Dispatch; subject = record { instance = 0; port = 0; number = 0 }; name = 0; with = []; bind = None }) ∷
-        [];
-    }) ∷
-    [];
+      (record {
+        instance = 0;
+        place = spot.Port 3;
+        acts =
+            (record { verb = verb.Dispatch; subject = record { instance = 0; port = 0; number = 0 }; name = 0; with = []; bind = None }) ∷
+            (record { verb = verb.Dispatch; subject = record { instance = 0; port = 0; number = 0 }; name = 0; with = []; bind = None }) ∷
+            (record { verb = verb.Dispatch; subject = record { instance = 0; port = 0; number = 0 }; name = 0; with = []; bind = None }) ∷
+            (record { verb = verb.Dispatch; subject = record { instance = 0; port = 0; number = 0 }; name = 0; with = []; bind = None }) ∷
+            (record { verb = verb.Dispatch; subject = record { instance = 0; port = 0; number = 0 }; name = 0; with = []; bind = None }) ∷
+            [];
+      }) ∷
+      [];
   answers = [];
 }
 

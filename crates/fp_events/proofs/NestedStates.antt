@@ -30,80 +30,80 @@ tables = record {
     types = [];
     ports = (record { name = codes "P"; formals = []; result = None }) ∷ [];
     components =
-      (record {
-        name = codes "C";
-        queueing = queueing.Active;
-        ports =
-          (record { name = codes "go"; role = role.Input way.Sync; size = 1; of = Some 0; formals = [] }) ∷
-          (record { name = codes "up"; role = role.Input way.Sync; size = 1; of = Some 0; formals = [] }) ∷
-          [];
-        commands = [];
-        events = [];
-        channels = [];
-        params = [];
-        matches = [];
-        machines = (record { name = codes "m"; machine = 0; way = way.Later (pos 0) full.Assert }) ∷ [];
-      }) ∷
-      [];
+        (record {
+          name = codes "C";
+          queueing = queueing.Active;
+          ports =
+              (record { name = codes "go"; role = role.Input way.Sync; size = 1; of = Some 0; formals = [] }) ∷
+              (record { name = codes "up"; role = role.Input way.Sync; size = 1; of = Some 0; formals = [] }) ∷
+              [];
+          commands = [];
+          events = [];
+          channels = [];
+          params = [];
+          matches = [];
+          machines = (record { name = codes "m"; machine = 0; way = way.Later (pos 0) full.Assert }) ∷ [];
+        }) ∷
+        [];
     machines =
-      (record {
-        name = codes "M";
-        external = false;
-        signals = (record { name = codes "s"; kind = None }) ∷ (record { name = codes "u"; kind = None }) ∷ [];
-        actions =
-          (record { name = codes "ea"; kind = None }) ∷
-          (record { name = codes "eb"; kind = None }) ∷
-          (record { name = codes "ec"; kind = None }) ∷
-          (record { name = codes "xa"; kind = None }) ∷
-          (record { name = codes "xb"; kind = None }) ∷
-          (record { name = codes "xc"; kind = None }) ∷
-          (record { name = codes "ed"; kind = None }) ∷
-          (record { name = codes "ee"; kind = None }) ∷
-          (record { name = codes "t"; kind = None }) ∷
-          (record { name = codes "i"; kind = None }) ∷
-          [];
-        guards = (record { name = codes "g"; kind = None }) ∷ [];
-        initial = Some (record { actions = 9 ∷ []; target = Some 2 });
-        vertices =
-          (record {
-            name = codes "A";
-            parent = None;
-            node = node.State (Some (record { actions = []; target = Some 1 })) (0 ∷ []) (3 ∷ []) (
-              (record { signal = 1; guard = None; step = record { actions = 8 ∷ []; target = Some 3 } }) ∷
-              []);
-          }) ∷
-          (record {
-            name = codes "B";
-            parent = Some 0;
-            node = node.State (Some (record { actions = []; target = Some 2 })) (1 ∷ []) (4 ∷ []) [];
-          }) ∷
-          (record {
-            name = codes "C";
-            parent = Some 1;
-            node = node.State None (2 ∷ []) (5 ∷ []) (
-              (record { signal = 0; guard = None; step = record { actions = []; target = Some 5 } }) ∷
-              []);
-          }) ∷
-          (record {
-            name = codes "D";
-            parent = None;
-            node = node.State (Some (record { actions = []; target = Some 4 })) (6 ∷ []) [] [];
-          }) ∷
-          (record {
-            name = codes "E";
-            parent = Some 3;
-            node = node.State None (7 ∷ []) [] (
-              (record { signal = 0; guard = None; step = record { actions = 8 ∷ []; target = Some 2 } }) ∷
-              []);
-          }) ∷
-          (record {
-            name = codes "Z";
-            parent = None;
-            node = node.Choice 0 (record { actions = 8 ∷ []; target = Some 4 }) (record { actions = []; target = Some 0 });
-          }) ∷
-          [];
-      }) ∷
-      [];
+        (record {
+          name = codes "M";
+          external = false;
+          signals = (record { name = codes "s"; kind = None }) ∷ (record { name = codes "u"; kind = None }) ∷ [];
+          actions =
+              (record { name = codes "ea"; kind = None }) ∷
+              (record { name = codes "eb"; kind = None }) ∷
+              (record { name = codes "ec"; kind = None }) ∷
+              (record { name = codes "xa"; kind = None }) ∷
+              (record { name = codes "xb"; kind = None }) ∷
+              (record { name = codes "xc"; kind = None }) ∷
+              (record { name = codes "ed"; kind = None }) ∷
+              (record { name = codes "ee"; kind = None }) ∷
+              (record { name = codes "t"; kind = None }) ∷
+              (record { name = codes "i"; kind = None }) ∷
+              [];
+          guards = (record { name = codes "g"; kind = None }) ∷ [];
+          initial = Some (record { actions = 9 ∷ []; target = Some 2 });
+          vertices =
+              (record {
+                name = codes "A";
+                parent = None;
+                node = node.State (Some (record { actions = []; target = Some 1 })) (0 ∷ []) (3 ∷ []) (
+                    (record { signal = 1; guard = None; step = record { actions = 8 ∷ []; target = Some 3 } }) ∷
+                    []);
+              }) ∷
+              (record {
+                name = codes "B";
+                parent = Some 0;
+                node = node.State (Some (record { actions = []; target = Some 2 })) (1 ∷ []) (4 ∷ []) [];
+              }) ∷
+              (record {
+                name = codes "C";
+                parent = Some 1;
+                node = node.State None (2 ∷ []) (5 ∷ []) (
+                    (record { signal = 0; guard = None; step = record { actions = []; target = Some 5 } }) ∷
+                    []);
+              }) ∷
+              (record {
+                name = codes "D";
+                parent = None;
+                node = node.State (Some (record { actions = []; target = Some 4 })) (6 ∷ []) [] [];
+              }) ∷
+              (record {
+                name = codes "E";
+                parent = Some 3;
+                node = node.State None (7 ∷ []) [] (
+                    (record { signal = 0; guard = None; step = record { actions = 8 ∷ []; target = Some 2 } }) ∷
+                    []);
+              }) ∷
+              (record {
+                name = codes "Z";
+                parent = None;
+                node = node.Choice 0 (record { actions = 8 ∷ []; target = Some 4 }) (record { actions = []; target = Some 0 });
+              }) ∷
+              [];
+        }) ∷
+        [];
     instances = (record { name = codes "c"; component = 0; base = 0; queue = Some 9; stack = None; priority = None; cpu = None }) ∷ [];
     topologies = (record { name = codes "T"; instances = 0 ∷ []; links = []; wires = [] }) ∷ [];
     order = [];
@@ -115,33 +115,33 @@ abbrev program : Program
 program = record {
   steps = 10000;
   callers =
-    (record {
-      name = codes "k";
-      acts =
-        (record { verb = verb.Call; subject = record { instance = 0; port = 0; number = 0 }; name = 0; with = []; bind = None }) ∷
-        (record { verb = verb.Call; subject = record { instance = 0; port = 0; number = 0 }; name = 0; with = []; bind = None }) ∷
-        (record { verb = verb.Call; subject = record { instance = 0; port = 0; number = 0 }; name = 0; with = []; bind = None }) ∷
-        (record { verb = verb.Call; subject = record { instance = 0; port = 0; number = 0 }; name = 0; with = []; bind = None }) ∷
-        (record { verb = verb.Call; subject = record { instance = 0; port = 1; number = 0 }; name = 0; with = []; bind = None }) ∷
-        [];
-    }) ∷
-    [];
+      (record {
+        name = codes "k";
+        acts =
+            (record { verb = verb.Call; subject = record { instance = 0; port = 0; number = 0 }; name = 0; with = []; bind = None }) ∷
+            (record { verb = verb.Call; subject = record { instance = 0; port = 0; number = 0 }; name = 0; with = []; bind = None }) ∷
+            (record { verb = verb.Call; subject = record { instance = 0; port = 0; number = 0 }; name = 0; with = []; bind = None }) ∷
+            (record { verb = verb.Call; subject = record { instance = 0; port = 0; number = 0 }; name = 0; with = []; bind = None }) ∷
+            (record { verb = verb.Call; subject = record { instance = 0; port = 1; number = 0 }; name = 0; with = []; bind = None }) ∷
+            [];
+      }) ∷
+      [];
   handlers =
-    (record {
-      instance = 0;
-      place = spot.Port 0;
-      acts =
-        (record { verb = verb.Signal; subject = record { instance = 0; port = 0; number = 0 }; name = 0; with = []; bind = None }) ∷
-        [];
-    }) ∷
-    (record {
-      instance = 0;
-      place = spot.Port 1;
-      acts =
-        (record { verb = verb.Signal; subject = record { instance = 0; port = 0; number = 0 }; name = 1; with = []; bind = None }) ∷
-        [];
-    }) ∷
-    [];
+      (record {
+        instance = 0;
+        place = spot.Port 0;
+        acts =
+            (record { verb = verb.Signal; subject = record { instance = 0; port = 0; number = 0 }; name = 0; with = []; bind = None }) ∷
+            [];
+      }) ∷
+      (record {
+        instance = 0;
+        place = spot.Port 1;
+        acts =
+            (record { verb = verb.Signal; subject = record { instance = 0; port = 0; number = 0 }; name = 1; with = []; bind = None }) ∷
+            [];
+      }) ∷
+      [];
   answers = (record { instance = 0; running = 0; guard = 0; given = true ∷ false ∷ [] }) ∷ [];
 }
 

@@ -32,43 +32,43 @@ tables = record {
     constants = [];
     types = [];
     ports =
-      (record { name = codes "Fw.Cmd"; formals = []; result = None }) ∷
-      (record { name = codes "Fw.CmdReg"; formals = []; result = None }) ∷
-      (record { name = codes "Fw.CmdResponse"; formals = []; result = None }) ∷
-      (record { name = codes "Fw.PrmGet"; formals = []; result = None }) ∷
-      (record { name = codes "Fw.PrmSet"; formals = []; result = None }) ∷
-      (record { name = codes "G"; formals = []; result = None }) ∷
-      [];
+        (record { name = codes "Fw.Cmd"; formals = []; result = None }) ∷
+        (record { name = codes "Fw.CmdReg"; formals = []; result = None }) ∷
+        (record { name = codes "Fw.CmdResponse"; formals = []; result = None }) ∷
+        (record { name = codes "Fw.PrmGet"; formals = []; result = None }) ∷
+        (record { name = codes "Fw.PrmSet"; formals = []; result = None }) ∷
+        (record { name = codes "G"; formals = []; result = None }) ∷
+        [];
     components =
-      (record {
-        name = codes "C";
-        queueing = queueing.Passive;
-        ports =
-          (record { name = codes "r"; role = role.Special special.CmdRecv; size = 1; of = Some 0; formals = [] }) ∷
-          (record { name = codes "g"; role = role.Special special.CmdReg; size = 1; of = Some 1; formals = [] }) ∷
-          (record { name = codes "s"; role = role.Special special.CmdResp; size = 1; of = Some 2; formals = [] }) ∷
-          (record { name = codes "pg"; role = role.Special special.PrmGet; size = 1; of = Some 3; formals = [] }) ∷
-          (record { name = codes "ps"; role = role.Special special.PrmSet; size = 1; of = Some 4; formals = [] }) ∷
-          (record { name = codes "go"; role = role.Input way.Sync; size = 1; of = Some 5; formals = [] }) ∷
-          [];
-        commands =
-          (record {
-            name = codes "P_PRM_SET";
-            part = part.SetParam 0;
-            way = way.Sync;
-            opcode = 0;
-            formals = (record { name = codes "val"; kind = kind.U8; by_ref = false; note = [] }) ∷ [];
-            note = [];
-          }) ∷
-          (record { name = codes "P_PRM_SAVE"; part = part.SaveParam 0; way = way.Sync; opcode = 1; formals = []; note = [] }) ∷
-          [];
-        events = [];
-        channels = [];
-        params = (record { name = codes "P"; id = 0; kind = kind.U8; default = value.Int (pos 3); written = true; note = [] }) ∷ [];
-        matches = [];
-        machines = [];
-      }) ∷
-      [];
+        (record {
+          name = codes "C";
+          queueing = queueing.Passive;
+          ports =
+              (record { name = codes "r"; role = role.Special special.CmdRecv; size = 1; of = Some 0; formals = [] }) ∷
+              (record { name = codes "g"; role = role.Special special.CmdReg; size = 1; of = Some 1; formals = [] }) ∷
+              (record { name = codes "s"; role = role.Special special.CmdResp; size = 1; of = Some 2; formals = [] }) ∷
+              (record { name = codes "pg"; role = role.Special special.PrmGet; size = 1; of = Some 3; formals = [] }) ∷
+              (record { name = codes "ps"; role = role.Special special.PrmSet; size = 1; of = Some 4; formals = [] }) ∷
+              (record { name = codes "go"; role = role.Input way.Sync; size = 1; of = Some 5; formals = [] }) ∷
+              [];
+          commands =
+              (record {
+                name = codes "P_PRM_SET";
+                part = part.SetParam 0;
+                way = way.Sync;
+                opcode = 0;
+                formals = (record { name = codes "val"; kind = kind.U8; by_ref = false; note = [] }) ∷ [];
+                note = [];
+              }) ∷
+              (record { name = codes "P_PRM_SAVE"; part = part.SaveParam 0; way = way.Sync; opcode = 1; formals = []; note = [] }) ∷
+              [];
+          events = [];
+          channels = [];
+          params = (record { name = codes "P"; id = 0; kind = kind.U8; default = value.Int (pos 3); written = true; note = [] }) ∷ [];
+          matches = [];
+          machines = [];
+        }) ∷
+        [];
     machines = [];
     instances = (record { name = codes "c"; component = 0; base = 0; queue = None; stack = None; priority = None; cpu = None }) ∷ [];
     topologies = (record { name = codes "T"; instances = 0 ∷ []; links = []; wires = [] }) ∷ [];
@@ -81,36 +81,36 @@ abbrev program : Program
 program = record {
   steps = 10000;
   callers =
-    (record {
-      name = codes "k";
-      acts =
-        (record {
-          verb = verb.Command;
-          subject = record { instance = 0; port = 0; number = 0 };
-          name = 0;
-          with = arg.Given (value.Int (pos 9)) ∷ [];
-          bind = None;
-        }) ∷
-        (record { verb = verb.Call; subject = record { instance = 0; port = 5; number = 0 }; name = 0; with = []; bind = None }) ∷
-        (record { verb = verb.Command; subject = record { instance = 0; port = 0; number = 0 }; name = 1; with = []; bind = None }) ∷
-        [];
-    }) ∷
-    [];
+      (record {
+        name = codes "k";
+        acts =
+            (record {
+              verb = verb.Command;
+              subject = record { instance = 0; port = 0; number = 0 };
+              name = 0;
+              with = arg.Given (value.Int (pos 9)) ∷ [];
+              bind = None;
+            }) ∷
+            (record { verb = verb.Call; subject = record { instance = 0; port = 5; number = 0 }; name = 0; with = []; bind = None }) ∷
+            (record { verb = verb.Command; subject = record { instance = 0; port = 0; number = 0 }; name = 1; with = []; bind = None }) ∷
+            [];
+      }) ∷
+      [];
   handlers =
-    (record {
-      instance = 0;
-      place = spot.Port 5;
-      acts =
-        (record {
-          verb = verb.Read;
-          subject = record { instance = 0; port = 0; number = 0 };
-          name = 0;
-          with = [];
-          bind = Some (codes "x");
-        }) ∷
-        [];
-    }) ∷
-    [];
+      (record {
+        instance = 0;
+        place = spot.Port 5;
+        acts =
+            (record {
+              verb = verb.Read;
+              subject = record { instance = 0; port = 0; number = 0 };
+              name = 0;
+              with = [];
+              bind = Some (codes "x");
+            }) ∷
+            [];
+      }) ∷
+      [];
   answers = [];
 }
 

@@ -29,37 +29,37 @@ tables = record {
     types = [];
     ports = (record { name = codes "P"; formals = []; result = None }) ∷ [];
     components =
-      (record {
-        name = codes "A";
-        queueing = queueing.Active;
-        ports =
-          (record { name = codes "i"; role = role.Input (way.Later (pos 0) full.Assert); size = 1; of = Some 0; formals = [] }) ∷
-          (record { name = codes "o"; role = role.Output; size = 1; of = Some 0; formals = [] }) ∷
-          [];
-        commands = [];
-        events = [];
-        channels = [];
-        params = [];
-        matches = [];
-        machines = [];
-      }) ∷
-      [];
+        (record {
+          name = codes "A";
+          queueing = queueing.Active;
+          ports =
+              (record { name = codes "i"; role = role.Input (way.Later (pos 0) full.Assert); size = 1; of = Some 0; formals = [] }) ∷
+              (record { name = codes "o"; role = role.Output; size = 1; of = Some 0; formals = [] }) ∷
+              [];
+          commands = [];
+          events = [];
+          channels = [];
+          params = [];
+          matches = [];
+          machines = [];
+        }) ∷
+        [];
     machines = [];
     instances =
-      (record { name = codes "a"; component = 0; base = 0; queue = Some 2; stack = None; priority = None; cpu = None }) ∷
-      (record { name = codes "b"; component = 0; base = 1; queue = Some 2; stack = None; priority = None; cpu = None }) ∷
-      [];
+        (record { name = codes "a"; component = 0; base = 0; queue = Some 2; stack = None; priority = None; cpu = None }) ∷
+        (record { name = codes "b"; component = 0; base = 1; queue = Some 2; stack = None; priority = None; cpu = None }) ∷
+        [];
     topologies =
-      (record {
-        name = codes "T";
-        instances = 0 ∷ 1 ∷ [];
-        links = [];
-        wires =
-          (record { from = record { instance = 0; port = 1; number = 0 }; to = record { instance = 1; port = 0; number = 0 } }) ∷
-          (record { from = record { instance = 1; port = 1; number = 0 }; to = record { instance = 0; port = 0; number = 0 } }) ∷
-          [];
-      }) ∷
-      [];
+        (record {
+          name = codes "T";
+          instances = 0 ∷ 1 ∷ [];
+          links = [];
+          wires =
+              (record { from = record { instance = 0; port = 1; number = 0 }; to = record { instance = 1; port = 0; number = 0 } }) ∷
+              (record { from = record { instance = 1; port = 1; number = 0 }; to = record { instance = 0; port = 0; number = 0 } }) ∷
+              [];
+        }) ∷
+        [];
     order = [];
   };
   topology = 0;
@@ -69,23 +69,23 @@ abbrev program : Program
 program = record {
   steps = 20;
   callers =
-    (record {
-      name = codes "k";
-      acts = (record { verb = verb.Call; subject = record { instance = 0; port = 0; number = 0 }; name = 0; with = []; bind = None }) ∷ [];
-    }) ∷
-    [];
+      (record {
+        name = codes "k";
+        acts = (record { verb = verb.Call; subject = record { instance = 0; port = 0; number = 0 }; name = 0; with = []; bind = None }) ∷ [];
+      }) ∷
+      [];
   handlers =
-    (record {
-      instance = 0;
-      place = spot.Port 0;
-      acts = (record { verb = verb.Call; subject = record { instance = 0; port = 1; number = 0 }; name = 0; with = []; bind = None }) ∷ [];
-    }) ∷
-    (record {
-      instance = 1;
-      place = spot.Port 0;
-      acts = (record { verb = verb.Call; subject = record { instance = 1; port = 1; number = 0 }; name = 0; with = []; bind = None }) ∷ [];
-    }) ∷
-    [];
+      (record {
+        instance = 0;
+        place = spot.Port 0;
+        acts = (record { verb = verb.Call; subject = record { instance = 0; port = 1; number = 0 }; name = 0; with = []; bind = None }) ∷ [];
+      }) ∷
+      (record {
+        instance = 1;
+        place = spot.Port 0;
+        acts = (record { verb = verb.Call; subject = record { instance = 1; port = 1; number = 0 }; name = 0; with = []; bind = None }) ∷ [];
+      }) ∷
+      [];
   answers = [];
 }
 

@@ -1,5 +1,5 @@
 -- Histories of the topology's instances and traces of the program's actors that agree, joined and sorted, are a run.
-use Rattle.std.proofs.Common.{◌≡◌, ℕ, zero, suc, ◌<◌, ◌≤◌, Bool, true, false, cond, ◌&&◌, nat_lt, length, get_or, List, [], ◌∷◌, refl, sym, ap, ◌∙◌, subst, ◌≢◌, ◌⊎◌, inl, inr, arith, eqb}
+use Rattle.std.proofs.Common.{◌≡◌, ℕ, zero, suc, ◌<◌, ◌≤◌, Bool, true, false, cond, ◌&&◌, nat_lt, length, List, [], ◌∷◌, refl, sym, ap, ◌∙◌, subst, ◌⊎◌, inl, inr, arith, eqb}
 use Rattle.std.specs.List.{IsDistinct}
 use Rattle.std.specs.List.Sorted.{IsSortedBy, IsStableBy}
 use Rattle.std.proofs.lemmas.Bool.Decides.{nat_tests}
@@ -19,7 +19,7 @@ use Rattle.fp_events.specs.Instance.{InstanceState}
 use Rattle.fp_events.specs.Actor.{ActorState}
 use Rattle.fp_events.specs.Fits.{fits, actor_count, is_placed, what_fits}
 use Rattle.fp_events.specs.Step.{core}
-use Rattle.fp_events.specs.Run.{World, at, by, opening, RunTo, IsRun, IsKept, IsTold, history, trace, AreRecords}
+use Rattle.fp_events.specs.Run.{World, at, by, RunTo, IsKept, IsTold, history, trace, AreRecords}
 use Rattle.fp_events.proofs.StepLaws.{given, taken, core_laws}
 
 -- the list of a number that stands nowhere, or past the end, is empty

@@ -31,71 +31,71 @@ tables = record {
     constants = [];
     types = [];
     ports =
-      (record {
-        name = codes "Get";
-        formals = (record { name = codes "a"; kind = kind.U8; by_ref = false; note = [] }) ∷ [];
-        result = Some kind.U8;
-      }) ∷
-      (record { name = codes "Go"; formals = []; result = None }) ∷
-      [];
+        (record {
+          name = codes "Get";
+          formals = (record { name = codes "a"; kind = kind.U8; by_ref = false; note = [] }) ∷ [];
+          result = Some kind.U8;
+        }) ∷
+        (record { name = codes "Go"; formals = []; result = None }) ∷
+        [];
     components =
-      (record {
-        name = codes "C";
-        queueing = queueing.Passive;
-        ports =
-          (record { name = codes "go"; role = role.Input way.Sync; size = 1; of = Some 1; formals = [] }) ∷
-          (record {
-            name = codes "o";
-            role = role.Output;
-            size = 2;
-            of = Some 0;
-            formals = (record { name = codes "a"; kind = kind.U8; by_ref = false; note = [] }) ∷ [];
-          }) ∷
-          [];
-        commands = [];
-        events = [];
-        channels = (record { name = codes "t"; id = 0; kind = kind.U8; on_change = false; format = None; limits = []; note = [] }) ∷ [];
-        params = [];
-        matches = [];
-        machines = [];
-      }) ∷
-      (record {
-        name = codes "D";
-        queueing = queueing.Passive;
-        ports =
-          (record {
-            name = codes "i";
-            role = role.Input way.Sync;
-            size = 1;
-            of = Some 0;
-            formals = (record { name = codes "a"; kind = kind.U8; by_ref = false; note = [] }) ∷ [];
-          }) ∷
-          [];
-        commands = [];
-        events = [];
-        channels = [];
-        params = [];
-        matches = [];
-        machines = [];
-      }) ∷
-      [];
+        (record {
+          name = codes "C";
+          queueing = queueing.Passive;
+          ports =
+              (record { name = codes "go"; role = role.Input way.Sync; size = 1; of = Some 1; formals = [] }) ∷
+              (record {
+                name = codes "o";
+                role = role.Output;
+                size = 2;
+                of = Some 0;
+                formals = (record { name = codes "a"; kind = kind.U8; by_ref = false; note = [] }) ∷ [];
+              }) ∷
+              [];
+          commands = [];
+          events = [];
+          channels = (record { name = codes "t"; id = 0; kind = kind.U8; on_change = false; format = None; limits = []; note = [] }) ∷ [];
+          params = [];
+          matches = [];
+          machines = [];
+        }) ∷
+        (record {
+          name = codes "D";
+          queueing = queueing.Passive;
+          ports =
+              (record {
+                name = codes "i";
+                role = role.Input way.Sync;
+                size = 1;
+                of = Some 0;
+                formals = (record { name = codes "a"; kind = kind.U8; by_ref = false; note = [] }) ∷ [];
+              }) ∷
+              [];
+          commands = [];
+          events = [];
+          channels = [];
+          params = [];
+          matches = [];
+          machines = [];
+        }) ∷
+        [];
     machines = [];
     instances =
-      (record { name = codes "c"; component = 0; base = 0; queue = None; stack = None; priority = None; cpu = None }) ∷
-      (record { name = codes "d"; component = 1; base = 16; queue = None; stack = None; priority = None; cpu = None }) ∷
-      (record { name = codes "e"; component = 1; base = 32; queue = None; stack = None; priority = None; cpu = None }) ∷
-      [];
+        (record { name = codes "c"; component = 0; base = 0; queue = None; stack = None; priority = None; cpu = None }) ∷
+        (record { name = codes "d"; component = 1; base = 16; queue = None; stack = None; priority = None; cpu = None }) ∷
+        (record { name = codes "e"; component = 1; base = 32; queue = None; stack = None; priority = None; cpu = None }) ∷
+        [];
     topologies =
-      (record {
-        name = codes "T";
-        instances = 0 ∷ 1 ∷ 2 ∷ [];
-        links = [];
-        wires =
-          (record { from = record { instance = 0; port = 1; number = 0 }; to = record { instance = 1; port = 0; number = 0 } }) ∷
-          (record { from = record { instance = 0; port = 1; number = 1 }; to = record { instance = 2; port = 0; number = 0 } }) ∷
-          [];
-      }) ∷
-      [];
+        (record {
+          name = codes "T";
+          instances = 0 ∷ 1 ∷ 2 ∷ [];
+          links = [];
+          wires =
+              (record { from = record { instance = 0; port = 1; number = 0 }; to = record { instance = 1; port = 0; number = 0 } }) ∷
+              (record { from = record { instance = 0; port = 1; number = 1 }; to = record { instance = 2; port = 0; number = 0 } }) ∷
+              [];
+        }) ∷
+        [];
     order = [];
   };
   topology = 0;
@@ -105,60 +105,60 @@ abbrev program : Program
 program = record {
   steps = 10000;
   callers =
-    (record {
-      name = codes "k";
-      acts = (record { verb = verb.Call; subject = record { instance = 0; port = 0; number = 0 }; name = 0; with = []; bind = None }) ∷ [];
-    }) ∷
-    [];
+      (record {
+        name = codes "k";
+        acts = (record { verb = verb.Call; subject = record { instance = 0; port = 0; number = 0 }; name = 0; with = []; bind = None }) ∷ [];
+      }) ∷
+      [];
   handlers =
-    (record {
-      instance = 0;
-      place = spot.Port 0;
-      acts =
-        (record {
-          verb = verb.Call;
-          subject = record { instance = 0; port = 1; number = 0 };
-          name = 0;
-          with = arg.Given (value.Int (pos 5)) ∷ [];
-          bind = Some (codes "x");
-        }) ∷
-        (record {
-          verb = verb.Write;
-          subject = record { instance = 0; port = 0; number = 0 };
-          name = 0;
-          with = arg.Bound (codes "x") ∷ [];
-          bind = None;
-        }) ∷
-        (record {
-          verb = verb.Call;
-          subject = record { instance = 0; port = 1; number = 1 };
-          name = 0;
-          with = arg.Given (value.Int (pos 6)) ∷ [];
-          bind = Some (codes "x");
-        }) ∷
-        (record {
-          verb = verb.Write;
-          subject = record { instance = 0; port = 0; number = 0 };
-          name = 0;
-          with = arg.Bound (codes "x") ∷ [];
-          bind = None;
-        }) ∷
-        [];
-    }) ∷
-    (record {
-      instance = 1;
-      place = spot.Port 0;
-      acts =
-        (record {
-          verb = verb.Return;
-          subject = record { instance = 1; port = 0; number = 0 };
-          name = 0;
-          with = arg.Given (value.Int (pos 9)) ∷ [];
-          bind = None;
-        }) ∷
-        [];
-    }) ∷
-    [];
+      (record {
+        instance = 0;
+        place = spot.Port 0;
+        acts =
+            (record {
+              verb = verb.Call;
+              subject = record { instance = 0; port = 1; number = 0 };
+              name = 0;
+              with = arg.Given (value.Int (pos 5)) ∷ [];
+              bind = Some (codes "x");
+            }) ∷
+            (record {
+              verb = verb.Write;
+              subject = record { instance = 0; port = 0; number = 0 };
+              name = 0;
+              with = arg.Bound (codes "x") ∷ [];
+              bind = None;
+            }) ∷
+            (record {
+              verb = verb.Call;
+              subject = record { instance = 0; port = 1; number = 1 };
+              name = 0;
+              with = arg.Given (value.Int (pos 6)) ∷ [];
+              bind = Some (codes "x");
+            }) ∷
+            (record {
+              verb = verb.Write;
+              subject = record { instance = 0; port = 0; number = 0 };
+              name = 0;
+              with = arg.Bound (codes "x") ∷ [];
+              bind = None;
+            }) ∷
+            [];
+      }) ∷
+      (record {
+        instance = 1;
+        place = spot.Port 0;
+        acts =
+            (record {
+              verb = verb.Return;
+              subject = record { instance = 1; port = 0; number = 0 };
+              name = 0;
+              with = arg.Given (value.Int (pos 9)) ∷ [];
+              bind = None;
+            }) ∷
+            [];
+      }) ∷
+      [];
   answers = [];
 }
 

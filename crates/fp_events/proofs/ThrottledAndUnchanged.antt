@@ -34,42 +34,42 @@ tables = record {
     constants = [];
     types = [];
     ports =
-      (record { name = codes "Fw.Log"; formals = []; result = None }) ∷
-      (record { name = codes "Fw.LogText"; formals = []; result = None }) ∷
-      (record { name = codes "Fw.Time"; formals = []; result = None }) ∷
-      (record { name = codes "Fw.Tlm"; formals = []; result = None }) ∷
-      (record { name = codes "G"; formals = []; result = None }) ∷
-      [];
+        (record { name = codes "Fw.Log"; formals = []; result = None }) ∷
+        (record { name = codes "Fw.LogText"; formals = []; result = None }) ∷
+        (record { name = codes "Fw.Time"; formals = []; result = None }) ∷
+        (record { name = codes "Fw.Tlm"; formals = []; result = None }) ∷
+        (record { name = codes "G"; formals = []; result = None }) ∷
+        [];
     components =
-      (record {
-        name = codes "C";
-        queueing = queueing.Passive;
-        ports =
-          (record { name = codes "l"; role = role.Special special.Event; size = 1; of = Some 0; formals = [] }) ∷
-          (record { name = codes "lt"; role = role.Special special.TextEvent; size = 1; of = Some 1; formals = [] }) ∷
-          (record { name = codes "tg"; role = role.Special special.Time; size = 1; of = Some 2; formals = [] }) ∷
-          (record { name = codes "tl"; role = role.Special special.Tlm; size = 1; of = Some 3; formals = [] }) ∷
-          (record { name = codes "go"; role = role.Input way.Sync; size = 1; of = Some 4; formals = [] }) ∷
-          [];
-        commands = [];
-        events =
-          (record {
-            name = codes "E";
-            id = 0;
-            severity = 0;
-            formals = (record { name = codes "n"; kind = kind.U8; by_ref = false; note = [] }) ∷ [];
-            format = codes "v {x}";
-            fields = record { parts = piece.Plain (codes "v ") ∷ piece.Hex ∷ [] };
-            throttle = Some 1;
-            note = [];
-          }) ∷
-          [];
-        channels = (record { name = codes "t"; id = 0; kind = kind.U8; on_change = true; format = None; limits = []; note = [] }) ∷ [];
-        params = [];
-        matches = [];
-        machines = [];
-      }) ∷
-      [];
+        (record {
+          name = codes "C";
+          queueing = queueing.Passive;
+          ports =
+              (record { name = codes "l"; role = role.Special special.Event; size = 1; of = Some 0; formals = [] }) ∷
+              (record { name = codes "lt"; role = role.Special special.TextEvent; size = 1; of = Some 1; formals = [] }) ∷
+              (record { name = codes "tg"; role = role.Special special.Time; size = 1; of = Some 2; formals = [] }) ∷
+              (record { name = codes "tl"; role = role.Special special.Tlm; size = 1; of = Some 3; formals = [] }) ∷
+              (record { name = codes "go"; role = role.Input way.Sync; size = 1; of = Some 4; formals = [] }) ∷
+              [];
+          commands = [];
+          events =
+              (record {
+                name = codes "E";
+                id = 0;
+                severity = 0;
+                formals = (record { name = codes "n"; kind = kind.U8; by_ref = false; note = [] }) ∷ [];
+                format = codes "v {x}";
+                fields = record { parts = piece.Plain (codes "v ") ∷ piece.Hex ∷ [] };
+                throttle = Some 1;
+                note = [];
+              }) ∷
+              [];
+          channels = (record { name = codes "t"; id = 0; kind = kind.U8; on_change = true; format = None; limits = []; note = [] }) ∷ [];
+          params = [];
+          matches = [];
+          machines = [];
+        }) ∷
+        [];
     machines = [];
     instances = (record { name = codes "c"; component = 0; base = 0; queue = None; stack = None; priority = None; cpu = None }) ∷ [];
     topologies = (record { name = codes "T"; instances = 0 ∷ []; links = []; wires = [] }) ∷ [];
@@ -82,47 +82,47 @@ abbrev program : Program
 program = record {
   steps = 10000;
   callers =
-    (record {
-      name = codes "k";
-      acts = (record { verb = verb.Call; subject = record { instance = 0; port = 4; number = 0 }; name = 0; with = []; bind = None }) ∷ [];
-    }) ∷
-    [];
+      (record {
+        name = codes "k";
+        acts = (record { verb = verb.Call; subject = record { instance = 0; port = 4; number = 0 }; name = 0; with = []; bind = None }) ∷ [];
+      }) ∷
+      [];
   handlers =
-    (record {
-      instance = 0;
-      place = spot.Port 4;
-      acts =
-        (record {
-          verb = verb.Emit;
-          subject = record { instance = 0; port = 0; number = 0 };
-          name = 0;
-          with = arg.Given (value.Int (pos 10)) ∷ [];
-          bind = None;
-        }) ∷
-        (record {
-          verb = verb.Emit;
-          subject = record { instance = 0; port = 0; number = 0 };
-          name = 0;
-          with = arg.Given (value.Int (pos 10)) ∷ [];
-          bind = None;
-        }) ∷
-        (record {
-          verb = verb.Write;
-          subject = record { instance = 0; port = 0; number = 0 };
-          name = 0;
-          with = arg.Given (value.Int (pos 1)) ∷ [];
-          bind = None;
-        }) ∷
-        (record {
-          verb = verb.Write;
-          subject = record { instance = 0; port = 0; number = 0 };
-          name = 0;
-          with = arg.Given (value.Int (pos 1)) ∷ [];
-          bind = None;
-        }) ∷
-        [];
-    }) ∷
-    [];
+      (record {
+        instance = 0;
+        place = spot.Port 4;
+        acts =
+            (record {
+              verb = verb.Emit;
+              subject = record { instance = 0; port = 0; number = 0 };
+              name = 0;
+              with = arg.Given (value.Int (pos 10)) ∷ [];
+              bind = None;
+            }) ∷
+            (record {
+              verb = verb.Emit;
+              subject = record { instance = 0; port = 0; number = 0 };
+              name = 0;
+              with = arg.Given (value.Int (pos 10)) ∷ [];
+              bind = None;
+            }) ∷
+            (record {
+              verb = verb.Write;
+              subject = record { instance = 0; port = 0; number = 0 };
+              name = 0;
+              with = arg.Given (value.Int (pos 1)) ∷ [];
+              bind = None;
+            }) ∷
+            (record {
+              verb = verb.Write;
+              subject = record { instance = 0; port = 0; number = 0 };
+              name = 0;
+              with = arg.Given (value.Int (pos 1)) ∷ [];
+              bind = None;
+            }) ∷
+            [];
+      }) ∷
+      [];
   answers = [];
 }
 

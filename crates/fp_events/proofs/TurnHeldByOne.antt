@@ -31,35 +31,35 @@ tables = record {
     constants = [];
     types = [];
     ports =
-      (record {
-        name = codes "P";
-        formals = (record { name = codes "a"; kind = kind.U8; by_ref = false; note = [] }) ∷ [];
-        result = None;
-      }) ∷
-      (record { name = codes "Go"; formals = []; result = None }) ∷
-      [];
+        (record {
+          name = codes "P";
+          formals = (record { name = codes "a"; kind = kind.U8; by_ref = false; note = [] }) ∷ [];
+          result = None;
+        }) ∷
+        (record { name = codes "Go"; formals = []; result = None }) ∷
+        [];
     components =
-      (record {
-        name = codes "Q";
-        queueing = queueing.Queued;
-        ports =
-          (record {
-            name = codes "i";
-            role = role.Input (way.Later (pos 0) full.Assert);
-            size = 1;
-            of = Some 0;
-            formals = (record { name = codes "a"; kind = kind.U8; by_ref = false; note = [] }) ∷ [];
-          }) ∷
-          (record { name = codes "go"; role = role.Input way.Sync; size = 1; of = Some 1; formals = [] }) ∷
-          [];
-        commands = [];
-        events = [];
-        channels = [];
-        params = [];
-        matches = [];
-        machines = [];
-      }) ∷
-      [];
+        (record {
+          name = codes "Q";
+          queueing = queueing.Queued;
+          ports =
+              (record {
+                name = codes "i";
+                role = role.Input (way.Later (pos 0) full.Assert);
+                size = 1;
+                of = Some 0;
+                formals = (record { name = codes "a"; kind = kind.U8; by_ref = false; note = [] }) ∷ [];
+              }) ∷
+              (record { name = codes "go"; role = role.Input way.Sync; size = 1; of = Some 1; formals = [] }) ∷
+              [];
+          commands = [];
+          events = [];
+          channels = [];
+          params = [];
+          matches = [];
+          machines = [];
+        }) ∷
+        [];
     machines = [];
     instances = (record { name = codes "q"; component = 0; base = 0; queue = Some 2; stack = None; priority = None; cpu = None }) ∷ [];
     topologies = (record { name = codes "T"; instances = 0 ∷ []; links = []; wires = [] }) ∷ [];
@@ -72,40 +72,40 @@ abbrev program : Program
 program = record {
   steps = 10000;
   callers =
-    (record {
-      name = codes "k";
-      acts =
-        (record {
-          verb = verb.Call;
-          subject = record { instance = 0; port = 0; number = 0 };
-          name = 0;
-          with = arg.Given (value.Int (pos 1)) ∷ [];
-          bind = None;
-        }) ∷
-        (record {
-          verb = verb.Call;
-          subject = record { instance = 0; port = 0; number = 0 };
-          name = 0;
-          with = arg.Given (value.Int (pos 2)) ∷ [];
-          bind = None;
-        }) ∷
-        (record { verb = verb.Call; subject = record { instance = 0; port = 1; number = 0 }; name = 0; with = []; bind = None }) ∷
-        [];
-    }) ∷
-    (record {
-      name = codes "m";
-      acts = (record { verb = verb.Call; subject = record { instance = 0; port = 1; number = 0 }; name = 0; with = []; bind = None }) ∷ [];
-    }) ∷
-    [];
+      (record {
+        name = codes "k";
+        acts =
+            (record {
+              verb = verb.Call;
+              subject = record { instance = 0; port = 0; number = 0 };
+              name = 0;
+              with = arg.Given (value.Int (pos 1)) ∷ [];
+              bind = None;
+            }) ∷
+            (record {
+              verb = verb.Call;
+              subject = record { instance = 0; port = 0; number = 0 };
+              name = 0;
+              with = arg.Given (value.Int (pos 2)) ∷ [];
+              bind = None;
+            }) ∷
+            (record { verb = verb.Call; subject = record { instance = 0; port = 1; number = 0 }; name = 0; with = []; bind = None }) ∷
+            [];
+      }) ∷
+      (record {
+        name = codes "m";
+        acts = (record { verb = verb.Call; subject = record { instance = 0; port = 1; number = 0 }; name = 0; with = []; bind = None }) ∷ [];
+      }) ∷
+      [];
   handlers =
-    (record {
-      instance = 0;
-      place = spot.Port 1;
-      acts =
-        (record { verb = verb.Dispatch; subject = record { instance = 0; port = 0; number = 0 }; name = 0; with = []; bind = None }) ∷
-        [];
-    }) ∷
-    [];
+      (record {
+        instance = 0;
+        place = spot.Port 1;
+        acts =
+            (record { verb = verb.Dispatch; subject = record { instance = 0; port = 0; number = 0 }; name = 0; with = []; bind = None }) ∷
+            [];
+      }) ∷
+      [];
   answers = [];
 }
 
