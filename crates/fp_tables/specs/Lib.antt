@@ -1,0 +1,11 @@
+pub mod Components
+pub mod Formats
+pub mod Instances
+pub mod Lists
+pub mod Lookup
+pub mod Machines
+pub mod Names
+pub mod Positions
+pub mod Programs
+pub mod Sound
+pub mod Types

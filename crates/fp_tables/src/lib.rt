@@ -6,6 +6,7 @@ mod kind;
 mod machine;
 mod model;
 mod program;
+mod sound;
 mod tables;
 mod topology;
 
