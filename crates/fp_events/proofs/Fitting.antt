@@ -1,0 +1,24 @@
+-- Each entry of a run fits.
+use Rattle.std.proofs.Common.{◌≡◌, ℕ, true, List, ◌∷◌, ◌++◌, sym, subst}
+use Rattle.fp_system.specs.Run.{InstanceStep, Run, World, opening}
+use Rattle.fp_system.proofs.Local.{instance_law}
+use Rattle.fp_tables.specs.declared.tables.Tables.{Tables}
+use Rattle.fp_tables.specs.declared.program.Program.{Program}
+use Rattle.fp_events.specs.declared.event.Entry.{Entry}
+use Rattle.fp_events.specs.Instance.{InstanceState}
+use Rattle.fp_events.specs.Actor.{ActorState}
+use Rattle.fp_events.specs.Fits.{fits}
+use Rattle.fp_events.specs.Step.{core}
+use Rattle.fp_events.proofs.StepLaws.{given, core_laws}
+
+module _ (t : Tables) (program : Program) where
+  pub run_fits : (es : List Entry) (v : World InstanceState ActorState) → Run (core t program) (opening (core t program)) es v
+      → (before : List Entry) (e : Entry) (rest : List Entry) → es ≡ before ++ e ∷ rest → fits t program e.actor e.instance e.what ≡ true
+  run_fits =
+      instance_law (core t program) (core_laws t program) (λ i es s. Unit {0}) (λ es e. fits t program e.actor e.instance e.what ≡ true)
+      (λ i. tt) (λ i es s u e holds step. tt) (λ i es s u e holds step. fit i s u e step)
+    where
+      fit : (i : ℕ) (s u : InstanceState) (e : Entry) → InstanceStep (core t program) i s e u → fits t program e.actor e.instance e.what ≡ true
+      fit i s u e step =
+          let g = given t program i e.actor step.seen s u step.ask e step.part in
+          subst (λ (k : ℕ). fits t program e.actor k e.what ≡ true) (sym g.instance) g.fit

@@ -1,0 +1,13 @@
+pub mod Turns
+pub mod OfRun
+pub mod Decompose
+pub mod Sorting
+pub mod Agreement
+pub mod Rows
+pub mod Merged
+pub mod Ended
+pub mod Scheduled
+pub mod Seen
+pub mod Local
+pub mod Spent
+pub mod Replay
