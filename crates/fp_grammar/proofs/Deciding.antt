@@ -4,7 +4,7 @@ use Rattle.std.specs.Prelude.{slice_get}
 use Rattle.std.proofs.lemmas.Option.{slice_get_within}
 use Rattle.fp_grammar.specs.Grammar.{Grammar, Spells, Among}
 use Rattle.fp_grammar.specs.Grammar.Grammar.{token, seq, map, with_tokens, alt, optional, many, separated, separated_tail, ref}
-use Rattle.fp_grammar.specs.Sets.{is_ll1, productive, nullable, first, member}
+use Rattle.fp_grammar.specs.Sets.{is_ll1, nullable, first, member}
 use Rattle.fp_grammar.specs.Promises.{RefsGood, Fits}
 use Rattle.fp_grammar.specs.Decided.{Answer, RefsDecided}
 use Rattle.fp_grammar.specs.Decided.Answer.{accepted, refused}
@@ -128,28 +128,23 @@ module _ {T : Type 0} {kind : T → ℕ} where
   separated_from zero a seps tokens from mid k fits f l r = absurd (omega (arith, l))
   separated_from (suc fuel) a seps tokens from mid k fits f l r = separated_step a seps tokens from mid k fits r (λ k' to e r'. separated_from fuel a seps tokens from to k' fits f (omega (arith, e, l)) r') (f mid)
 
-  pub answer_of : {X : Type 0} (g : Grammar T X) → Fits kind g → RefsDecided kind g → (tokens : List T) (from : ℕ) → Answer kind g tokens from
-  answer_of (token k) fits d tokens from = token_answer_at k tokens from (slice_get tokens from) refl
-  answer_of (seq a b) fits d tokens from =
-      let e = and-right (is_ll1 a) _ fits.ll1 in
-      let fits_a : Fits kind a = record { ll1 = and-left (is_ll1 a) _ fits.ll1; some = and-left (productive a) _ fits.some; refs = fits.refs.0 } in
-      let fits_b : Fits kind b = record { ll1 = and-left (is_ll1 b) _ e; some = and-right (productive a) _ fits.some; refs = fits.refs.1 } in
-      seq_answer a b tokens from fits (answer_of a fits_a d.0 tokens from) (λ mid. answer_of b fits_b d.1 tokens mid)
-  answer_of (map f a) fits d tokens from = map_answer f a tokens from (answer_of a (record { ll1 = fits.ll1; some = fits.some; refs = fits.refs }) d tokens from)
-  answer_of (with_tokens a) fits d tokens from = with_tokens_answer a tokens from (answer_of a (record { ll1 = fits.ll1; some = fits.some; refs = fits.refs }) d tokens from)
-  answer_of (alt a b) fits d tokens from =
-      let e = and-right (is_ll1 a) _ fits.ll1 in
-      let fits_a : Fits kind a = record { ll1 = and-left (is_ll1 a) _ fits.ll1; some = d.0; refs = fits.refs.0 } in
-      let fits_b : Fits kind b = record { ll1 = and-left (is_ll1 b) _ e; some = d.1; refs = fits.refs.1 } in
-      alt_answer a b tokens from fits.ll1 fits.refs (answer_of a fits_a d.2 tokens from) (answer_of b fits_b d.3 tokens from)
-  answer_of (optional a) fits d tokens from = optional_answer a tokens from (answer_of a (record { ll1 = and-left (is_ll1 a) _ fits.ll1; some = d.0; refs = fits.refs }) d.1 tokens from)
-  answer_of (many a) fits d tokens from =
-      let fits_a : Fits kind a = record { ll1 = and-left (is_ll1 a) _ fits.ll1; some = d.0; refs = fits.refs } in
-      many_from (length (drop from tokens) + 1) a tokens from from (λ xs. xs) fits (λ at. answer_of a fits_a d.1 tokens at) (omega arith) (begin tokens from fits)
-  answer_of (separated a seps) fits d tokens from =
-      let fits_a : Fits kind a = record { ll1 = and-left (is_ll1 a) _ fits.ll1; some = d.0; refs = fits.refs } in
-      separated_from (length (drop from tokens) + 1) a seps tokens from from (λ xs. xs) fits (λ at. answer_of a fits_a d.1 tokens at) (omega arith) (begin tokens from fits)
-  answer_of (separated_tail a seps) fits d tokens from =
-      let fits_a : Fits kind a = record { ll1 = and-left (is_ll1 a) _ fits.ll1; some = d.0; refs = fits.refs } in
-      tail_step a seps tokens from from (λ xs. xs) (begin tokens from fits) (λ r. separated_from (length (drop (from + 1) tokens) + 1) a seps tokens from (from + 1) (λ xs. xs) (record { ll1 = fits.ll1; some = refl; refs = fits.refs }) (λ at. answer_of a fits_a d.1 tokens at) (omega arith) r)
-  answer_of (ref n) fits d tokens from = d tokens from
+  pub answer_of : {X : Type 0} (g : Grammar T X) → is_ll1 g ≡ true → RefsGood kind g → RefsDecided kind g → (tokens : List T) (from : ℕ) → Answer kind g tokens from
+  answer_of (token k) ll1 refs d tokens from = token_answer_at k tokens from (slice_get tokens from) refl
+  answer_of (seq a b) ll1 refs d tokens from =
+      let fits : Fits kind (seq a b) = record { ll1 = ll1; some = d.0; refs = refs } in
+      seq_answer a b tokens from fits (answer_of a (and-left (is_ll1 a) _ ll1) refs.0 d.1 tokens from) (λ mid. answer_of b (and-left (is_ll1 b) _ (and-right (is_ll1 a) _ ll1)) refs.1 d.2 tokens mid)
+  answer_of (map f a) ll1 refs d tokens from = map_answer f a tokens from (answer_of a ll1 refs d tokens from)
+  answer_of (with_tokens a) ll1 refs d tokens from = with_tokens_answer a tokens from (answer_of a ll1 refs d tokens from)
+  answer_of (alt a b) ll1 refs d tokens from =
+      alt_answer a b tokens from ll1 refs (answer_of a (and-left (is_ll1 a) _ ll1) refs.0 d.0 tokens from) (answer_of b (and-left (is_ll1 b) _ (and-right (is_ll1 a) _ ll1)) refs.1 d.1 tokens from)
+  answer_of (optional a) ll1 refs d tokens from = optional_answer a tokens from (answer_of a (and-left (is_ll1 a) _ ll1) refs d tokens from)
+  answer_of (many a) ll1 refs d tokens from =
+      let fits : Fits kind (many a) = record { ll1 = ll1; some = refl; refs = refs } in
+      many_from (length (drop from tokens) + 1) a tokens from from (λ xs. xs) fits (λ at. answer_of a (and-left (is_ll1 a) _ ll1) refs d tokens at) (omega arith) (begin tokens from fits)
+  answer_of (separated a seps) ll1 refs d tokens from =
+      let fits : Fits kind (separated a seps) = record { ll1 = ll1; some = refl; refs = refs } in
+      separated_from (length (drop from tokens) + 1) a seps tokens from from (λ xs. xs) fits (λ at. answer_of a (and-left (is_ll1 a) _ ll1) refs d tokens at) (omega arith) (begin tokens from fits)
+  answer_of (separated_tail a seps) ll1 refs d tokens from =
+      let fits : Fits kind (separated_tail a seps) = record { ll1 = ll1; some = refl; refs = refs } in
+      tail_step a seps tokens from from (λ xs. xs) (begin tokens from fits) (λ r. separated_from (length (drop (from + 1) tokens) + 1) a seps tokens from (from + 1) (λ xs. xs) (record { ll1 = ll1; some = refl; refs = refs }) (λ at. answer_of a (and-left (is_ll1 a) _ ll1) refs d tokens at) (omega arith) r)
+  answer_of (ref n) ll1 refs d tokens from = d tokens from

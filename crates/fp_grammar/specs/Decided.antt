@@ -10,15 +10,15 @@ pub data Answer {T X : Type 0} (kind : T → ℕ) (g : Grammar T X) (tokens : Li
   accepted : (x : X) (to : ℕ) → Accepts kind g tokens from x to → Answer kind g tokens from
   refused : (to : ℕ) → Refuses kind g tokens from to → Answer kind g tokens from
 
--- each nonterminal has an answer everywhere, and what may be left out has a spelling
+-- each nonterminal has an answer everywhere, and what stands in a row has a spelling
 abbrev pub RefsDecided : {T X : Type 0} → (T → ℕ) → Grammar T X → Type 0
 RefsDecided kind (token k) = Unit {0}
-RefsDecided kind (seq a b) = RefsDecided kind a × RefsDecided kind b
+RefsDecided kind (seq a b) = (productive (seq a b) ≡ true) × RefsDecided kind a × RefsDecided kind b
 RefsDecided kind (map f a) = RefsDecided kind a
 RefsDecided kind (with_tokens a) = RefsDecided kind a
-RefsDecided kind (alt a b) = (productive a ≡ true) × (productive b ≡ true) × RefsDecided kind a × RefsDecided kind b
-RefsDecided kind (optional a) = (productive a ≡ true) × RefsDecided kind a
-RefsDecided kind (many a) = (productive a ≡ true) × RefsDecided kind a
-RefsDecided kind (separated a seps) = (productive a ≡ true) × RefsDecided kind a
-RefsDecided kind (separated_tail a seps) = (productive a ≡ true) × RefsDecided kind a
+RefsDecided kind (alt a b) = RefsDecided kind a × RefsDecided kind b
+RefsDecided kind (optional a) = RefsDecided kind a
+RefsDecided kind (many a) = RefsDecided kind a
+RefsDecided kind (separated a seps) = RefsDecided kind a
+RefsDecided kind (separated_tail a seps) = RefsDecided kind a
 RefsDecided {T = T} kind (ref n) = (tokens : List T) (from : ℕ) → Answer kind (ref n) tokens from

@@ -19,7 +19,7 @@ impl Predictive for Bytes {
 
     ghost fits = { record { ll1 = refl; some = refl; refs = (record { example = λ k. (k, refl) }, record { example = λ k. (k, refl) }) } };
 
-    ghost decided = { (tt, (refl, tt)) };
+    ghost decided = { (refl, tt, tt) };
 }
 
 #[test]

@@ -50,4 +50,4 @@ pub unit_fits : Fits kind Language.unit
 unit_fits = record { ll1 = refl; some = refl; refs = assumption each_kind }
 
 pub unit_decided : RefsDecided kind Language.unit
-unit_decided = (refl, (tt, (tt, (tt, tt))))
+unit_decided = (refl, tt, (refl, tt, (refl, tt, tt)))
