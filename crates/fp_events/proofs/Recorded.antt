@@ -9,11 +9,10 @@ use Rattle.fp_system.proofs.Rows.{kept_owned, row_of_joined}
 use Rattle.fp_system.proofs.Sorting.{NeverFalls, never_falls}
 use Rattle.fp_system.proofs.Merged.{sorted_run, sorted_histories, sorted_traces, entry_lt-stamps}
 use Rattle.fp_base.proofs.Sameness.{both}
-use Rattle.fp_tables.specs.declared.tables.Tables.{Tables}
+use Rattle.fp_tables.specs.Lookup.{Described, placed}
 use Rattle.fp_tables.specs.declared.program.Program.{Program}
 use Rattle.fp_events.specs.declared.event.Entry.{Entry}
 use Rattle.fp_events.specs.declared.event.What.{What}
-use Rattle.fp_events.specs.Lookup.{placed}
 use Rattle.fp_events.specs.Machine.{is_in}
 use Rattle.fp_events.specs.Instance.{InstanceState}
 use Rattle.fp_events.specs.Actor.{ActorState}
@@ -40,7 +39,7 @@ row_past (es ∷ rows) (suc k) past = row_past rows k (omega arith)
 pub near : (m n : ℕ) → (m < n) ⊎ (n ≤ m)
 near m n = grind arith
 
-module _ (t : Tables) (program : Program) where
+module _ (t : Described) (program : Program) where
   pub fit_parts : (a i : ℕ) (w : What) → fits t program a i w ≡ true → (a < actor_count t program) × (is_placed t program i ≡ true)
   unfolding fits
   fit_parts a i w h =
