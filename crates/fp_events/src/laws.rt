@@ -1,9 +1,9 @@
-ghost use Rattle.std.specs.Prelude.{◌≡◌, ◌<◌, ◌≤◌, ◌↔◌, ℕ, Bool, Some, List, map, length, ◌∷◌, ◌++◌, nat_eq, is_some, not, true};
-ghost use Rattle.std.specs.List.{IsDistinct};
+ghost use Rattle.std.specs.Prelude.{◌≡◌, ◌<◌, ◌≤◌, ◌↔◌, ℕ, Bool, Some, List, map, length, ◌∷◌, ◌++◌, is_some, not, true};
 ghost use Rattle.std.specs.List.Sorted.{IsSortedBy, IsStableBy};
 ghost use Rattle.fp_system.specs.System.{IsOneChange, IsTaking, Laws};
 ghost use Rattle.fp_system.specs.Run.{joined};
 ghost use Rattle.fp_tables.specs.Lookup.{Described, placed};
+ghost use Rattle.fp_tables.specs.Names.{numbers_differ};
 ghost use Rattle.fp_tables.specs.declared.machine.Machine.{Machine};
 ghost use Rattle.fp_tables.specs.declared.machine.Step.{Step};
 ghost use Rattle.fp_tables.specs.declared.program.Program.{Program};
@@ -68,10 +68,10 @@ pub fn decomposition()
 {}
 
 /// Where each instance of a topology has a history and each actor a trace, and these agree, all entries by stamp and actor
-/// are a run with these histories and traces.
+/// are a run with these histories and traces. No instance stands twice in a sound topology.
 pub fn merging()
     ensures { (tables : Described) (program : Program) (histories traces : List (List Entry))
-        → IsDistinct nat_eq (placed tables) → AreRecords tables program histories traces
+        → numbers_differ (placed tables) ≡ true → AreRecords tables program histories traces
         → (es : List Entry) → IsSortedBy entry_lt es → IsStableBy entry_lt (joined histories) es
         → IsRun tables program es
         × ((i : ℕ) → at i es ≡ history tables program histories i)
