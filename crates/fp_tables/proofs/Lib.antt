@@ -1,1 +1,3 @@
+pub mod Alls
 pub mod Differing
+pub mod Firsts

@@ -1,5 +1,6 @@
 pub mod Components
 pub mod Formats
+pub mod Found
 pub mod Instances
 pub mod Lists
 pub mod Lookup

@@ -1,2 +1,3 @@
 mod names;
+mod naming;
 mod positions;
