@@ -1,3 +1,4 @@
 pub mod Alls
 pub mod Differing
 pub mod Firsts
+pub mod Joining

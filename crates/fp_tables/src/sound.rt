@@ -1,3 +1,5 @@
+mod components;
 mod names;
 mod naming;
 mod positions;
+mod topologies;

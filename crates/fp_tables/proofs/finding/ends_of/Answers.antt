@@ -2,16 +2,13 @@ use Rattle.std.proofs.Common.{◌≡◌, ◌∙◌, ap, refl, sym, subst, ℕ, B
 use Rattle.std.proofs.lemmas.Bool.Decides.{nat_tests, Decides-eqb}
 use Rattle.std.specs.Ordering.{nat_cmp}
 use Rattle.std.specs.BTreeMap.{get_by, is_at}
-use Rattle.fp_tables.specs.Found.{key_cmp, end_of}
+use Rattle.fp_tables.specs.Found.{key_cmp, end_of, key_of}
 use Rattle.fp_tables.specs.Lookup.{same_end}
 use Rattle.fp_tables.specs.declared.topology.Wire.{Wire}
 use Rattle.fp_tables.specs.declared.topology.End.{End}
 use Rattle.fp_tables.proofs.Firsts.{find_more, mapped, filled, kept, none_of}
 use Rattle.fp_tables.proofs.finding.ends_of.Goals as goal
 use Rattle.fp_tables.proofs.finding.ends_of.Goals.{then-not-contains_key+in_ok-insert, else-not-contains_key}
-
-abbrev key_of : End → ℕ × ℕ × ℕ
-key_of e = (e.instance, e.port, e.number)
 
 is_at_same : (e : End) (q : ℕ × ℕ × ℕ) → is_at (key_cmp (key_of e)) q ≡ same_end e (end_of q)
 is_at_same e q = grind (arith, nat_tests)
