@@ -1,4 +1,7 @@
 mod components;
+mod formats;
+mod instances;
+mod lengths;
 mod names;
 mod naming;
 mod positions;

@@ -1,11 +1,11 @@
-ghost use Rattle.std.specs.Prelude.{◌≡◌, IfOk};
+ghost use Rattle.std.specs.Prelude.{◌≡◌, not, IfOk};
 ghost use Rattle.std.specs.List.{list_all};
-ghost use Rattle.fp_tables.specs.Components.{is_later, internal_is_later, is_from_1_to, names_differ, ids_differ};
+ghost use Rattle.fp_tables.specs.Components.{is_later, internal_is_later, is_from_1_to, names_differ, ids_differ, waits, waits_for_nothing};
 ghost use Rattle.fp_tables.specs.declared.component.Port.{Port};
 ghost use Rattle.fp_tables.specs.declared.component.Running.{Running};
-ghost use Rattle.fp_tables.specs.declared.component.Component.{Component};
+ghost use Rattle.fp_tables.specs.declared.component.Command.{Command};
 
-use crate::component::{Component, Port, Role, Running, Way};
+use crate::component::{Command, Component, Port, Role, Running, Way};
 use crate::sound::names;
 use fp_base::NoMemory;
 use std::alloc::Global;
@@ -71,4 +71,35 @@ pub fn ids_differ(alloc: Global, component: &Component) -> Result<bool, NoMemory
     let channels = names::ids_differ(alloc, &component.channels)?;
     let params = names::ids_differ(alloc, &component.params)?;
     Ok(commands & events & channels & params)
+}
+
+fn waits(role: &Role) -> bool
+    ensures { result ≡ waits role.now }
+{
+    match role {
+        Role::Input(way) => is_later(way),
+        Role::Internal(_) => true,
+        _ => false,
+    }
+}
+
+fn no_port_waits(ports: &[Port]) -> bool
+    ensures { result ≡ list_all (λ (port : Port). not (waits port.role)) ports.now }
+{
+    ports.iter().all(|port| !waits(&port.role))
+}
+
+fn no_command_waits(commands: &[Command]) -> bool
+    ensures { result ≡ list_all (λ (command : Command). not (is_later command.way)) commands.now }
+{
+    commands.iter().all(|command| !is_later(&command.way))
+}
+
+/// Whether a component has nothing that waits in a queue.
+pub fn waits_for_nothing(component: &Component) -> bool
+    ensures { result ≡ waits_for_nothing component.now }
+{
+    no_port_waits(component.ports.as_slice())
+        && no_command_waits(component.commands.as_slice())
+        && component.machines.len() == 0
 }

@@ -130,9 +130,8 @@ fn wires_join_one_definition(model: &Model, topology: &Topology, wires: &[Wire])
 fn wires_join(members: &BTreeSet<u32>, wires: &[Wire]) -> bool
     ensures { result ≡ list_all (λ (wire : Wire). contains nat_cmp members.now wire.from.instance && contains nat_cmp members.now wire.to.instance) wires.now }
 {
-    wires
-        .iter()
-        .all(|wire| members.contains(&wire.from.instance) && members.contains(&wire.to.instance))
+    wires.iter().all(|wire| members.contains(&wire.from.instance)
+        && members.contains(&wire.to.instance))
 }
 
 /// Whether each wire goes between two instances of the topology.
