@@ -9,4 +9,5 @@ pub mod Names
 pub mod Positions
 pub mod Programs
 pub mod Sound
+pub mod SoundPrograms
 pub mod Types
