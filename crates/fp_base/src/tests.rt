@@ -46,3 +46,45 @@ fn counts_places(rt: HostRuntime) {
         }
     }
 }
+
+#[test]
+fn prints_and_copies_values(rt: HostRuntime) -> Result<(), Fail> {
+    let alloc = rt.alloc();
+    let mut items = Row::new(alloc);
+    items.push(Value::Int(-7))?;
+    items.push(Value::Bool(true))?;
+    let mut parts = Row::new(alloc);
+    parts.push(Part {
+        name: Text::from_str(alloc, "x")?,
+        value: Value::Array(items),
+    })?;
+    parts.push(Part {
+        name: Text::from_str(alloc, "y")?,
+        value: Value::Opaque,
+    })?;
+    let red = Value::Enumerated {
+        of: Text::from_str(alloc, "M.Color")?,
+        constant: Text::from_str(alloc, "RED")?,
+        number: 3,
+    };
+    let quoted = Text::from_str(alloc, "a\"\\\n\x7f")?;
+    let mut cases = Vec::new(alloc);
+    cases.push((Value::Int(-12), "-12"))?;
+    cases.push((
+        Value::Int(i128::MAX),
+        "170141183460469231731687303715884105727",
+    ))?;
+    cases.push((Value::Bool(false), "false"))?;
+    cases.push((Value::Text(quoted), "\"a\\\"\\\\\\x0a\\x7f\""))?;
+    cases.push((red, "RED"))?;
+    cases.push((Value::Array(Row::new(alloc)), "[]"))?;
+    cases.push((Value::Struct(Row::new(alloc)), "{}"))?;
+    cases.push((Value::Struct(parts), "{x = [-7, true], y = opaque}"))?;
+    for (value, text) in cases.iter() {
+        let mut out = Row::new(alloc);
+        value.print(alloc, &mut out)?;
+        assert_eq!(rt; out.as_slice(), text.as_bytes());
+        assert!(rt; value.copy(alloc)?.same(value));
+    }
+    Ok(())
+}

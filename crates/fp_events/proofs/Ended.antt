@@ -5,7 +5,7 @@ use Rattle.std.proofs.lemmas.Bool.Decides.{nat_tests}
 use Rattle.fp_system.proofs.Ended.{ended_stuck, stuck_dues}
 use Rattle.fp_system.proofs.Spent.{spent_stamp}
 use Rattle.fp_base.proofs.Sameness.{both}
-use Rattle.fp_tables.specs.declared.tables.Tables.{Tables}
+use Rattle.fp_tables.specs.Lookup.{Described}
 use Rattle.fp_tables.specs.declared.program.Program.{Program}
 use Rattle.fp_events.specs.declared.event.Ask.{Ask}
 use Rattle.fp_events.specs.declared.event.Entry.{Entry}
@@ -63,7 +63,7 @@ spent_above false false true complete h = refl
 spent_above false false false true h = absurd (cc)
 spent_above false false false false h = absurd (cc)
 
-module _ (t : Tables) (program : Program) where
+module _ (t : Described) (program : Program) where
   fit_actor : (a i : ℕ) (w : What) → fits t program a i w ≡ true → a < actor_count t program
   unfolding fits
   fit_actor a i w h =

@@ -2,7 +2,7 @@
 use Rattle.std.proofs.Common.{◌≡◌, ℕ, true, List, ◌∷◌, ◌++◌, sym, subst}
 use Rattle.fp_system.specs.Run.{InstanceStep, Run, World, opening}
 use Rattle.fp_system.proofs.Local.{instance_law}
-use Rattle.fp_tables.specs.declared.tables.Tables.{Tables}
+use Rattle.fp_tables.specs.Lookup.{Described}
 use Rattle.fp_tables.specs.declared.program.Program.{Program}
 use Rattle.fp_events.specs.declared.event.Entry.{Entry}
 use Rattle.fp_events.specs.Instance.{InstanceState}
@@ -11,7 +11,7 @@ use Rattle.fp_events.specs.Fits.{fits}
 use Rattle.fp_events.specs.Step.{core}
 use Rattle.fp_events.proofs.StepLaws.{given, core_laws}
 
-module _ (t : Tables) (program : Program) where
+module _ (t : Described) (program : Program) where
   pub run_fits : (es : List Entry) (v : World InstanceState ActorState) → Run (core t program) (opening (core t program)) es v
       → (before : List Entry) (e : Entry) (rest : List Entry) → es ≡ before ++ e ∷ rest → fits t program e.actor e.instance e.what ≡ true
   run_fits =

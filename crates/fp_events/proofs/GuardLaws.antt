@@ -2,7 +2,7 @@
 use Rattle.std.proofs.Common.{◌≡◌, ℕ, suc, Bool, true, false, cond, nat_lt, length, Option, Some, None, List, [], ◌∷◌, ◌++◌, refl, sym, ap, ◌∙◌, subst, slice_get}
 use Rattle.fp_system.specs.Run.{Run, World, at, opening}
 use Rattle.fp_system.proofs.Local.{instance_law}
-use Rattle.fp_tables.specs.declared.tables.Tables.{Tables}
+use Rattle.fp_tables.specs.Lookup.{Described}
 use Rattle.fp_tables.specs.declared.component.Full.{Full}
 use Rattle.fp_tables.specs.declared.component.Full.TheVariants as full
 use Rattle.fp_tables.specs.declared.component.Way.TheVariants.{Later, Sync, Guarded}
@@ -38,7 +38,7 @@ guard_free : (g : Option Holding) (r : Arrival) (w : What) → guards r g ≡ So
 guard_free None r w h = subst (IsFree None) (some_is _ w h) refl
 guard_free (Some held) r w h = absurd (cc)
 
-module _ (t : Tables) (program : Program) (i : ℕ) where
+module _ (t : Described) (program : Program) (i : ℕ) where
   arrives_free : (s : Inside) (r : Arrival) (m : Manner) (w : What) → arrives t i s r m ≡ Some w → IsFree s.guard w
   arrives_free s r (by Sync) w h = subst (IsFree s.guard) (some_is _ w h) tt
   arrives_free s r (by Guarded) w h = guard_free s.guard r w h
@@ -74,7 +74,7 @@ holder_from-more : (g : Option Holding) (es : List Entry) (e : Entry) → holder
 holder_from-more g [] e = refl
 holder_from-more g (x ∷ es) e = holder_from-more (holder_after g x.actor x.what) es e
 
-module _ (t : Tables) (program : Program) where
+module _ (t : Described) (program : Program) where
   pub guard_free_at : (es : List Entry) (v : World InstanceState ActorState) → Run (core t program) (opening (core t program)) es v
       → (before : List Entry) (e : Entry) (rest : List Entry) → es ≡ before ++ e ∷ rest → IsFree (holder_from None (at (core t program) e.instance before)) e.what
   guard_free_at =

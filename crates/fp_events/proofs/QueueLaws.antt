@@ -3,7 +3,7 @@ use Rattle.std.proofs.Common.{◌≡◌, ℕ, suc, ◌≤◌, Bool, true, false,
 use Rattle.std.proofs.lemmas.Bool.Decides.{nat_tests}
 use Rattle.fp_system.specs.Run.{InstanceStep, Run, World, at, opening}
 use Rattle.fp_system.proofs.Local.{instance_law}
-use Rattle.fp_tables.specs.declared.tables.Tables.{Tables}
+use Rattle.fp_tables.specs.Lookup.{Described}
 use Rattle.fp_tables.specs.declared.component.Full.{Full}
 use Rattle.fp_tables.specs.declared.component.Full.TheVariants as full
 use Rattle.fp_tables.specs.declared.component.Way.TheVariants.{Later, Sync, Guarded}
@@ -43,7 +43,7 @@ length-push : (ps : List Pending) (p : Pending) → length (ps ++ p ∷ []) ≡ 
 length-push [] p = refl
 length-push (x ∷ ps) p = ap suc (length-push ps p)
 
-module _ (t : Tables) (program : Program) (i : ℕ) where
+module _ (t : Described) (program : Program) (i : ℕ) where
   -- a told entry is in order where the one that it is is
   told_in_order : (ps : List Pending) (x w : What) → IsInOrder t i ps x → Some x ≡ Some w → IsInOrder t i ps w
   told_in_order ps x w is h = subst (IsInOrder t i ps) (some_is x w h) is
@@ -138,7 +138,7 @@ module _ (t : Tables) (program : Program) (i : ℕ) where
   untaken_from-more ps [] e = refl
   untaken_from-more ps (x ∷ es) e = untaken_from-more (untaken_after t i ps x.what) es e
 
-module _ (t : Tables) (program : Program) where
+module _ (t : Described) (program : Program) where
   -- what an instance keeps of its history
   abbrev Keeps : ℕ → List Entry → InstanceState → Type 0
   Keeps i es s = (s.inside.pending ≡ untaken_from t i [] es) × (length s.inside.pending ≤ queue_size t i)

@@ -10,7 +10,7 @@ use Rattle.fp_events.specs.declared.event.Point.TheVariants as point
 use Rattle.fp_events.specs.declared.event.Origin.TheVariants as origin
 use Rattle.fp_events.specs.declared.event.What.TheVariants as what
 use Rattle.fp_events.specs.declared.event.Finish.TheVariants as finish
-use Rattle.fp_tables.specs.declared.tables.Tables.{Tables}
+use Rattle.fp_tables.specs.Lookup.{Described}
 use Rattle.fp_tables.specs.declared.program.Program.{Program}
 use Rattle.fp_events.specs.declared.event.Entry.{Entry}
 use Rattle.fp_events.specs.Due.{due}
@@ -22,7 +22,7 @@ use Rattle.fp_events.specs.Fits.{fits, what_fits}
 use Rattle.fp_events.specs.Step.{instance_part, actor_part}
 use Rattle.fp_events.specs.Worked.{Makes}
 
-abbrev tables : Tables
+abbrev tables : Described
 tables = record {
   model = record {
     constants = [];

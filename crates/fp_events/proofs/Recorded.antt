@@ -1,6 +1,6 @@
 -- Histories of the topology's instances and traces of the program's actors that agree, joined and sorted, are a run.
-use Rattle.std.proofs.Common.{◌≡◌, ℕ, zero, suc, ◌<◌, ◌≤◌, Bool, true, false, cond, ◌&&◌, nat_lt, length, List, [], ◌∷◌, refl, sym, ap, ◌∙◌, subst, ◌⊎◌, inl, inr, arith, eqb}
-use Rattle.std.specs.List.{IsDistinct}
+use Rattle.std.proofs.Common.{◌≡◌, ℕ, zero, suc, ◌<◌, ◌≤◌, Bool, true, false, cond, ◌&&◌, ◌||◌, ◌==◌, not, nat_lt, length, List, [], ◌∷◌, refl, sym, ap, ◌∙◌, subst, ◌⊎◌, inl, inr, arith, eqb}
+use Rattle.std.specs.List.{AllByRecursion, IsDistinct, list_any}
 use Rattle.std.specs.List.Sorted.{IsSortedBy, IsStableBy}
 use Rattle.std.proofs.lemmas.Bool.Decides.{nat_tests}
 use Rattle.fp_system.specs.Run as system
@@ -9,11 +9,11 @@ use Rattle.fp_system.proofs.Rows.{kept_owned, row_of_joined}
 use Rattle.fp_system.proofs.Sorting.{NeverFalls, never_falls}
 use Rattle.fp_system.proofs.Merged.{sorted_run, sorted_histories, sorted_traces, entry_lt-stamps}
 use Rattle.fp_base.proofs.Sameness.{both}
-use Rattle.fp_tables.specs.declared.tables.Tables.{Tables}
+use Rattle.fp_tables.specs.Names.{numbers_differ}
+use Rattle.fp_tables.specs.Lookup.{Described, placed}
 use Rattle.fp_tables.specs.declared.program.Program.{Program}
 use Rattle.fp_events.specs.declared.event.Entry.{Entry}
 use Rattle.fp_events.specs.declared.event.What.{What}
-use Rattle.fp_events.specs.Lookup.{placed}
 use Rattle.fp_events.specs.Machine.{is_in}
 use Rattle.fp_events.specs.Instance.{InstanceState}
 use Rattle.fp_events.specs.Actor.{ActorState}
@@ -37,10 +37,27 @@ row_past [] k past = refl
 row_past (es ∷ rows) zero past = absurd (omega arith)
 row_past (es ∷ rows) (suc k) past = row_past rows k (omega arith)
 
+-- numbers that a test finds apart are distinct
+apart_from : (n : ℕ) (ns : List ℕ) → not (list_any (λ m. n == m) ns) ≡ true → AllByRecursion (λ m. eqb n m ≡ false) ns
+apart_from n [] h = tt
+apart_from n (m ∷ ns) h = go (eqb n m) refl h (apart_from n ns)
+  where
+    go : (b : Bool) → eqb n m ≡ b → not (b || list_any (λ k. n == k) ns) ≡ true → (not (list_any (λ k. n == k) ns) ≡ true → AllByRecursion (λ k. eqb n k ≡ false) ns)
+        → (eqb n m ≡ false) × AllByRecursion (λ k. eqb n k ≡ false) ns
+    go true is out again = absurd (cc)
+    go false is out again = (is, again out)
+
+pub distinct_from : (ns : List ℕ) → numbers_differ ns ≡ true → IsDistinct eqb ns
+unfolding IsDistinct
+distinct_from [] h = tt
+distinct_from (n ∷ ns) h =
+    let parts = both (not (list_any (λ m. n == m) ns)) (numbers_differ ns) h in
+    (apart_from n ns parts.0, distinct_from ns parts.1)
+
 pub near : (m n : ℕ) → (m < n) ⊎ (n ≤ m)
 near m n = grind arith
 
-module _ (t : Tables) (program : Program) where
+module _ (t : Described) (program : Program) where
   pub fit_parts : (a i : ℕ) (w : What) → fits t program a i w ≡ true → (a < actor_count t program) × (is_placed t program i ≡ true)
   unfolding fits
   fit_parts a i w h =

@@ -5,10 +5,9 @@ use Rattle.std.proofs.lemmas.List.FromFn.{length-map-range_with_len, get_or-map-
 use Rattle.std.proofs.lemmas.Bool.Decides.{eqb_tells}
 use Rattle.fp_system.specs.Run as system
 use Rattle.fp_system.proofs.Agreement.{recorded}
-use Rattle.fp_tables.specs.declared.tables.Tables.{Tables}
+use Rattle.fp_tables.specs.Lookup.{Described, placed}
 use Rattle.fp_tables.specs.declared.program.Program.{Program}
 use Rattle.fp_events.specs.declared.event.Entry.{Entry}
-use Rattle.fp_events.specs.Lookup.{placed}
 use Rattle.fp_events.specs.Machine.{is_in}
 use Rattle.fp_events.specs.Instance.{InstanceState}
 use Rattle.fp_events.specs.Actor.{ActorState}
@@ -28,7 +27,7 @@ row_of-map f (n ∷ ns) i h = go (eqb_tells i n) h (row_of-map f ns i)
     go (inl is) there again = rw is.0 (ap f (sym is.1))
     go (inr is) there again = rw is.0 (again (rw is.0 at there))
 
-module _ (t : Tables) (program : Program) where
+module _ (t : Described) (program : Program) where
   out_of_place : (i : ℕ) (es : List Entry) (s u : InstanceState) → system.InTurn (system.InstanceStep (core t program) i) s es u → is_placed t program i ≡ false → es ≡ []
   out_of_place i [] s u h out = refl
   out_of_place i (e ∷ es) s u h out =

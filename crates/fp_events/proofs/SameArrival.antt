@@ -3,7 +3,7 @@ use Rattle.std.proofs.Common.{◌≡◌, ℕ, true, ◌&&◌, Option, List, refl
 use Rattle.std.proofs.lemmas.Bool.Decides.{nat_tests}
 use Rattle.fp_base.specs.Same.{same, same_option, same_text}
 use Rattle.fp_base.proofs.Sameness.{Tests, both, value_same, list_same, option_same, text_same, nat_same}
-use Rattle.fp_events.specs.Lookup.{same_end}
+use Rattle.fp_tables.specs.Lookup.{same_end}
 use Rattle.fp_tables.specs.declared.topology.End.{End}
 use Rattle.fp_events.specs.declared.event.Point.{Point}
 use Rattle.fp_events.specs.declared.event.Point.TheVariants.{Port, Command, Post, Signal}

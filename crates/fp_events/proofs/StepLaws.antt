@@ -4,7 +4,7 @@ use Rattle.fp_system.specs.System.{Laws, IsTaking, IsOneChange}
 use Rattle.fp_base.specs.Same.{same, same_text, same_option}
 use Rattle.fp_base.specs.declared.value.Value.{Value}
 use Rattle.fp_base.proofs.Sameness.{both, value_same, text_same, nat_same}
-use Rattle.fp_tables.specs.declared.tables.Tables.{Tables}
+use Rattle.fp_tables.specs.Lookup.{Described}
 use Rattle.fp_tables.specs.declared.component.Event.{Event}
 use Rattle.fp_tables.specs.declared.component.Full.{Full}
 use Rattle.fp_tables.specs.declared.component.Full.TheVariants as full
@@ -52,7 +52,7 @@ unfoldable pub arrival_asked : Ask → Option Arrival
 arrival_asked (ask.Arrive r) = Some r
 arrival_asked _ = None
 
-module _ (t : Tables) (program : Program) (i : ℕ) where
+module _ (t : Described) (program : Program) (i : ℕ) where
   overflow_in : (r : Arrival) (policy : Full) (w : What) → overflows r policy ≡ Some w → arrival_in w ≡ Some r
   overflow_in r full.Dropped w h = sym (ap arrival_in (some_is _ _ h))
   overflow_in r full.Hook w h = sym (ap arrival_in (some_is _ _ h))
@@ -132,7 +132,7 @@ of_kind (ask.Write channel v) n = n == 6
 of_kind (ask.Read param) n = n == 7
 of_kind (ask.Advance running signal v) n = n == 8
 
-module _ (t : Tables) (program : Program) (i : ℕ) where
+module _ (t : Described) (program : Program) (i : ℕ) where
   kind_arrival : (w : What) (r : Arrival) → arrival_in w ≡ Some r → kind w ≡ 0
   unfolding kind
   kind_arrival (what.Enter x) r h = refl
@@ -457,7 +457,7 @@ module _ (t : Tables) (program : Program) (i : ℕ) where
 
 -- ---- the laws
 
-module _ (t : Tables) (program : Program) where
+module _ (t : Described) (program : Program) where
   -- what stands in what an instance part gives
   pub record Given (i a seen : ℕ) (s : InstanceState) (q : Ask) (e : Entry) (u : InstanceState) : Type 0 where
     pub told : tells t program i s.inside q ≡ Some e.what

@@ -1,6 +1,6 @@
 -- An ask has a step exactly where there is no cause against it.
 use Rattle.std.proofs.Common.{◌≡◌, ℕ, suc, Bool, true, false, cond, nat_lt, length, Option, Some, None, option_map, option_and_then, is_some, not, refl, slice_get}
-use Rattle.fp_tables.specs.declared.tables.Tables.{Tables}
+use Rattle.fp_tables.specs.Lookup.{Described}
 use Rattle.fp_tables.specs.declared.component.Full.{Full}
 use Rattle.fp_tables.specs.declared.component.Full.TheVariants as full
 use Rattle.fp_tables.specs.declared.component.Way.TheVariants.{Later, Sync, Guarded}
@@ -39,7 +39,7 @@ takes_waits turn o empty None h = h
 takes_waits None o empty (Some p) h = refl
 takes_waits (Some holder) o empty (Some p) h = refl
 
-module _ (t : Tables) (program : Program) (i : ℕ) where
+module _ (t : Described) (program : Program) (i : ℕ) where
   arrives_waits : (s : Inside) (r : Arrival) (m : Manner) → manner_is t i s m ≡ true → is_some (arrives t i s r m) ≡ not (is_some (arrival_waits t i s m))
   arrives_waits s r (by Sync) h = refl
   arrives_waits s r (by Guarded) h = guard_waits r s.guard

@@ -2,8 +2,8 @@
 use Rattle.std.specs.Prelude.{ℕ, Bool, true, false, ◌&&◌, ◌==◌, List, [], Option, Some, None, option_map, unwrap_or, slice_get}
 use Rattle.fp_base.specs.Same.{same, same_list, same_option, same_text}
 use Rattle.fp_base.specs.declared.value.Value.{Value}
-use Rattle.fp_tables.specs.declared.tables.Tables.{Tables}
-use Rattle.fp_events.specs.Lookup.{component, same_end}
+use Rattle.fp_tables.specs.Lookup.{Described, same_end}
+use Rattle.fp_events.specs.Lookup.{component}
 use Rattle.fp_events.specs.declared.event.Point.{Point}
 use Rattle.fp_events.specs.declared.event.Point.TheVariants.{Port, Command, Post, Signal}
 use Rattle.fp_events.specs.declared.event.Origin.{Origin}
@@ -60,7 +60,7 @@ suits (Some (by (Later priority policy))) (what.Hooked r) = true
 suits (Some (by (Later priority policy))) (what.Asserted r) = true
 suits _ _ = false
 
-module _ (t : Tables) where
+module _ (t : Described) where
   -- the rendered text of an event with these values
   abbrev pub text_of_event : ℕ → ℕ → List Value → List ℕ
   text_of_event i event with = unwrap_or (option_map (λ x. rendered x.fields.parts with) (slice_get (component t i).events event)) []

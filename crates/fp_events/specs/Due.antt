@@ -2,7 +2,7 @@
 use Rattle.std.specs.Prelude.{ℕ, cond, List, [], ◌∷◌, map, find, Option, Some, None, option_map, unwrap_or, slice_get}
 use Rattle.fp_base.specs.Same.{same_text}
 use Rattle.fp_base.specs.declared.value.Value.{Value, Opaque}
-use Rattle.fp_tables.specs.declared.tables.Tables.{Tables}
+use Rattle.fp_tables.specs.Lookup.{Described, wire_from}
 use Rattle.fp_tables.specs.declared.topology.End.{End}
 use Rattle.fp_tables.specs.declared.component.Special.TheVariants as special
 use Rattle.fp_tables.specs.declared.program.Program.{Program}
@@ -11,7 +11,7 @@ use Rattle.fp_tables.specs.declared.program.Arg.{Arg}
 use Rattle.fp_tables.specs.declared.program.Arg.TheVariants.{Given, Bound}
 use Rattle.fp_tables.specs.declared.program.Verb.{Verb}
 use Rattle.fp_tables.specs.declared.program.Verb.TheVariants as verb
-use Rattle.fp_events.specs.Lookup.{component, wire, special_wire, default_of, home}
+use Rattle.fp_events.specs.Lookup.{component, special_wire, default_of, home}
 use Rattle.fp_events.specs.declared.event.Point.{Point}
 use Rattle.fp_events.specs.declared.event.Point.TheVariants.{Port, Command, Post, Signal}
 use Rattle.fp_events.specs.declared.event.Origin.TheVariants.{Caller, Own, Wire}
@@ -40,7 +40,7 @@ abbrev pub first_action : List Doing → Option (Action × Bindings)
 first_action [] = None
 first_action (d ∷ ds) = first_in d d.actions (first_action ds)
 
-module _ (t : Tables) (program : Program) where
+module _ (t : Described) (program : Program) where
   -- a send: an arrival at the other end of a special port's wire, with a note, where each parameter has its type's default
   abbrev pub sent_from : Option (End × End) → List ℕ → Option (ℕ × Ask)
   sent_from None note = None
@@ -56,7 +56,7 @@ module _ (t : Tables) (program : Program) where
 
   -- an arrival along a wire at the point that its other end gives
   abbrev pub along : End → (End → Point) → List Value → Option (ℕ × Ask)
-  along from at with = option_map (λ to. (to.instance, ask.Arrive (record { point = at to; origin = Wire from None; with = with }))) (wire t from)
+  along from at with = option_map (λ to. (to.instance, ask.Arrive (record { point = at to; origin = Wire from None; with = with }))) (wire_from t from)
 
   abbrev pub at_port : End → Point
   at_port e = Port e.port e.number

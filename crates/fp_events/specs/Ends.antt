@@ -1,7 +1,7 @@
 -- When a run is ended, and its four ends.
 use Rattle.std.specs.Prelude.{◌≡◌, ◌<◌, ℕ, Bool, true, false, cond, ◌&&◌, nat_le, List, [], ◌∷◌, ◌++◌, Option, Some, None, option_map, option_and_then, is_some, is_none, unwrap_or}
 use Rattle.std.specs.List.{list_all, list_any}
-use Rattle.fp_tables.specs.declared.tables.Tables.{Tables}
+use Rattle.fp_tables.specs.Lookup.{Described}
 use Rattle.fp_tables.specs.declared.program.Program.{Program}
 use Rattle.fp_events.specs.declared.event.Ask.{Ask}
 use Rattle.fp_events.specs.declared.event.Entry.{Entry}
@@ -34,7 +34,7 @@ abbrev pub none_pending : List Pending → Bool
 none_pending [] = true
 none_pending (p ∷ ps) = false
 
-module _ (t : Tables) (program : Program) where
+module _ (t : Described) (program : Program) where
   -- no entry goes on from the entries as a run
   abbrev pub IsEnded : List Entry → Type 0
   IsEnded es = (e : Entry) → IsRun t program (es ++ e ∷ []) → ⊥

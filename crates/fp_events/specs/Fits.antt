@@ -2,15 +2,15 @@
 use Rattle.std.specs.Prelude.{ℕ, Bool, true, false, cond, ◌&&◌, ◌+◌, nat_lt, List, [], ◌∷◌, map, length, Option, Some, None, option_map, option_and_then, is_some, unwrap_or, slice_get}
 use Rattle.std.specs.List.{list_all}
 use Rattle.fp_base.specs.declared.value.Value.{Value}
-use Rattle.fp_tables.specs.declared.tables.Tables.{Tables}
+use Rattle.fp_tables.specs.Lookup.{Described, placed}
 use Rattle.fp_tables.specs.declared.kind.Kind.{Kind}
 use Rattle.fp_tables.specs.declared.kind.Formal.{Formal}
 use Rattle.fp_tables.specs.declared.component.Port.{Port as PortOf}
 use Rattle.fp_tables.specs.declared.machine.Machine.{Machine}
 use Rattle.fp_tables.specs.declared.machine.Named.{Named}
 use Rattle.fp_tables.specs.declared.program.Program.{Program}
-use Rattle.fp_events.specs.Lookup.{component, machine, placed, actives, callers}
-use Rattle.fp_events.specs.Kinds.{has_kind, have_kinds}
+use Rattle.fp_events.specs.Lookup.{component, machine, actives, callers}
+use Rattle.fp_tables.specs.Types.{has_kind, have_kinds}
 use Rattle.fp_events.specs.declared.event.Point.{Point}
 use Rattle.fp_events.specs.declared.event.Point.TheVariants.{Port, Command, Post, Signal}
 use Rattle.fp_events.specs.declared.event.Origin.{Origin}
@@ -21,10 +21,10 @@ use Rattle.fp_events.specs.declared.event.What.TheVariants as what
 use Rattle.fp_events.specs.Machine.{is_in}
 use Rattle.fp_events.specs.Manners.{Manner, saves, manner}
 
-abbrev pub actor_count : Tables → Program → ℕ
+abbrev pub actor_count : Described → Program → ℕ
 actor_count t program = callers program + length (actives t)
 
-module _ (t : Tables) (program : Program) where
+module _ (t : Described) (program : Program) where
   abbrev pub is_placed : ℕ → Bool
   is_placed i = is_in i (placed t)
 
@@ -50,7 +50,7 @@ module _ (t : Tables) (program : Program) where
   place_kinds i (Signal running signal) = option_map (λ (s : Named). signal_kinds s.kind) (signal_at i running signal)
 
   abbrev pub point_fits : ℕ → Point → List Value → Bool
-  point_fits i point with = is_some (manner t i point) && unwrap_or (option_map (λ ks. have_kinds t ks with) (place_kinds i point)) false
+  point_fits i point with = is_some (manner t i point) && unwrap_or (option_map (λ ks. have_kinds t.model.types ks with) (place_kinds i point)) false
 
   abbrev pub origin_fits : Origin → Bool
   origin_fits (Wire e sent_as) = is_placed e.instance && unwrap_or (option_map (λ (p : PortOf). nat_lt e.number p.size) (port_at e.instance e.port)) false
@@ -61,7 +61,7 @@ module _ (t : Tables) (program : Program) where
 
   abbrev pub value_fits : Option Kind → Value → Bool
   value_fits None v = false
-  value_fits (Some k) v = has_kind t k v
+  value_fits (Some k) v = has_kind t.model.types k v
 
   -- the kind of the parameter that a save command saves
   abbrev pub saved_kind : ℕ → Option Manner → Option Kind

@@ -1,7 +1,7 @@
 -- What an actor makes of an entry.
 use Rattle.std.specs.Prelude.{ℕ, true, cond, List, [], ◌∷◌, ◌++◌, map, flat_map, zip, Option, Some, None, option_map, option_and_then, unwrap_or, is_some, slice_get, codes}
 use Rattle.fp_base.specs.declared.value.Value.{Value}
-use Rattle.fp_tables.specs.declared.tables.Tables.{Tables}
+use Rattle.fp_tables.specs.Lookup.{Described}
 use Rattle.fp_tables.specs.declared.component.Special.{Special}
 use Rattle.fp_tables.specs.declared.component.Special.TheVariants as special
 use Rattle.fp_tables.specs.declared.component.Part.{Part}
@@ -75,7 +75,7 @@ value_in _ = None
 abbrev pub ok_note : List ℕ
 ok_note = codes "OK"
 
-module _ (t : Tables) (program : Program) where
+module _ (t : Described) (program : Program) where
   abbrev pub acts_at : ℕ → Spot → List Action
   acts_at i place = map act (handler program i place)
 

@@ -1,7 +1,7 @@
 -- A queued instance with a queue of one call, and a caller that calls it twice.
 use Rattle.std.specs.Prelude.{ℕ, [], ◌∷◌, Some, None, pos, false, codes}
 use Rattle.fp_base.specs.declared.value.Value.{Int}
-use Rattle.fp_tables.specs.declared.tables.Tables.{Tables}
+use Rattle.fp_tables.specs.Lookup.{Described}
 use Rattle.fp_tables.specs.declared.component.Component.{Component}
 use Rattle.fp_tables.specs.declared.component.Full.{Full}
 use Rattle.fp_tables.specs.declared.component.Port.{Port}
@@ -44,7 +44,7 @@ component_q policy = record {
 }
 
 -- instance q: Q base id 0 queue size 1, and the topology T with it
-abbrev pub full_queue : Full → Tables
+abbrev pub full_queue : Full → Described
 full_queue policy = record {
   model = record {
     constants = [];

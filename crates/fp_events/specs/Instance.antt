@@ -1,7 +1,7 @@
 -- The state of an instance.
 use Rattle.std.specs.Prelude.{ℕ, ℤ, List, [], map, length, replicate, Option, None}
 use Rattle.fp_base.specs.declared.value.Value.{Value}
-use Rattle.fp_tables.specs.declared.tables.Tables.{Tables}
+use Rattle.fp_tables.specs.Lookup.{Described}
 use Rattle.fp_events.specs.declared.event.Point.{Point}
 use Rattle.fp_events.specs.Lookup.{component}
 use Rattle.fp_events.specs.Machine.{Configuration}
@@ -41,7 +41,7 @@ pub record InstanceState : Type 0 where
   pub last : ℕ
 
 -- at the opening nothing is pending or held, parameters have their defaults, and no machine is started
-abbrev pub opened_instance : Tables → ℕ → Inside
+abbrev pub opened_instance : Described → ℕ → Inside
 opened_instance t i = record {
   pending = [];
   puts = 0;

@@ -1,7 +1,7 @@
 -- What an entry leaves in its instance.
 use Rattle.std.specs.Prelude.{ℕ, suc, ◌-◌, cond, ◌==◌, List, [], ◌∷◌, ◌++◌, get_or, set, Option, Some, None, option_map, unwrap_or}
 use Rattle.fp_base.specs.declared.value.Value.{Value}
-use Rattle.fp_tables.specs.declared.tables.Tables.{Tables}
+use Rattle.fp_tables.specs.Lookup.{Described}
 use Rattle.fp_tables.specs.declared.program.Program.{Program}
 use Rattle.fp_events.specs.declared.event.Arrival.{Arrival}
 use Rattle.fp_events.specs.declared.event.Fate.{Fate}
@@ -40,7 +40,7 @@ abbrev pub raised : List ℕ → ℕ → Fate → List ℕ
 raised counts event Held = counts
 raised counts event _ = set counts event (suc (get_or counts event 0))
 
-module _ (t : Tables) (program : Program) (i : ℕ) where
+module _ (t : Described) (program : Program) (i : ℕ) where
   abbrev pub pending_call : ℕ → Arrival → Pending
   pending_call number r = record { number = number; priority = priority_of (manner t i r.point); point = r.point; with = r.with }
 

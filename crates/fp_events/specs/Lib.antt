@@ -1,5 +1,4 @@
 pub mod Lookup
-pub mod Kinds
 pub mod Machine
 pub mod Instance
 pub mod Manners

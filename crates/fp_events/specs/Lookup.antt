@@ -1,11 +1,10 @@
--- What is found in the run's tables and in the program.
+-- What is found in the tables of a run, beside what fp_tables looks up, and in its program.
 use Rattle.std.specs.Prelude.{ℕ, Bool, true, false, cond, ◌&&◌, ◌==◌, ◌-◌, nat_lt, pos, List, [], map, filter, find, position, length, Option, None, option_map, option_and_then, unwrap_or, slice_get}
 use Rattle.fp_base.specs.declared.value.Value.{Value, Int, Bool as Truth, Text}
-use Rattle.fp_tables.specs.declared.tables.Tables.{Tables}
+use Rattle.fp_tables.specs.Lookup.{Described, placed, wire_from}
 use Rattle.fp_tables.specs.declared.component.Component.{Component}
 use Rattle.fp_tables.specs.declared.topology.Instance.{Instance}
 use Rattle.fp_tables.specs.declared.machine.Machine.{Machine}
-use Rattle.fp_tables.specs.declared.topology.Wire.{Wire}
 use Rattle.fp_tables.specs.declared.topology.End.{End}
 use Rattle.fp_tables.specs.declared.kind.Kind.{Kind}
 use Rattle.fp_tables.specs.declared.kind.Kind.TheVariants as kind
@@ -23,38 +22,24 @@ use Rattle.fp_tables.specs.declared.program.Spot.TheVariants as spot
 
 -- the component of an instance, one without parts where there is none
 abbrev pub no_parts : Component
-no_parts = record { matches = []; name = []; queueing = Passive; ports = []; commands = []; events = []; channels = []; params = []; machines = [] }
+no_parts = record { name = []; queueing = Passive; ports = []; commands = []; events = []; channels = []; params = []; matches = []; machines = [] }
 
-abbrev pub component : Tables → ℕ → Component
+abbrev pub component : Described → ℕ → Component
 component t i = unwrap_or (option_and_then (λ (x : Instance). slice_get t.model.components x.component) (slice_get t.model.instances i)) no_parts
 
-abbrev pub queue_size : Tables → ℕ → ℕ
+abbrev pub queue_size : Described → ℕ → ℕ
 queue_size t i = unwrap_or (option_and_then (λ (x : Instance). x.queue) (slice_get t.model.instances i)) 0
 
 -- the machine that an instance's machine instance runs
-abbrev pub machine : Tables → ℕ → ℕ → Option Machine
+abbrev pub machine : Described → ℕ → ℕ → Option Machine
 machine t i running = option_and_then (λ r. slice_get t.model.machines r.machine) (slice_get (component t i).machines running)
-
--- the instances and the wires of the topology
-abbrev pub placed : Tables → List ℕ
-placed t = unwrap_or (option_map (λ o. o.instances) (slice_get t.model.topologies t.topology)) []
-
-abbrev pub wires : Tables → List Wire
-wires t = unwrap_or (option_map (λ o. o.wires) (slice_get t.model.topologies t.topology)) []
 
 abbrev pub is_active : Queueing → Bool
 is_active Active = true
 is_active _ = false
 
-abbrev pub actives : Tables → List ℕ
+abbrev pub actives : Described → List ℕ
 actives t = filter (λ i. is_active (component t i).queueing) (placed t)
-
-abbrev pub same_end : End → End → Bool
-same_end e f = (e.instance == f.instance) && (e.port == f.port) && (e.number == f.number)
-
--- the other end of the wire that begins at an end
-abbrev pub wire : Tables → End → Option End
-wire t from = option_map (λ w. w.to) (find (λ w. same_end w.from from) (wires t))
 
 abbrev pub same_special : Special → Special → Bool
 same_special CmdRecv CmdRecv = true
@@ -73,19 +58,19 @@ is_special s (role.Special r) = same_special s r
 is_special s _ = false
 
 -- both ends of the wire that begins at a special port of an instance
-abbrev pub special_wire : Tables → ℕ → Special → Option (End × End)
+abbrev pub special_wire : Described → ℕ → Special → Option (End × End)
 special_wire t i s =
-    option_and_then (λ port. let from : End = record { instance = i; port = port; number = 0 } in option_map (λ to. (from, to)) (wire t from))
+    option_and_then (λ port. let from : End = record { instance = i; port = port; number = 0 } in option_map (λ to. (from, to)) (wire_from t from))
     (position (λ p. is_special s p.role) (component t i).ports)
 
-abbrev pub default_of : Tables → Kind → Value
+abbrev pub default_of : Described → Kind → Value
 default_of t kind.Bool = Truth false
 default_of t (kind.Str size) = Text []
 default_of t (kind.Named k) = unwrap_or (option_map (λ d. d.default) (slice_get t.model.types k)) (Int (pos 0))
 default_of t _ = Int (pos 0)
 
 -- of a port with a result the default of that
-abbrev pub result_of : Tables → ℕ → ℕ → Option Value
+abbrev pub result_of : Described → ℕ → ℕ → Option Value
 result_of t i port =
     option_map (default_of t) (option_and_then (λ d. d.result) (option_and_then (slice_get t.model.ports) (option_and_then (λ p. p.of) (slice_get (component t i).ports port))))
 
@@ -110,5 +95,5 @@ answers_of p i running guard =
 abbrev pub callers : Program → ℕ
 callers p = length p.callers
 
-abbrev pub home : Tables → Program → ℕ → Option ℕ
+abbrev pub home : Described → Program → ℕ → Option ℕ
 home t p a = cond (nat_lt a (callers p)) None (slice_get (actives t) (a - callers p))

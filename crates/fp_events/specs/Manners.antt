@@ -1,6 +1,6 @@
 -- How an instance treats what arrives at its places.
 use Rattle.std.specs.Prelude.{ℕ, ℤ, pos, Option, Some, None, option_map, option_and_then, slice_get}
-use Rattle.fp_tables.specs.declared.tables.Tables.{Tables}
+use Rattle.fp_tables.specs.Lookup.{Described}
 use Rattle.fp_tables.specs.declared.component.Command.{Command}
 use Rattle.fp_tables.specs.declared.component.Part.{Part}
 use Rattle.fp_tables.specs.declared.component.Part.TheVariants.{Plain, SetParam, SaveParam}
@@ -32,7 +32,7 @@ command_manner way (SetParam k) = sets k
 command_manner way (SaveParam k) = saves k
 
 -- none where the instance has no such place
-abbrev pub manner : Tables → ℕ → Point → Option Manner
+abbrev pub manner : Described → ℕ → Point → Option Manner
 manner t i (Port n number) = option_and_then (λ p. input_manner p.role) (slice_get (component t i).ports n)
 manner t i (OfCommand n) = option_map (λ (c : Command). command_manner c.way c.part) (slice_get (component t i).commands n)
 manner t i (Post n) = option_and_then (λ p. internal_manner p.role) (slice_get (component t i).ports n)

@@ -1,7 +1,7 @@
 -- What the entries at an instance say of its queue.
 use Rattle.std.specs.Prelude.{◌≡◌, ℕ, ◌<◌, List, [], ◌∷◌, ◌++◌, length, Option, Some, None, ⊤, int_lt, true, false}
 use Rattle.std.specs.List.{AllByRecursion}
-use Rattle.fp_tables.specs.declared.tables.Tables.{Tables}
+use Rattle.fp_tables.specs.Lookup.{Described}
 use Rattle.fp_tables.specs.declared.component.Full.{Full}
 use Rattle.fp_tables.specs.declared.component.Full.TheVariants as full
 use Rattle.fp_tables.specs.declared.component.Way.TheVariants.{Later}
@@ -23,7 +23,7 @@ abbrev pub IsNext : List Pending → Pending → Type 0
 IsNext ps p = (before : List Pending) × (rest : List Pending) × (ps ≡ before ++ p ∷ rest)
     × AllByRecursion (λ x. int_lt x.priority p.priority ≡ true) before × AllByRecursion (λ x. int_lt p.priority x.priority ≡ false) rest
 
-module _ (t : Tables) (i : ℕ) where
+module _ (t : Described) (i : ℕ) where
   -- the puts that are untaken after an entry, in order
   abbrev pub untaken_after : List Pending → What → List Pending
   untaken_after ps (what.Put number r) = ps ++ (record { number = number; priority = priority_of (manner t i r.point); point = r.point; with = r.with }) ∷ []

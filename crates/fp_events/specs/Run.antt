@@ -3,10 +3,9 @@ use Rattle.std.specs.Prelude.{◌≡◌, ◌<◌, ℕ, suc, max, Bool, true, Lis
 use Rattle.std.specs.List.{range_with_len}
 use Rattle.std.specs.Ordering.{nat_cmp, ordering_then, is_lt}
 use Rattle.fp_system.specs.Run as system
-use Rattle.fp_tables.specs.declared.tables.Tables.{Tables}
+use Rattle.fp_tables.specs.Lookup.{Described, placed}
 use Rattle.fp_tables.specs.declared.program.Program.{Program}
 use Rattle.fp_events.specs.declared.event.Entry.{Entry}
-use Rattle.fp_events.specs.Lookup.{placed}
 use Rattle.fp_events.specs.Instance.{InstanceState}
 use Rattle.fp_events.specs.Actor.{ActorState}
 use Rattle.fp_events.specs.Fits.{actor_count, is_placed}
@@ -39,7 +38,7 @@ entry_lt e f = is_lt (ordering_then (nat_cmp e.stamp f.stamp) (nat_cmp e.actor f
 abbrev pub HasStamp : ℕ → List Entry → Type 0
 HasStamp n es = system.HasStamp (λ e. e.stamp) n es
 
-module _ (t : Tables) (program : Program) where
+module _ (t : Described) (program : Program) where
   -- the numbers of the actors: the callers, and then a dispatcher for each active instance
   abbrev pub actors : List ℕ
   actors = range_with_len 0 (actor_count t program)

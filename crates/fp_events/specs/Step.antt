@@ -1,7 +1,7 @@
 -- The step: what an instance makes of an ask, and what an actor makes of an entry.
 use Rattle.std.specs.Prelude.{ℕ, suc, max, Bool, cond, ◌&&◌, ◌==◌, Option, Some, None, option_map, option_and_then}
 use Rattle.fp_system.specs.System.{System}
-use Rattle.fp_tables.specs.declared.tables.Tables.{Tables}
+use Rattle.fp_tables.specs.Lookup.{Described}
 use Rattle.fp_tables.specs.declared.program.Program.{Program}
 use Rattle.fp_events.specs.declared.event.Ask.{Ask}
 use Rattle.fp_events.specs.declared.event.What.{What}
@@ -15,7 +15,7 @@ use Rattle.fp_events.specs.Follows.{follows}
 use Rattle.fp_events.specs.Answers.{answers}
 use Rattle.fp_events.specs.Fits.{fits}
 
-module _ (t : Tables) (program : Program) where
+module _ (t : Described) (program : Program) where
   abbrev pub fitting : ℕ → ℕ → What → Option What
   fitting a i w = cond (fits t program a i w) (Some w) None
 

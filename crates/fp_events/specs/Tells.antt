@@ -3,7 +3,7 @@ use Rattle.std.specs.Prelude.{ℕ, suc, Bool, true, false, cond, ◌&&◌, nat_l
 use Rattle.fp_base.specs.Same.{same, same_option}
 use Rattle.fp_base.specs.Rendered.{rendered}
 use Rattle.fp_base.specs.declared.value.Value.{Value}
-use Rattle.fp_tables.specs.declared.tables.Tables.{Tables}
+use Rattle.fp_tables.specs.Lookup.{Described}
 use Rattle.fp_tables.specs.declared.component.Way.TheVariants.{Later, Sync, Guarded}
 use Rattle.fp_tables.specs.declared.component.Event.{Event}
 use Rattle.fp_tables.specs.declared.component.Channel.{Channel}
@@ -50,7 +50,7 @@ abbrev pub advances : ℕ → ℕ → Option Configuration → Walk → What
 advances running signal None w = what.Start running w.actions w.reached.leaf
 advances running signal (Some c) w = what.Move running signal w.actions w.reached.leaf
 
-module _ (t : Tables) (i : ℕ) where
+module _ (t : Described) (i : ℕ) where
   abbrev pub arrives : Inside → Arrival → Manner → Option What
   -- enter: an arrival at a sync place, always
   arrives s r (by Sync) = Some (what.Enter r)
@@ -75,7 +75,7 @@ module _ (t : Tables) (i : ℕ) where
   abbrev pub writes : Inside → ℕ → Value → Channel → What
   writes s channel value x = what.Write channel (write_fate s channel value x) value
 
-module _ (t : Tables) (program : Program) (i : ℕ) where
+module _ (t : Described) (program : Program) (i : ℕ) where
   -- how a machine goes on a signal, from not started or from a configuration
   abbrev pub goes_on : ℕ → ℕ → Option Configuration → Machine → Walk
   goes_on running signal None m = starts m (answers_of program i running)

@@ -1,6 +1,6 @@
 -- Why an instance has no step for an ask now.
 use Rattle.std.specs.Prelude.{ℕ, Bool, true, false, nat_lt, length, Option, Some, None, option_and_then, is_some, slice_get}
-use Rattle.fp_tables.specs.declared.tables.Tables.{Tables}
+use Rattle.fp_tables.specs.Lookup.{Described}
 use Rattle.fp_tables.specs.declared.component.Full.{Full}
 use Rattle.fp_tables.specs.declared.component.Full.TheVariants as full
 use Rattle.fp_tables.specs.declared.component.Way.TheVariants.{Later, Guarded}
@@ -27,7 +27,7 @@ take_waits turn empty None = empty
 take_waits None empty (Some p) = None
 take_waits (Some holder) empty (Some p) = Some (why.TurnHeld holder)
 
-module _ (t : Tables) (i : ℕ) where
+module _ (t : Described) (i : ℕ) where
   abbrev pub arrival_waits : Inside → Manner → Option Why
   arrival_waits s (by Guarded) = held_by s.guard
   arrival_waits s (by (Later priority policy)) = blocked (nat_lt (length s.pending) (queue_size t i)) policy

@@ -2,7 +2,7 @@
 use Rattle.std.specs.Prelude.{◌≡◌, ℕ, true, List, [], ◌∷◌, ◌++◌, take, Option, Some, option_map, option_and_then, is_none}
 use Rattle.std.specs.List.{list_all}
 use Rattle.fp_system.specs.Schedule.{schedule}
-use Rattle.fp_tables.specs.declared.tables.Tables.{Tables}
+use Rattle.fp_tables.specs.Lookup.{Described}
 use Rattle.fp_tables.specs.declared.program.Program.{Program}
 use Rattle.fp_events.specs.declared.event.Entry.{Entry}
 use Rattle.fp_events.specs.declared.event.Finish.{Finish}
@@ -10,7 +10,7 @@ use Rattle.fp_events.specs.Step.{core}
 use Rattle.fp_events.specs.Run.{World, opening}
 use Rattle.fp_events.specs.Ends.{finish}
 
-module _ (t : Tables) (program : Program) (order : List ℕ) where
+module _ (t : Described) (program : Program) (order : List ℕ) where
   -- the entries of these actors' steps, and the world after them
   abbrev pub scheduled : List ℕ → Option (List Entry × World)
   scheduled actors = schedule (core t program) (opening t program) actors

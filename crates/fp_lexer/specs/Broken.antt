@@ -3,7 +3,7 @@ use Rattle.std.specs.Prelude.{◌≡◌, ℕ, ◌^◌, ◌<◌, ◌≤◌, ◌�
 use Rattle.fp_base.specs.Places.{place_at}
 use Rattle.fp_base.specs.declared.place.Place.{Place}
 use Rattle.fp_base.specs.declared.rule.Rule.{Rule}
-use Rattle.fp_base.specs.declared.rule.Rule.TheVariants.{BadCharacter, NumberTooLarge, TextTooLong, UnexpectedToken}
+use Rattle.fp_base.specs.declared.rule.Rule.TheVariants.{BadCharacter, OpenString, BadEscape, NumberTooLarge, TextTooLong, UnexpectedToken}
 use Rattle.fp_base.specs.declared.refusal.Stop.{Stop}
 use Rattle.fp_base.specs.declared.refusal.Stop.TheVariants.{Broken, NoMemory}
 use Rattle.fp_lexer.specs.Tokens.{Spells, Piece, IsPiece, Cuts}
@@ -26,11 +26,13 @@ LargeBegins text at = (n past : ℕ) × IsPiece text (record { what = Some (Numb
 abbrev pub longest_text : ℕ
 longest_text = 4194304
 
--- a rule is broken at an offset
+-- a rule is broken at an offset; this profile: no strings, whose rules are never broken
 abbrev pub BrokenAt : List ℕ → Rule → ℕ → Type 0
 BrokenAt text BadCharacter at = Reached text at × (at < length text) × NoneBegins text at
 BrokenAt text NumberTooLarge at = Reached text at × LargeBegins text at
 BrokenAt text TextTooLong at = (at ≡ 0) × (longest_text < length text)
+BrokenAt text OpenString at = ⊥
+BrokenAt text BadEscape at = ⊥
 BrokenAt text UnexpectedToken at = ⊥
 
 -- a rule is broken at a place
@@ -44,6 +46,8 @@ ComesBefore p q = (p.line < q.line) ⊎ ((p.line ≡ q.line) × (p.column < q.co
 -- the rules in the order of their table
 abbrev pub row : Rule → ℕ
 row BadCharacter = 1
+row OpenString = 2
+row BadEscape = 3
 row NumberTooLarge = 4
 row TextTooLong = 5
 row UnexpectedToken = 6

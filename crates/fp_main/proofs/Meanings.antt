@@ -1,8 +1,8 @@
 -- A text means one thing.
-use Rattle.std.proofs.Common.{◌≡◌, ◌<◌, ◌≤◌, ◌⊎◌, ℕ, List, inl, inr, refl, sym, ◌∙◌, ap, subst, arith}
+use Rattle.std.proofs.Common.{◌≡◌, ◌<◌, ◌≤◌, ◌⊎◌, ℕ, List, inl, inr, refl, sym, ◌∙◌, ap, subst, arith, cond, ◌==◌}
 use Rattle.fp_base.specs.declared.place.Place.{Place}
 use Rattle.fp_base.specs.declared.rule.Rule.{Rule}
-use Rattle.fp_base.specs.declared.rule.Rule.TheVariants.{BadCharacter, NumberTooLarge, TextTooLong, UnexpectedToken}
+use Rattle.fp_base.specs.declared.rule.Rule.TheVariants.{BadCharacter, OpenString, BadEscape, NumberTooLarge, TextTooLong, UnexpectedToken}
 use Rattle.fp_grammar.proofs.Fits.{good_of}
 use Rattle.fp_grammar.specs.Grammar.{Spells}
 use Rattle.fp_lexer.proofs.Unique.{one_lexing}
@@ -33,23 +33,22 @@ same_place p q e f g =
     ∙ ap (λ n. record { file = q.file; line = n; column = p.column }) f
     ∙ ap (λ n. record { file = q.file; line = q.line; column = n }) g
 
+-- the rule of a row of the table
+rule_at : ℕ → Rule
+rule_at n =
+    cond (n == 1) BadCharacter (cond (n == 2) OpenString (cond (n == 3) BadEscape (cond (n == 4) NumberTooLarge (cond (n == 5) TextTooLong UnexpectedToken))))
+
+rule_at-row : (a : Rule) → rule_at (row a) ≡ a
+unfolding rule_at
+rule_at-row BadCharacter = refl
+rule_at-row OpenString = refl
+rule_at-row BadEscape = refl
+rule_at-row NumberTooLarge = refl
+rule_at-row TextTooLong = refl
+rule_at-row UnexpectedToken = refl
+
 same_row : (a b : Rule) → row a ≡ row b → a ≡ b
-same_row BadCharacter BadCharacter e = refl
-same_row BadCharacter NumberTooLarge e = absurd (omega (arith, e))
-same_row BadCharacter TextTooLong e = absurd (omega (arith, e))
-same_row BadCharacter UnexpectedToken e = absurd (omega (arith, e))
-same_row NumberTooLarge BadCharacter e = absurd (omega (arith, e))
-same_row NumberTooLarge NumberTooLarge e = refl
-same_row NumberTooLarge TextTooLong e = absurd (omega (arith, e))
-same_row NumberTooLarge UnexpectedToken e = absurd (omega (arith, e))
-same_row TextTooLong BadCharacter e = absurd (omega (arith, e))
-same_row TextTooLong NumberTooLarge e = absurd (omega (arith, e))
-same_row TextTooLong TextTooLong e = refl
-same_row TextTooLong UnexpectedToken e = absurd (omega (arith, e))
-same_row UnexpectedToken BadCharacter e = absurd (omega (arith, e))
-same_row UnexpectedToken NumberTooLarge e = absurd (omega (arith, e))
-same_row UnexpectedToken TextTooLong e = absurd (omega (arith, e))
-same_row UnexpectedToken UnexpectedToken e = refl
+same_row a b e = sym (rule_at-row a) ∙ ap rule_at e ∙ rule_at-row b
 
 -- neither is behind the other
 level : (a b : Rule) (p q : Place) → NotBehind a p b q → NotBehind b q a p → (p.line ≡ q.line) × (p.column ≡ q.column) × (row a ≡ row b)

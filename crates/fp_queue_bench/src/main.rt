@@ -9,9 +9,8 @@ use fp_queue::Queue;
 use std::alloc::{AllocError, Global};
 use std::cmp::Reverse;
 use std::collections::BinaryHeap;
-use std::env;
-use std::io;
 use std::time::Instant;
+use std::{env, io};
 
 const DEPTH: u32 = 1_000;
 
@@ -63,7 +62,10 @@ fn drive_heap(alloc: Global, priorities: &[i32]) -> Result<u64, AllocError>
         if heap.len() == DEPTH as usize {
             sum = mixed(sum, heap.pop().map(|(_, Reverse(earliest))| earliest));
         }
-        heap.push((priorities[random.next() % priorities.len()], Reverse(number)))?;
+        heap.push((
+            priorities[random.next() % priorities.len()],
+            Reverse(number),
+        ))?;
     }
     Ok(sum)
 }
@@ -82,7 +84,13 @@ fn main(rt: HostRuntime) -> io::Result<()> {
     let start = Instant::now(&rt)?;
     let heap_sum = drive_heap(rt.alloc(), &priorities)?;
     let heap_time = start.elapsed(&rt)?.as_micros();
-    println!(rt; "queue {queue_time} us, heap {heap_time} us, alike: {}", queue_sum == heap_sum)?;
-    println!(rt; "queue time / heap time in percent: {}", queue_time * 100 / heap_time.max(1))?;
+    println!(rt;
+        "queue {queue_time} us, heap {heap_time} us, alike: {}",
+        queue_sum == heap_sum
+    )?;
+    println!(rt;
+        "queue time / heap time in percent: {}",
+        queue_time * 100 / heap_time.max(1)
+    )?;
     Ok(())
 }

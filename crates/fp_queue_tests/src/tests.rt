@@ -39,9 +39,7 @@ fn answer_alike(
 {
     let mut queue = Queue::new(alloc, size, priorities)?;
     let mut plain = PlainQueue::new(alloc, size, priorities)?;
-    let mut random = Random {
-        state: size as u64,
-    };
+    let mut random = Random { state: size as u64 };
     for item in 0..calls {
         let alike = if random.next() % 4 == 0 {
             queue.take() == plain.take()
@@ -81,9 +79,12 @@ fn takes_by_priority_and_then_by_arrival(rt: HostRuntime) -> Result<(), Fail> {
     Ok(())
 }
 
+fn goes_to_other_threads<T: Send + Sync>(_: &T) {}
+
 #[test]
 fn answers_calls_in_order(rt: HostRuntime) -> Result<(), Fail> {
     let mut queue = Queue::new(rt.alloc(), 1, &[-1, 2])?;
+    goes_to_other_threads(&queue);
     let first = Call::Put {
         priority: 2,
         item: "first",
@@ -95,6 +96,9 @@ fn answers_calls_in_order(rt: HostRuntime) -> Result<(), Fail> {
     let calls = Vec::from_array(rt.alloc(), [first, second, Call::Take, Call::Take])?;
     let answers = answer_all(rt.alloc(), &mut queue, Row::from_vec(calls))?;
     let wanted = "[Put(Ok(())), Put(Err(\"second\")), Take(Some(\"first\")), Take(None)]";
-    assert_eq!(rt; format!(in rt.alloc(); "{:?}", answers.as_slice())?.as_str(), wanted);
+    assert_eq!(rt;
+        format!(in rt.alloc(); "{:?}", answers.as_slice())?.as_str(),
+        wanted
+    );
     Ok(())
 }

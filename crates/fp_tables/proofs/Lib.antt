@@ -1,1 +1,4 @@
+pub mod Alls
 pub mod Differing
+pub mod Firsts
+pub mod Joining

@@ -186,15 +186,16 @@ component_has_values types c =
 
 -- ---- components
 
+-- an asynchronous input or an internal port
+abbrev pub waits : Role → Bool
+waits (role.Input way) = is_later way
+waits (role.Internal way) = true
+waits _ = false
+
 -- a passive component has nothing that waits in a queue
 abbrev pub waits_for_nothing : Component → Bool
 waits_for_nothing c =
     list_all (λ (p : Port). not (waits p.role)) c.ports && list_all (λ (x : Command). not (is_later x.way)) c.commands && nat_le (length c.machines) 0
-  where
-    waits : Role → Bool
-    waits (role.Input way) = is_later way
-    waits (role.Internal way) = true
-    waits _ = false
 
 abbrev pub special_ports_differ : Component → Bool
 special_ports_differ c = apart same_special (filter_map (λ (p : Port). special_in p.role) c.ports)

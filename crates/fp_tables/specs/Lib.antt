@@ -1,5 +1,6 @@
 pub mod Components
 pub mod Formats
+pub mod Found
 pub mod Instances
 pub mod Lists
 pub mod Lookup
@@ -8,4 +9,5 @@ pub mod Names
 pub mod Positions
 pub mod Programs
 pub mod Sound
+pub mod SoundPrograms
 pub mod Types

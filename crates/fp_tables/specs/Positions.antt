@@ -162,7 +162,7 @@ machine_is_short m = is_short m.signals && is_short m.actions && is_short m.guar
 abbrev pub lists_are_short : Model → Bool
 lists_are_short m =
     is_short m.constants && is_short m.types && is_short m.ports && is_short m.components && is_short m.machines && is_short m.instances && is_short m.topologies
-    && list_all component_is_short m.components && list_all machine_is_short m.machines
+    && list_all component_is_short m.components && list_all machine_is_short m.machines && list_all (λ (t : Topology). is_short t.instances) m.topologies
 
 -- ---- preorder
 

@@ -2,6 +2,7 @@
 #![tactic(auto)]
 
 mod component;
+mod finding;
 mod kind;
 mod machine;
 mod model;

@@ -10,7 +10,7 @@ put-requires c =
     let priority : ℤ = get_or c.args.priorities.now at (pos 0) in
     let fits : FitsSigned w32 priority = search rules in
     let has : c.if-is_full.queue.priorities ≡ c.args.priorities.now = elim c.if-is_full.branch [
-      then-is_full w ↦ ap (λ q. q.priorities) (w.queue-is ∙ w.take.ensures.rest) ∙ c.loop-number.invariant
-    | else-is_full w ↦ ap (λ q. q.priorities) w.queue-is ∙ c.loop-number.invariant
+      | then-is_full w ↦ ap (λ q. q.priorities) (w.queue-is ∙ w.take.ensures.rest) ∙ c.loop-number.invariant
+      | else-is_full w ↦ ap (λ q. q.priorities) w.queue-is ∙ c.loop-number.invariant
     ] in
     known_at _ c.args.priorities.now at _ has (omega arith) (to_z-of_z w32 priority fits)

@@ -4,8 +4,11 @@ ghost use Rattle.std.specs.BTreeSet.{IsFromIterResult};
 ghost use Rattle.fp_tables.specs.Lists.{apart};
 ghost use Rattle.fp_tables.specs.Names.{texts_differ, numbers_differ};
 
-use crate::component::Port;
-use fp_base::{NoMemory, Text};
+use crate::component::{Channel, Command, Event, Param, Port, Running};
+use crate::kind::{Constant, Field, Formal, TypeDef};
+use crate::machine::Named;
+use crate::topology::Instance;
+use fp_base::{NoMemory, Row, Text};
 use std::alloc::Global;
 use std::collections::BTreeSet;
 
@@ -17,19 +20,147 @@ pub trait Called {
         ensures { result.now ≡ name_of self.now };
 }
 
+/// What has an opcode or an id.
+pub trait Numbered {
+    ghost number_of: { Self → ℕ };
+
+    fn number(&self) -> u32
+        ensures { result ≡ number_of self.now };
+}
+
 impl Called for Port {
-    ghost name_of = { λ port. port.name };
+    ghost name_of = { λ called. called.name };
 
     fn name(&self) -> &Text {
         &self.name
     }
 }
 
+impl Called for Command {
+    ghost name_of = { λ called. called.name };
+
+    fn name(&self) -> &Text {
+        &self.name
+    }
+}
+
+impl Called for Event {
+    ghost name_of = { λ called. called.name };
+
+    fn name(&self) -> &Text {
+        &self.name
+    }
+}
+
+impl Called for Channel {
+    ghost name_of = { λ called. called.name };
+
+    fn name(&self) -> &Text {
+        &self.name
+    }
+}
+
+impl Called for Param {
+    ghost name_of = { λ called. called.name };
+
+    fn name(&self) -> &Text {
+        &self.name
+    }
+}
+
+impl Called for Running {
+    ghost name_of = { λ called. called.name };
+
+    fn name(&self) -> &Text {
+        &self.name
+    }
+}
+
+impl Called for Formal {
+    ghost name_of = { λ called. called.name };
+
+    fn name(&self) -> &Text {
+        &self.name
+    }
+}
+
+impl Called for Field {
+    ghost name_of = { λ called. called.name };
+
+    fn name(&self) -> &Text {
+        &self.name
+    }
+}
+
+impl Called for Constant {
+    ghost name_of = { λ called. called.name };
+
+    fn name(&self) -> &Text {
+        &self.name
+    }
+}
+
+impl Called for TypeDef {
+    ghost name_of = { λ called. called.name };
+
+    fn name(&self) -> &Text {
+        &self.name
+    }
+}
+
+impl Called for Named {
+    ghost name_of = { λ called. called.name };
+
+    fn name(&self) -> &Text {
+        &self.name
+    }
+}
+
+impl Called for Instance {
+    ghost name_of = { λ called. called.name };
+
+    fn name(&self) -> &Text {
+        &self.name
+    }
+}
+
+impl Numbered for Command {
+    ghost number_of = { λ numbered. numbered.opcode };
+
+    fn number(&self) -> u32 {
+        self.opcode
+    }
+}
+
+impl Numbered for Event {
+    ghost number_of = { λ numbered. numbered.id };
+
+    fn number(&self) -> u32 {
+        self.id
+    }
+}
+
+impl Numbered for Channel {
+    ghost number_of = { λ numbered. numbered.id };
+
+    fn number(&self) -> u32 {
+        self.id
+    }
+}
+
+impl Numbered for Param {
+    ghost number_of = { λ numbered. numbered.id };
+
+    fn number(&self) -> u32 {
+        self.id
+    }
+}
+
 /// Whether no two have one name.
-pub fn names_differ<T: Called>(alloc: Global, items: &[T]) -> Result<bool, NoMemory>
+pub fn names_differ<T: Called>(alloc: Global, items: &Row<T>) -> Result<bool, NoMemory>
     ensures { IfOk result (λ differ. differ ≡ texts_differ (map T.name_of items.now)) }
 {
-    let names = names_of(alloc, items)?;
+    let names = names_of(alloc, items.as_slice())?;
     all_differ(alloc, names)
 }
 
@@ -44,7 +175,7 @@ fn names_of<'a, T: Called>(alloc: Global, items: &'a [T]) -> Result<Vec<&'a str>
 }
 
 /// Whether no two are equal.
-fn all_differ<K: Ord + Drop>(alloc: Global, keys: Vec<K>) -> Result<bool, NoMemory>
+pub fn all_differ<K: Ord + Drop>(alloc: Global, keys: Vec<K>) -> Result<bool, NoMemory>
     ensures { IfOk result (λ differ. differ ≡ apart (eq_by_cmp K.cmp) keys.items) }
 {
     let count = keys.len();
@@ -52,7 +183,7 @@ fn all_differ<K: Ord + Drop>(alloc: Global, keys: Vec<K>) -> Result<bool, NoMemo
     Ok(distinct.len() == count)
 }
 
-fn set_of<K: Ord + Drop>(alloc: Global, keys: Vec<K>) -> Result<BTreeSet<K>, NoMemory>
+pub fn set_of<K: Ord + Drop>(alloc: Global, keys: Vec<K>) -> Result<BTreeSet<K>, NoMemory>
     ensures { IfOk result (IsFromIterResult K.cmp keys.items) }
 {
     let set = keys.into_iter().collect(alloc)?;
@@ -64,4 +195,22 @@ pub fn numbers_differ(alloc: Global, numbers: Vec<u32>) -> Result<bool, NoMemory
     ensures { IfOk result (λ differ. differ ≡ numbers_differ numbers.items) }
 {
     all_differ(alloc, numbers)
+}
+
+/// Whether no two have one opcode or id.
+pub fn ids_differ<T: Numbered>(alloc: Global, items: &Row<T>) -> Result<bool, NoMemory>
+    ensures { IfOk result (λ differ. differ ≡ numbers_differ (map T.number_of items.now)) }
+{
+    let numbers = numbers_of(alloc, items.as_slice())?;
+    numbers_differ(alloc, numbers)
+}
+
+fn numbers_of<T: Numbered>(alloc: Global, items: &[T]) -> Result<Vec<u32>, NoMemory>
+    ensures { IfOk result (λ numbers. numbers.items ≡ map T.number_of items.now) }
+{
+    let mut numbers = Vec::with_capacity(alloc, items.len())?;
+    for item in items {
+        numbers.push(item.number())?;
+    }
+    Ok(numbers)
 }
