@@ -1,5 +1,5 @@
 -- The texts of arrays and structs from their items.
-use Rattle.std.proofs.Common.{◌≡◌, ℕ, List, [], ◌∷◌, ◌++◌, map, refl, ap, sym, ◌∙◌}
+use Rattle.std.proofs.Common.{◌≡◌, List, [], ◌∷◌, ◌++◌, map, refl, ap, ◌∙◌}
 use mathlib.Core.Former.{Count}
 use Rattle.fp_base.specs.Rendered.{joined, value_text, item_texts, part_texts, part_text}
 use Rattle.fp_base.specs.declared.value.Value.{Value, Array', Struct', Row_of-Value, more_of-Value, end_of-Value, items-the_row-Value, items_hidden-the_row-Value-0}

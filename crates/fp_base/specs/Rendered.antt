@@ -1,5 +1,5 @@
 -- The text of a value, and a format with its fields filled.
-use Rattle.std.specs.Prelude.{ℕ, zero, suc, Bool, true, false, cond, ◌+◌, ◌/◌, ◌%◌, nat_lt, nat_le, ◌&&◌, ◌||◌, ◌==◌, ℤ, pos, negsuc, List, [], ◌∷◌, ◌++◌, flat_map}
+use Rattle.std.specs.Prelude.{ℕ, suc, false, cond, ◌/◌, ◌%◌, nat_lt, nat_le, ◌&&◌, ◌||◌, ◌==◌, ℤ, pos, negsuc, List, [], ◌∷◌, ◌++◌, flat_map}
 use Rattle.std.specs.Fmt.{digits, digit_glyph}
 use Rattle.fp_base.specs.declared.value.Value.{Value, Int, Bool as Truth, Text, Enumerated, Array', Struct', Opaque, Row_of-Value, more_of-Value, end_of-Value}
 use Rattle.fp_base.specs.declared.value.Value.TheBlock as block

@@ -1,6 +1,6 @@
 -- The first item that passes a test, where a list grows.
 use Rattle.std.proofs.Common.{◌≡◌, ℕ, zero, suc, ◌+◌, ◌<◌, Bool, true, false, not, cond, List, [], ◌∷◌, length, take, get_or, Option, None, Some, ltb, is_some, option_map, refl, sym, ap, ◌∙◌, arith, add-one}
-use Rattle.std.specs.List.{position, find, prefix_len, position_or_len}
+use Rattle.std.specs.List.{position, find, position_or_len}
 use Rattle.std.proofs.lemmas.Bool.Decides.{nat_tests}
 
 module _ {X : Type 0} (p : X → Bool) where

@@ -1,5 +1,5 @@
 -- Lemmas on the wires of a topology.
-use Rattle.std.proofs.Common.{◌≡◌, ◌↔◌, ℕ, Bool, true, false, ◌&&◌, List, [], ◌∷◌, map, eqb, IsTrue, sym, ap, ap₂, ◌∙◌, refl, arith}
+use Rattle.std.proofs.Common.{◌≡◌, ℕ, Bool, true, false, ◌&&◌, List, [], ◌∷◌, map, eqb, IsTrue, sym, ap₂, ◌∙◌, refl, arith}
 use Rattle.std.specs.List.{list_any, list_all}
 use Rattle.std.specs.Ordering.{eq_by_cmp, nat_cmp}
 use Rattle.std.specs.BTreeSet.{BTreeSet, IsFromIterResult, contains}
@@ -7,7 +7,7 @@ use Rattle.std.proofs.lemmas.Bool.Decides.{nat_tests}
 use Rattle.fp_tables.specs.Lists.{apart}
 use Rattle.fp_tables.specs.Found.{key_cmp, key_of}
 use Rattle.fp_tables.specs.Lookup.{same_end}
-use Rattle.fp_tables.specs.Instances.{is_member, joins_members, beginnings_differ}
+use Rattle.fp_tables.specs.Instances.{is_member, joins_members}
 use Rattle.fp_tables.specs.declared.topology.End.{End}
 use Rattle.fp_tables.specs.declared.topology.Wire.{Wire}
 use Rattle.fp_tables.specs.declared.topology.Topology.{Topology}

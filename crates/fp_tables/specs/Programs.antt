@@ -1,5 +1,5 @@
 -- What a sound program is.
-use Rattle.std.specs.Prelude.{ℕ, Bool, true, false, not, cond, codes, ◌+◌, ◌&&◌, ◌||◌, ◌==◌, nat_lt, nat_le, List, [], ◌∷◌, ◌++◌, length, map, find, Option, Some, None, slice_get, option_map, option_and_then, option_to_list, is_some, is_none}
+use Rattle.std.specs.Prelude.{ℕ, Bool, true, false, not, cond, codes, ◌&&◌, ◌||◌, ◌==◌, nat_lt, nat_le, List, [], ◌∷◌, ◌++◌, length, map, find, Option, Some, None, slice_get, option_map, option_and_then, option_to_list, is_some, is_none}
 use Rattle.std.specs.List.{list_any}
 use Rattle.std.specs.Str.{bytes_eq}
 use Rattle.fp_tables.specs.Lists.{some_and}

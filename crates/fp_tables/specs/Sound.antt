@@ -1,14 +1,13 @@
 -- What a sound model is, by itself and with one of its topologies.
-use Rattle.std.specs.Prelude.{◌≡◌, ℕ, Bool, true, not, ◌&&◌, ◌||◌, nat_le, nat_lt, is_some, List, map, length, Option, Some, None, slice_get}
-use Rattle.std.specs.List.{list_all, list_any}
-use Rattle.fp_tables.specs.Lists.{all_from, if_some, some_and}
+use Rattle.std.specs.Prelude.{◌≡◌, ℕ, Bool, true, not, ◌&&◌, ◌||◌, is_some, List, map, Option, Some, None, slice_get}
+use Rattle.std.specs.List.{list_all}
+use Rattle.fp_tables.specs.Lists.{all_from, if_some}
 use Rattle.fp_tables.specs.Names.{is_name, is_qualified, texts_differ, numbers_differ}
 use Rattle.fp_tables.specs.Positions as positions
 use Rattle.fp_tables.specs.Types.{Leads, begins_chain, type_has_values, is_of_size}
 use Rattle.fp_tables.specs.Components as components
 use Rattle.fp_tables.specs.Machines as machines
 use Rattle.fp_tables.specs.Instances as instances
-use Rattle.fp_tables.specs.declared.kind.Kind.{Kind}
 use Rattle.fp_tables.specs.declared.kind.Kind.TheVariants as kind
 use Rattle.fp_tables.specs.declared.kind.Form.{Form}
 use Rattle.fp_tables.specs.declared.kind.Form.TheVariants as form
@@ -17,11 +16,9 @@ use Rattle.fp_tables.specs.declared.kind.Formal.{Formal}
 use Rattle.fp_tables.specs.declared.kind.Constant.{Constant}
 use Rattle.fp_tables.specs.declared.kind.TypeDef.{TypeDef}
 use Rattle.fp_tables.specs.declared.kind.PortDef.{PortDef}
-use Rattle.fp_tables.specs.declared.component.Role.{Role}
 use Rattle.fp_tables.specs.declared.component.Port.{Port}
 use Rattle.fp_tables.specs.declared.component.Command.{Command}
 use Rattle.fp_tables.specs.declared.component.Event.{Event}
-use Rattle.fp_tables.specs.declared.component.Limit.{Limit}
 use Rattle.fp_tables.specs.declared.component.Channel.{Channel}
 use Rattle.fp_tables.specs.declared.component.Param.{Param}
 use Rattle.fp_tables.specs.declared.component.Running.{Running}
@@ -30,7 +27,6 @@ use Rattle.fp_tables.specs.declared.machine.Named.{Named}
 use Rattle.fp_tables.specs.declared.machine.Vertex.{Vertex}
 use Rattle.fp_tables.specs.declared.machine.Machine.{Machine}
 use Rattle.fp_tables.specs.declared.topology.Instance.{Instance}
-use Rattle.fp_tables.specs.declared.topology.Wire.{Wire}
 use Rattle.fp_tables.specs.declared.topology.Topology.{Topology}
 use Rattle.fp_tables.specs.declared.model.Model.{Model}
 

@@ -1,5 +1,5 @@
 -- Types: their targets, whether a value has one, their uses of each other, and their sizes.
-use Rattle.std.specs.Prelude.{◌≡◌, ℕ, zero, suc, Bool, true, false, ◌+◌, ◌^◌, ◌-◌, ◌&&◌, ◌==◌, max, nat_le, not, ℤ, pos, negsuc, int_le, List, [], ◌∷◌, map, Option, Some, None, option_map, option_and_then, slice_get, length}
+use Rattle.std.specs.Prelude.{◌≡◌, ℕ, zero, suc, Bool, true, false, ◌+◌, ◌^◌, ◌-◌, ◌&&◌, ◌==◌, max, nat_le, ℤ, pos, negsuc, int_le, List, [], ◌∷◌, map, Option, Some, None, option_map, slice_get, length}
 use Rattle.std.specs.List.{list_any, list_all}
 use Rattle.std.specs.Str.{bytes_eq}
 use Rattle.fp_base.specs.Same.{same}

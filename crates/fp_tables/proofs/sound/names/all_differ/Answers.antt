@@ -1,4 +1,4 @@
-use Rattle.std.proofs.Common.{arith, ◌==◌, ◌≡◌, true}
+use Rattle.std.proofs.Common.{arith, ◌≡◌, true}
 use Rattle.std.proofs.lemmas.Bool.Decides.{nat_tests, same_from_decides}
 use Rattle.std.specs.Ordering.{eq_by_cmp}
 use Rattle.fp_tables.specs.Lists.{apart}

@@ -1,4 +1,4 @@
-use Rattle.std.proofs.Common.{◌∙◌, arith, sym, ap}
+use Rattle.std.proofs.Common.{sym}
 use Rattle.fp_tables.proofs.Alls.{topology_is_short}
 use Rattle.fp_tables.proofs.tables.Tables.of.Goals as goal
 

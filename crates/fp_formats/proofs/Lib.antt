@@ -1,0 +1,9 @@
+pub mod Braces
+pub mod Digits
+pub mod Escapes
+pub mod Fields
+pub mod Pieces
+pub mod Plain
+pub mod Readings
+pub mod Steps
+pub mod Utf8

@@ -1,0 +1,16 @@
+//! The lexer of the whole language, but for strings between `"""`: from the bytes of a source to its tokens.
+#![tactic(auto)]
+
+mod bytes;
+mod lexing;
+mod newlines;
+mod pieces;
+mod scan;
+mod shape;
+#[cfg(test)]
+mod tests;
+mod token;
+mod words;
+
+pub use lexing::{lex, one_lexing, places_rise, spans_rise};
+pub use token::{Token, Word};
