@@ -2,12 +2,13 @@
 use Rattle.std.proofs.Common.{◌≡◌, ℕ, ◌<◌, ◌≤◌, List, length, Some, Err, sym, ap, ◌∙◌, arith, refl, subst, pos, inl, inr, ltb}
 use Rattle.std.proofs.lemmas.Bool.{ltb-true, ltb-false}
 use Rattle.fp_base.specs.Places.{place_at}
+use Rattle.fp_base.specs.Rules.{row}
 use Rattle.fp_base.specs.declared.place.Place.{Place}
 use Rattle.fp_base.specs.declared.rule.Rule.{Rule}
-use Rattle.fp_base.specs.declared.rule.Rule.TheVariants.{BadCharacter, OpenString, BadEscape, NumberTooLarge, TextTooLong, UnexpectedToken}
+use Rattle.fp_base.specs.declared.rule.Rule.TheVariants.{BadCharacter, NumberTooLarge, TextTooLong}
 use Rattle.fp_lexer.specs.Scan.{IsSmall, GivesPiece, stop_at}
 use Rattle.fp_lexer.specs.Tokens.{IsPiece, Piece, Cuts}
-use Rattle.fp_lexer.specs.Broken.{LargeBegins, Reached, BrokenAt, IsUnbroken, ComesBefore, IsFirstBroken, IsStop, row, longest_text}
+use Rattle.fp_lexer.specs.Broken.{LargeBegins, Reached, BrokenAt, IsUnbroken, ComesBefore, IsFirstBroken, IsStop, longest_text}
 use Rattle.fp_lexer.specs.declared.token.Word.TheVariants.{Number}
 use Rattle.fp_lexer.specs.declared.pieces.Fault.{Fault}
 use Rattle.fp_lexer.specs.declared.pieces.Fault.TheVariants.{Bad, TooLarge, OutOfMemory}
@@ -20,18 +21,14 @@ pub before_reached : (text : List ℕ) (at : ℕ) (ps : List Piece) (other : Rul
 before_reached text at ps BadCharacter there c s short b = elim (meet text 0 0 at there ps b.0.0 refl c s b.0.1) [ inl h ↦ h | inr p ↦ piece_none text p.0 there _ p.1 p.3 b.2 ]
 before_reached text at ps NumberTooLarge there c s short b = elim (meet text 0 0 at there ps b.0.0 refl c s b.0.1) [ inl h ↦ h | inr p ↦ small_large text p.0 there _ p.1 p.2 p.3 b.1 ]
 before_reached text at ps TextTooLong there c s short b = let h = b.1 in absurd (omega (arith, h))
-before_reached text at ps OpenString there c s short b = absurd b
-before_reached text at ps BadEscape there c s short b = absurd b
-before_reached text at ps UnexpectedToken there c s short b = absurd b
+before_reached text at ps _ there c s short b = absurd b
 
 -- what is broken is broken within the text
 broken_within : (text : List ℕ) (rule : Rule) (at : ℕ) → BrokenAt text rule at → at ≤ length text
 broken_within text BadCharacter at b = let h = b.1 in omega (arith, h)
 broken_within text NumberTooLarge at b = let h = piece_ends text (record { what = Some (Number (pos b.1.0)); from = at; past = b.1.1 }) b.1.2 in omega (arith, h)
 broken_within text TextTooLong at b = let h = b.0 in omega (arith, h)
-broken_within text OpenString at b = absurd b
-broken_within text BadEscape at b = absurd b
-broken_within text UnexpectedToken at b = absurd b
+broken_within text _ at b = absurd b
 
 -- a broken rule is the first, where nothing is broken before its place, and nothing that comes before it in the table is broken there
 first_from : (file : ℕ) (text : List ℕ) (rule : Rule) (at : ℕ) → BrokenAt text rule at → ((other : Rule) (there : ℕ) → BrokenAt text other there → at ≤ there)
@@ -51,25 +48,19 @@ pub bad_least : (text : List ℕ) (at : ℕ) (other : Rule) → BrokenAt text ot
 bad_least text at BadCharacter b = omega arith
 bad_least text at NumberTooLarge b = omega arith
 bad_least text at TextTooLong b = omega arith
-bad_least text at OpenString b = absurd b
-bad_least text at BadEscape b = absurd b
-bad_least text at UnexpectedToken b = absurd b
+bad_least text at _ b = absurd b
 
 pub large_least : (text : List ℕ) (at : ℕ) (other : Rule) → LargeBegins text at → BrokenAt text other at → 4 ≤ row other
 large_least text at BadCharacter l b = absurd (b.2 l.2.0 l.2.1.more (Some (Number (pos l.0))) l.2.1.splits l.2.1.spelled)
 large_least text at NumberTooLarge l b = omega arith
 large_least text at TextTooLong l b = omega arith
-large_least text at OpenString l b = absurd b
-large_least text at BadEscape l b = absurd b
-large_least text at UnexpectedToken l b = absurd b
+large_least text at _ l b = absurd b
 
 pub long_least : (text : List ℕ) (p : Piece) (other : Rule) → IsPiece text p → IsSmall p.what → p.from ≡ 0 → BrokenAt text other 0 → 5 ≤ row other
 long_least text p BadCharacter i small e b = piece_none text p 0 _ i e b.2
 long_least text p NumberTooLarge i small e b = small_large text p 0 _ i small e b.1
 long_least text p TextTooLong i small e b = omega arith
-long_least text p OpenString i small e b = absurd b
-long_least text p BadEscape i small e b = absurd b
-long_least text p UnexpectedToken i small e b = absurd b
+long_least text p _ i small e b = absurd b
 
 -- a text that is too long, and begins with a small piece
 pub long_first : (file : ℕ) (text : List ℕ) (place : Place) (p : Piece) → place ≡ place_at file text 0 → IsPiece text p → IsSmall p.what → p.from ≡ 0 → longest_text < length text → IsFirstBroken file text TextTooLong place
@@ -92,9 +83,7 @@ none_broken text ps c s short NumberTooLarge at b =
     let w = piece_ends text (record { what = Some (Number (pos b.1.0)); from = at; past = b.1.1 }) b.1.2 in
     omega (arith, h, w)
 none_broken text ps c s short TextTooLong at b = let h = b.1 in omega (arith, h)
-none_broken text ps c s short OpenString at b = absurd b
-none_broken text ps c s short BadEscape at b = absurd b
-none_broken text ps c s short UnexpectedToken at b = absurd b
+none_broken text ps c s short _ at b = absurd b
 
 -- small pieces to the end: nothing is broken
 pub unbroken : (file : ℕ) (text : List ℕ) (ps : List Piece) → Cuts text 0 ps (length text) → AllSmall ps → length text ≤ 4194304 → IsUnbroken file text

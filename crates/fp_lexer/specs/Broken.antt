@@ -1,9 +1,10 @@
 -- The rules that a text can break, where each is broken, and which comes first.
 use Rattle.std.specs.Prelude.{◌≡◌, ℕ, ◌^◌, ◌<◌, ◌≤◌, ◌⊎◌, List, ◌++◌, length, drop, Option, Some, None, pos}
 use Rattle.fp_base.specs.Places.{place_at}
+use Rattle.fp_base.specs.Rules.{row}
 use Rattle.fp_base.specs.declared.place.Place.{Place}
 use Rattle.fp_base.specs.declared.rule.Rule.{Rule}
-use Rattle.fp_base.specs.declared.rule.Rule.TheVariants.{BadCharacter, OpenString, BadEscape, NumberTooLarge, TextTooLong, UnexpectedToken}
+use Rattle.fp_base.specs.declared.rule.Rule.TheVariants.{BadCharacter, NumberTooLarge, TextTooLong}
 use Rattle.fp_base.specs.declared.refusal.Stop.{Stop}
 use Rattle.fp_base.specs.declared.refusal.Stop.TheVariants.{Broken, NoMemory}
 use Rattle.fp_lexer.specs.Tokens.{Spells, Piece, IsPiece, Cuts}
@@ -31,9 +32,7 @@ abbrev pub BrokenAt : List ℕ → Rule → ℕ → Type 0
 BrokenAt text BadCharacter at = Reached text at × (at < length text) × NoneBegins text at
 BrokenAt text NumberTooLarge at = Reached text at × LargeBegins text at
 BrokenAt text TextTooLong at = (at ≡ 0) × (longest_text < length text)
-BrokenAt text OpenString at = ⊥
-BrokenAt text BadEscape at = ⊥
-BrokenAt text UnexpectedToken at = ⊥
+BrokenAt text _ at = ⊥
 
 -- a rule is broken at a place
 abbrev pub IsBroken : ℕ → List ℕ → Rule → Place → Type 0
@@ -42,15 +41,6 @@ IsBroken file text rule place = (at : ℕ) × (place ≡ place_at file text at) 
 -- of two places of a file the one comes before the other: by line, then by column
 abbrev pub ComesBefore : Place → Place → Type 0
 ComesBefore p q = (p.line < q.line) ⊎ ((p.line ≡ q.line) × (p.column < q.column))
-
--- the rules in the order of their table
-abbrev pub row : Rule → ℕ
-row BadCharacter = 1
-row OpenString = 2
-row BadEscape = 3
-row NumberTooLarge = 4
-row TextTooLong = 5
-row UnexpectedToken = 6
 
 -- a rule at a place is least by line, column and row of the table
 abbrev pub NotBehind : Rule → Place → Rule → Place → Type 0

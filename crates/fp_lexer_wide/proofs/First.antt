@@ -6,14 +6,15 @@ use Rattle.std.specs.Str.Lossy.{utf8_valid_len}
 use Rattle.std.proofs.lemmas.Bool.{ltb-true, ltb-false}
 use Rattle.std.proofs.lemmas.Str.{utf8_valid_len-IsUtf8}
 use Rattle.fp_base.specs.Places.{place_at}
+use Rattle.fp_base.specs.Rules.{row}
 use Rattle.fp_base.specs.declared.place.Place.{Place}
 use Rattle.fp_base.specs.declared.rule.Rule.{Rule}
-use Rattle.fp_base.specs.declared.rule.Rule.TheVariants.{BadCharacter, OpenString, BadEscape, NumberTooLarge, TextTooLong, UnexpectedToken}
+use Rattle.fp_base.specs.declared.rule.Rule.TheVariants.{BadCharacter, OpenString, NumberTooLarge, TextTooLong}
 use Rattle.fp_base.specs.declared.refusal.Stop.{Stop}
 use Rattle.fp_base.specs.declared.refusal.Stop.TheVariants.{Broken}
 use Rattle.fp_lexer_wide.specs.Scan.{IsSmall, IsFlawed, IsFirstFlaw}
 use Rattle.fp_lexer_wide.specs.Tokens.{IsPiece, Piece, Cuts}
-use Rattle.fp_lexer_wide.specs.Broken.{LargeBegins, BrokenAt, IsUnbroken, ComesBefore, IsFirstBroken, IsStop, row, longest_text}
+use Rattle.fp_lexer_wide.specs.Broken.{LargeBegins, BrokenAt, IsUnbroken, ComesBefore, IsFirstBroken, IsStop, longest_text}
 use Rattle.fp_lexer_wide.specs.declared.token.Word.TheVariants.{Number}
 use Rattle.fp_lexer_wide.specs.declared.pieces.Flaw.{Flaw}
 use Rattle.fp_lexer_wide.proofs.Runs.{bool_cases}
@@ -29,19 +30,17 @@ before_reached text at ps BadCharacter there c s short b = elim b.1 [
   | inr n ↦ elim (meet text 0 0 at there ps n.0.0 refl c s n.0.1) [ inl h ↦ inl h | inr p ↦ piece_none text p.0 there _ p.1 p.3 n.2 ]
 ]
 before_reached text at ps OpenString there c s short b = elim (meet text 0 0 at there ps b.0.0 refl c s b.0.1) [ inl h ↦ inl h | inr p ↦ piece_none text p.0 there _ p.1 p.3 b.2 ]
-before_reached text at ps BadEscape there c s short b = absurd b
 before_reached text at ps NumberTooLarge there c s short b = elim (meet text 0 0 at there ps b.0.0 refl c s b.0.1) [ inl h ↦ inl h | inr p ↦ small_large text p.0 there _ p.1 p.2 p.3 b.1 ]
 before_reached text at ps TextTooLong there c s short b = let h = b.1 in absurd (omega (arith, h))
-before_reached text at ps UnexpectedToken there c s short b = absurd b
+before_reached text at ps _ there c s short b = absurd b
 
 -- what is broken is broken within the text
 pub broken_within : (text : List ℕ) (rule : Rule) (at : ℕ) → BrokenAt text rule at → at ≤ length text
 broken_within text BadCharacter at b = let h = b.0 in omega (arith, h)
 broken_within text OpenString at b = let h = within_from text at 34 b.1 (omega arith) in omega (arith, h)
-broken_within text BadEscape at b = absurd b
 broken_within text NumberTooLarge at b = let h = piece_ends text (record { what = Some (Number (pos b.1.0)); from = at; past = b.1.1 }) b.1.2 in omega (arith, h)
 broken_within text TextTooLong at b = let h = b.0 in omega (arith, h)
-broken_within text UnexpectedToken at b = absurd b
+broken_within text _ at b = absurd b
 
 -- the first by offset and row of the table is the first by place and row
 first_from : (file : ℕ) (text : List ℕ) (flaw : Flaw) → IsFirstFlaw text flaw → IsFirstBroken file text flaw.rule (place_at file text flaw.at)
@@ -66,51 +65,42 @@ stops file text flaw stop e f = subst (λ (s : Stop). IsStop file text s) (sym e
 first_row : (text : List ℕ) (at : ℕ) (other : Rule) → BrokenAt text other at → 1 ≤ row other
 first_row text at BadCharacter b = omega arith
 first_row text at OpenString b = omega arith
-first_row text at BadEscape b = absurd b
 first_row text at NumberTooLarge b = omega arith
 first_row text at TextTooLong b = omega arith
-first_row text at UnexpectedToken b = absurd b
+first_row text at _ b = absurd b
 
 large_row : (text : List ℕ) (at : ℕ) (other : Rule) → at < utf8_valid_len text → LargeBegins text at → BrokenAt text other at → 4 ≤ row other
 large_row text at BadCharacter lt l b = elim b.1 [ inl e ↦ absurd (omega (arith, lt, e)) | inr n ↦ absurd (n.2 l.2.0 l.2.1.more (Some (Number (pos l.0))) l.2.1.splits l.2.1.spelled) ]
 large_row text at OpenString lt l b = absurd (b.2 l.2.0 l.2.1.more (Some (Number (pos l.0))) l.2.1.splits l.2.1.spelled)
-large_row text at BadEscape lt l b = absurd b
 large_row text at NumberTooLarge lt l b = omega arith
 large_row text at TextTooLong lt l b = omega arith
-large_row text at UnexpectedToken lt l b = absurd b
+large_row text at _ lt l b = absurd b
 
 open_row : (text : List ℕ) (at : ℕ) (other : Rule) → at < utf8_valid_len text → slice_index text at ≡ 34 → BrokenAt text other at → 2 ≤ row other
 open_row text at BadCharacter lt q b = elim b.1 [ inl e ↦ absurd (omega (arith, lt, e)) | inr n ↦ absurd (n.1 q) ]
 open_row text at OpenString lt q b = omega arith
-open_row text at BadEscape lt q b = absurd b
 open_row text at NumberTooLarge lt q b = omega arith
 open_row text at TextTooLong lt q b = omega arith
-open_row text at UnexpectedToken lt q b = absurd b
+open_row text at _ lt q b = absurd b
 
 -- of what is broken where the flaw is nothing stands before it in the table
 flaw_row : (text : List ℕ) (at there : ℕ) (rule other : Rule) → at < utf8_valid_len text → IsFlawed text at rule there → BrokenAt text other there → row rule ≤ row other
 flaw_row text at there BadCharacter other lt f b = first_row text there other b
 flaw_row text at there OpenString other lt f b = open_row text at other lt f.1 (subst (λ (k : ℕ). BrokenAt text other k) f.0 b)
-flaw_row text at there BadEscape other lt f b = absurd f
 flaw_row text at there NumberTooLarge other lt f b = large_row text at other lt f.1 (subst (λ (k : ℕ). BrokenAt text other k) f.0 b)
-flaw_row text at there TextTooLong other lt f b = absurd f
-flaw_row text at there UnexpectedToken other lt f b = absurd f
+flaw_row text at there _ other lt f b = absurd f
 
 flaw_at : (text : List ℕ) (at there : ℕ) (rule : Rule) → IsFlawed text at rule there → there ≡ at
 flaw_at text at there BadCharacter f = f.0
 flaw_at text at there OpenString f = f.0
-flaw_at text at there BadEscape f = absurd f
 flaw_at text at there NumberTooLarge f = f.0
-flaw_at text at there TextTooLong f = absurd f
-flaw_at text at there UnexpectedToken f = absurd f
+flaw_at text at there _ f = absurd f
 
 flaw_broken : (text : List ℕ) (at there : ℕ) (rule : Rule) (ps : List Piece) → at < length text → Cuts text 0 ps at → IsFlawed text at rule there → BrokenAt text rule there
 flaw_broken text at there BadCharacter ps h c f = subst (λ (k : ℕ). BrokenAt text BadCharacter k) (sym f.0) (h, inr ((ps, c), f.1, f.2))
 flaw_broken text at there OpenString ps h c f = subst (λ (k : ℕ). BrokenAt text OpenString k) (sym f.0) ((ps, c), f.1, f.2)
-flaw_broken text at there BadEscape ps h c f = absurd f
 flaw_broken text at there NumberTooLarge ps h c f = subst (λ (k : ℕ). BrokenAt text NumberTooLarge k) (sym f.0) ((ps, c), f.1)
-flaw_broken text at there TextTooLong ps h c f = absurd f
-flaw_broken text at there UnexpectedToken ps h c f = absurd f
+flaw_broken text at there _ ps h c f = absurd f
 
 -- a flaw of the piece that begins where small pieces end, within the characters
 pub first_flaw : (text : List ℕ) (at : ℕ) (ps : List Piece) (flaw : Flaw) → at < length text → at < utf8_valid_len text → length text ≤ longest_text → Cuts text 0 ps at → AllSmall ps
@@ -153,10 +143,9 @@ long_flawed text flaw v long f =
 long_row : (text : List ℕ) (p : Piece) (other : Rule) → (utf8_valid_len text ≡ 0 → ⊥) → IsPiece text p → IsSmall p.what → p.from ≡ 0 → BrokenAt text other 0 → 5 ≤ row other
 long_row text p BadCharacter v i small e b = elim b.1 [ inl z ↦ absurd (v (sym z)) | inr n ↦ piece_none text p 0 _ i e n.2 ]
 long_row text p OpenString v i small e b = piece_none text p 0 _ i e b.2
-long_row text p BadEscape v i small e b = absurd b
 long_row text p NumberTooLarge v i small e b = small_large text p 0 _ i small e b.1
 long_row text p TextTooLong v i small e b = omega arith
-long_row text p UnexpectedToken v i small e b = absurd b
+long_row text p _ v i small e b = absurd b
 
 -- its first piece has none
 pub long_first : (text : List ℕ) (p : Piece) → (utf8_valid_len text ≡ 0 → ⊥) → IsPiece text p → IsSmall p.what → p.from ≡ 0 → longest_text < length text → IsFirstFlaw text (record { rule = TextTooLong; at = 0 })
@@ -173,12 +162,11 @@ none_broken text ps c s short v BadCharacter at b = let l = b.0 in elim (before_
 none_broken text ps c s short v OpenString at b =
     let w = within_from text at 34 b.1 (omega arith) in
     elim (before_reached text (length text) ps OpenString at c s short b) [ inl h ↦ omega (arith, h, w) | inr e ↦ omega (arith, e, w, v) ]
-none_broken text ps c s short v BadEscape at b = absurd b
 none_broken text ps c s short v NumberTooLarge at b =
     let w = piece_ends text (record { what = Some (Number (pos b.1.0)); from = at; past = b.1.1 }) b.1.2 in
     elim (before_reached text (length text) ps NumberTooLarge at c s short b) [ inl h ↦ omega (arith, h, w) | inr e ↦ omega (arith, e, w, v) ]
 none_broken text ps c s short v TextTooLong at b = let h = b.1 in omega (arith, h)
-none_broken text ps c s short v UnexpectedToken at b = absurd b
+none_broken text ps c s short v _ at b = absurd b
 
 -- small pieces to the end of characters: nothing is broken
 pub unbroken : (file : ℕ) (text : List ℕ) (ps : List Piece) → Cuts text 0 ps (length text) → AllSmall ps → length text ≤ longest_text → IsUtf8 text → IsUnbroken file text

@@ -3,11 +3,12 @@ use Rattle.std.specs.Prelude.{◌≡◌, ◌≢◌, slice_index, ℕ, ◌+◌, �
 use Rattle.std.specs.List.{prefix_len}
 use Rattle.std.specs.Str.{IsUtf8, IsCharBoundary}
 use Rattle.fp_base.specs.declared.place.Span.{Span}
+use Rattle.fp_base.specs.Rules.{row}
 use Rattle.fp_base.specs.declared.rule.Rule.{Rule}
-use Rattle.fp_base.specs.declared.rule.Rule.TheVariants.{BadCharacter, OpenString, BadEscape, NumberTooLarge, TextTooLong, UnexpectedToken}
+use Rattle.fp_base.specs.declared.rule.Rule.TheVariants.{BadCharacter, OpenString, NumberTooLarge}
 use Rattle.fp_lexer_wide.specs.Bytes.{is_digit, is_hex_digit, hex_digit, body_text, trimmed}
 use Rattle.fp_lexer_wide.specs.Tokens.{IsPiece, kept, ignored_by_rest, Ground, counts, ignored, separated}
-use Rattle.fp_lexer_wide.specs.Broken.{NoneBegins, LargeBegins, BrokenAt, row}
+use Rattle.fp_lexer_wide.specs.Broken.{NoneBegins, LargeBegins, BrokenAt}
 use Rattle.fp_lexer_wide.specs.declared.token.Token.{Token}
 use Rattle.fp_lexer_wide.specs.declared.token.Word.{Word}
 use Rattle.fp_lexer_wide.specs.declared.token.Word.TheVariants.{Name, Reserved, Number, Float, Str, Mark, Newline, Before, After}
@@ -149,10 +150,8 @@ IsSmall what = (n : ℕ) → what ≡ Some (Number (pos n)) → n < 2 ^ 127
 abbrev pub IsFlawed : List ℕ → ℕ → Rule → ℕ → Type 0
 IsFlawed text at BadCharacter there = (there ≡ at) × (slice_index text at ≢ 34) × NoneBegins text at
 IsFlawed text at OpenString there = (there ≡ at) × (slice_index text at ≡ 34) × NoneBegins text at
-IsFlawed text at BadEscape there = ⊥
 IsFlawed text at NumberTooLarge there = (there ≡ at) × LargeBegins text at
-IsFlawed text at TextTooLong there = ⊥
-IsFlawed text at UnexpectedToken there = ⊥
+IsFlawed text at _ there = ⊥
 
 -- the longest piece at an offset: what it is, and where it ends
 abbrev pub GivesPiece : List ℕ → ℕ → Result (Shape × ℕ) Flaw → Type 0

@@ -1,5 +1,5 @@
 -- When each status comes, from what a call writes.
-use Rattle.std.proofs.Common.{◌≡◌, ◌+◌, ◌<◌, ◌≤◌, ◌⊎◌, ℕ, List, [], ◌∷◌, ◌++◌, Option, Some, None, codes, length, inl, inr, refl, sym, ◌∙◌, ap, subst, arith, take, drop, take-append-drop}
+use Rattle.std.proofs.Common.{◌≡◌, ◌<◌, ◌⊎◌, ℕ, List, [], ◌∷◌, Option, Some, None, codes, inl, inr, refl, sym, ◌∙◌, ap, subst, arith, drop, take-append-drop}
 use Rattle.fp_base.specs.declared.place.Place.{Place}
 use Rattle.fp_base.specs.declared.rule.Rule.{Rule}
 use Rattle.fp_lexer.proofs.Unique.{one_lexing}
@@ -11,9 +11,9 @@ use Rattle.fp_main.proofs.ConstantsBroken.{not_spelled}
 use Rattle.fp_main.specs.constants.Broken.{BrokenG1}
 use Rattle.fp_main.specs.Causes.{EndsAs, Asked, Sound, SoundSink, UsageComes, ReadFaultComes, NoFileComes, WriteFaultComes, RefusedComes, DoneComes}
 use Rattle.fp_main.specs.Delivery.{SinkRun, Delivered}
-use Rattle.fp_main.specs.Output.{FilesRun, Holds, IsRead, IsDue, DueListing, DueRefused, DueUsage, DueReadFault, DueNoFile, Output}
-use Rattle.fp_main.specs.Sources.{Lists, Breaks, BreaksGrammar}
-use Rattle.fp_main.specs.Words.{IsWrong, IsForm, BeginsForm, check_words}
+use Rattle.fp_main.specs.Output.{FilesRun, Holds, IsDue, DueListing, DueRefused, DueUsage, DueReadFault, DueNoFile, Output}
+use Rattle.fp_main.specs.Sources.{Lists, Breaks}
+use Rattle.fp_main.specs.Words.{IsWrong, check_words}
 use Rattle.fp_main.specs.declared.status.Status.{Status}
 use Rattle.fp_main.specs.declared.status.Status.TheVariants.{Done, Refused, Usage, ReadFault, WriteFault, NoFile, Stuck, Spent, Asserted, NoMemory, NoTopology}
 

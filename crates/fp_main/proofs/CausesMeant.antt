@@ -1,9 +1,7 @@
 -- What stands written at each status, from what a call writes.
-use Rattle.std.proofs.Common.{◌≡◌, ◌<◌, ◌⊎◌, ℕ, List, [], ◌++◌, Option, Some, None, length, inl, inr, refl, sym, ◌∙◌, ap, subst, arith, take}
-use Rattle.std.specs.Option.{option_map}
-use Rattle.fp_outside.specs.Counts.{Rose, last_count}
-use Rattle.fp_main.specs.Causes.{EndsAs, Says, UsageMeans, ReadFaultMeans, NoFileMeans, RefusedMeans, DoneMeans, WriteFaultMeans, NoMemoryMeans, IsNoRun}
-use Rattle.fp_main.specs.Delivery.{SinkRun, Adds, AddsFront, IsWhole, OutFailed, DiagFailed, Delivered}
+use Rattle.std.proofs.Common.{◌≡◌, ◌⊎◌, ℕ, List, [], length, inl, inr, sym, ◌∙◌, ap, subst, arith}
+use Rattle.fp_main.specs.Causes.{UsageMeans, ReadFaultMeans, NoFileMeans, RefusedMeans, DoneMeans, WriteFaultMeans, NoMemoryMeans, IsNoRun}
+use Rattle.fp_main.specs.Delivery.{SinkRun, Adds, IsWhole, OutFailed, DiagFailed, Delivered}
 use Rattle.fp_main.specs.Output.{FilesRun, IsDue, Output}
 use Rattle.fp_main.specs.declared.status.Status.{Status}
 use Rattle.fp_main.specs.declared.status.Status.TheVariants.{Done, Refused, Usage, ReadFault, WriteFault, NoFile, Stuck, Spent, Asserted, NoMemory, NoTopology}

@@ -1,21 +1,21 @@
 -- A text means one thing.
-use Rattle.std.proofs.Common.{◌≡◌, ◌<◌, ◌≤◌, ◌⊎◌, ℕ, List, inl, inr, refl, sym, ◌∙◌, ap, subst, arith, cond, ◌==◌}
+use Rattle.std.proofs.Common.{◌≡◌, ℕ, List, inl, inr, sym, ◌∙◌, ap, subst, arith}
 use Rattle.fp_base.specs.declared.place.Place.{Place}
+use Rattle.fp_base.proofs.Rules.{same_row}
+use Rattle.fp_base.specs.Rules.{row}
 use Rattle.fp_base.specs.declared.rule.Rule.{Rule}
-use Rattle.fp_base.specs.declared.rule.Rule.TheVariants.{BadCharacter, OpenString, BadEscape, NumberTooLarge, TextTooLong, UnexpectedToken}
 use Rattle.fp_grammar.proofs.Fits.{good_of}
 use Rattle.fp_grammar.specs.Grammar.{Spells}
 use Rattle.fp_lexer.proofs.Unique.{one_lexing}
-use Rattle.fp_lexer.specs.Broken.{IsBroken, IsFirstBroken, NotBehind, ComesBefore, row}
+use Rattle.fp_lexer.specs.Broken.{IsFirstBroken, NotBehind}
 use Rattle.fp_lexer.specs.Tokens.{Lexed}
 use Rattle.fp_lexer.specs.declared.token.Token.{Token}
 use Rattle.fp_main.proofs.ConstantsBroken.{one_place}
 use Rattle.fp_main.proofs.ConstantsFit.{unit_fits}
-use Rattle.fp_main.specs.Sources.{Lists, Breaks, BreaksGrammar, listing_of}
+use Rattle.fp_main.specs.Sources.{Lists, Breaks, listing_of}
 use Rattle.fp_main.specs.constants.Broken.{BrokenG1}
 use Rattle.fp_main.specs.constants.Kinds.{kind}
 use Rattle.fp_main.specs.constants.Language
-use Rattle.fp_main.specs.declared.constants.tree.Unit.{Unit as Source}
 
 -- what a text of these tokens lists is what they spell
 spelled_of : (text listing : List ℕ) (tokens : List Token) (l : Lists text listing) → Lexed 0 text tokens → Spells kind Language.unit tokens l.source
@@ -32,23 +32,6 @@ same_place p q e f g =
     ap (λ n. record { file = n; line = p.line; column = p.column }) e
     ∙ ap (λ n. record { file = q.file; line = n; column = p.column }) f
     ∙ ap (λ n. record { file = q.file; line = q.line; column = n }) g
-
--- the rule of a row of the table
-rule_at : ℕ → Rule
-rule_at n =
-    cond (n == 1) BadCharacter (cond (n == 2) OpenString (cond (n == 3) BadEscape (cond (n == 4) NumberTooLarge (cond (n == 5) TextTooLong UnexpectedToken))))
-
-rule_at-row : (a : Rule) → rule_at (row a) ≡ a
-unfolding rule_at
-rule_at-row BadCharacter = refl
-rule_at-row OpenString = refl
-rule_at-row BadEscape = refl
-rule_at-row NumberTooLarge = refl
-rule_at-row TextTooLong = refl
-rule_at-row UnexpectedToken = refl
-
-same_row : (a b : Rule) → row a ≡ row b → a ≡ b
-same_row a b e = sym (rule_at-row a) ∙ ap rule_at e ∙ rule_at-row b
 
 -- neither is behind the other
 level : (a b : Rule) (p q : Place) → NotBehind a p b q → NotBehind b q a p → (p.line ≡ q.line) × (p.column ≡ q.column) × (row a ≡ row b)

@@ -1,5 +1,5 @@
 -- Words that have no form.
-use Rattle.std.proofs.Common.{◌≡◌, ◌≢◌, ◌+◌, ◌<◌, ◌≤◌, ℕ, List, [], ◌∷◌, ◌++◌, length, take, codes, Bool, true, false, refl, map, ◌∙◌, inl, inr, lit<, lit≤, arith, ap, sym, subst}
+use Rattle.std.proofs.Common.{◌≡◌, ℕ, List, [], ◌∷◌, ◌++◌, length, codes, Bool, true, false, refl, map, ◌∙◌, inl, inr, lit<, arith, sym, subst}
 use Rattle.std.specs.Str.{bytes_eq}
 use Rattle.std.proofs.lemmas.Slice.Eq.{bytes_eq-Decides}
 use Rattle.fp_main.specs.Words.{IsForm, BeginsForm, IsWrong, check_words}

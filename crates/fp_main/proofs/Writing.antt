@@ -1,8 +1,8 @@
 -- Pieces that are written one after another.
-use Rattle.std.proofs.Common.{◌≡◌, ◌+◌, ◌<◌, ◌≤◌, ℕ, List, ◌++◌, Option, Some, None, length, take, drop, refl, ap, sym, ◌∙◌, append_assoc, ◌-◌, length-drop, arith, Bool, true, false, inl, inr, ◌⊎◌}
+use Rattle.std.proofs.Common.{◌≡◌, ◌+◌, ℕ, List, ◌++◌, Option, Some, None, length, take, drop, refl, ap, sym, ◌∙◌, append_assoc, ◌-◌, length-drop, arith, Bool, true, false, inl, inr}
 use Rattle.std.proofs.lemmas.List.{take_all}
 use Rattle.fp_main.specs.Lines.{write_fault_line}
-use Rattle.fp_main.specs.Delivery.{SinkRun, Adds, AddsFront, NoFault, HadFault, Written, IsWhole, OutFailed, DiagFailed, Delivered}
+use Rattle.fp_main.specs.Delivery.{SinkRun, AddsFront, HadFault, Written, Delivered}
 use Rattle.fp_main.specs.declared.status.Status.{Status}
 use Rattle.fp_main.specs.declared.status.Status.TheVariants.{WriteFault}
 use Rattle.std.proofs.Math.Seq.{take-add}

@@ -1,5 +1,5 @@
 -- How an output and a line are written to two sinks of which each may fail.
-use Rattle.std.specs.Prelude.{ℕ, ◌≡◌, ◌<◌, ◌⊎◌, List, [], ◌++◌, length, take, Option, Bool, true, false}
+use Rattle.std.specs.Prelude.{ℕ, ◌≡◌, ◌<◌, ◌⊎◌, List, ◌++◌, length, take, Option, Bool, true, false}
 use Rattle.std.specs.Option.{option_map}
 use Rattle.fp_outside.specs.Counts.{Rose}
 use Rattle.fp_main.specs.Lines.{write_fault_line}

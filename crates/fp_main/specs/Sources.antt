@@ -1,11 +1,10 @@
 -- What a source means: the text that lists what it defines, or the rule that it breaks first.
-use Rattle.std.specs.Prelude.{ℕ, ◌≡◌, ◌⊎◌, List, [], ◌∷◌, ◌++◌, codes, None, Result, Ok, Err}
+use Rattle.std.specs.Prelude.{ℕ, ◌≡◌, ◌⊎◌, List, ◌++◌, codes, Result, Ok, Err}
 use Rattle.std.specs.List.{flat_map}
 use Rattle.std.specs.Fmt.{signed_decimal}
 use Rattle.fp_base.specs.declared.place.Place.{Place}
 use Rattle.fp_base.specs.declared.rule.Rule.{Rule}
 use Rattle.fp_base.specs.declared.rule.Rule.TheVariants.{UnexpectedToken}
-use Rattle.fp_base.specs.declared.refusal.Refusal.{Refusal}
 use Rattle.fp_base.specs.declared.refusal.Stop.{Stop}
 use Rattle.fp_base.specs.declared.refusal.Stop.TheVariants.{Broken, NoMemory}
 use Rattle.fp_lexer.specs.Tokens.{Lexed}

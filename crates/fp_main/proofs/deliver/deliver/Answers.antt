@@ -1,4 +1,4 @@
-use Rattle.std.proofs.Common.{◌≡◌, List, ℕ, Bool, sym, subst}
+use Rattle.std.proofs.Common.{◌≡◌, List, ℕ, Bool, subst}
 use Rattle.fp_main.specs.Lines.{write_fault_line}
 use Rattle.fp_main.specs.Delivery.{SinkRun, Written}
 use Rattle.fp_main.proofs.Writing.{failed_out}

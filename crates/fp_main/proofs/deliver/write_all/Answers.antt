@@ -1,4 +1,4 @@
-use Rattle.std.proofs.Common.{◌≡◌, ◌+◌, ◌≤◌, ◌<◌, ◌-◌, ℕ, List, length, take, drop, length-drop, length-take, ◌∙◌, arith}
+use Rattle.std.proofs.Common.{◌+◌, ◌≤◌, ◌<◌, ◌-◌, ℕ, List, length, take, drop, length-drop, length-take, ◌∙◌, arith}
 use Rattle.fp_main.proofs.Writing.{adds_more_of}
 use Rattle.fp_main.proofs.deliver.write_all.Goals as goal
 

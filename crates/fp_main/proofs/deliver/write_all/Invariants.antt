@@ -1,4 +1,4 @@
-use Rattle.std.proofs.Common.{length, take, ◌-◌, ◌≡◌, ◌≤◌}
+use Rattle.std.proofs.Common.{length, take, ◌-◌, ◌≤◌}
 use Rattle.fp_main.specs.Delivery.{Adds, NoFault, sink_run}
 use Rattle.fp_main.proofs.deliver.write_all.Given as goal
 

@@ -1,4 +1,4 @@
-use Rattle.std.proofs.Common.{◌≡◌, Bool, true, false, ◌==◌, length, ℕ, eq-eqb, sym, ◌∙◌}
+use Rattle.std.proofs.Common.{◌≡◌, Bool, true, false, ◌==◌, ℕ, eq-eqb, sym, ◌∙◌}
 use Rattle.std.specs.String.{string_bytes}
 use Rattle.fp_main.proofs.Wording.{missing_file_of, further_word_of}
 use Rattle.fp_main.proofs.words.read_check.Goals as goal
