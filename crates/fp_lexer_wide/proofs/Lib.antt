@@ -3,13 +3,16 @@ pub mod Runs
 pub mod Lines
 pub mod FirstBytes
 pub mod Strings
+pub mod LongStrings
 pub mod Lined
 pub mod Longest
 pub mod Floats
 pub mod Numbers
 pub mod Parts
 pub mod Copies
+pub mod Dedents
 pub mod Gives
+pub mod GivesLong
 pub mod Kept
 pub mod Meaning
 pub mod Cuts

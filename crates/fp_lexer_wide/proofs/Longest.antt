@@ -21,9 +21,9 @@ use Rattle.fp_lexer_wide.proofs.Lined.{is_lead, no_lead, letter_no_lead}
 use Rattle.fp_lexer_wide.proofs.FirstBytes.{is_empty, is_one, is_two, is_single, ends, ends_other, shape, shaped, ends_letter, ends_rest}
 
 -- the pieces that begin with b go on with something that ends it
-pub after_first : (b : ℕ) (t v after : List ℕ) (what : Option Word) (P : Type 0) → is_lead b ≡ false → b ∷ t ≡ v ++ after → Spells (b ∷ t) v what
+pub after_first : (indent : ℕ) (b : ℕ) (t v after : List ℕ) (what : Option Word) (P : Type 0) → is_lead b ≡ false → b ∷ t ≡ v ++ after → Spells indent (b ∷ t) v what
     → ((u : List ℕ) → v ≡ b ∷ u → t ≡ u ++ after → ends b u ≡ true → P) → P
-after_first b t v after what P lead e s k = elim s [ inl p ↦ by_bytes v (shaped v what p) e k | inr l ↦ no_lead b t v what P l lead ]
+after_first indent b t v after what P lead e s k = elim s [ inl p ↦ by_bytes v (shaped v what p) e k | inr l ↦ no_lead indent b t v what P l lead ]
   where
     by_bytes : (v : List ℕ) → shape v ≡ true → b ∷ t ≡ v ++ after → ((u : List ℕ) → v ≡ b ∷ u → t ≡ u ++ after → ends b u ≡ true → P) → P
     by_bytes [] h e k = cc
@@ -32,27 +32,27 @@ after_first b t v after what P lead e s k = elim s [ inl p ↦ by_bytes v (shape
         let tail : t ≡ u ++ after = cc in
         k u (ap (λ (x : ℕ). x ∷ u) same) tail (ap (λ (x : ℕ). ends x u) (sym same) ∙ h)
 
-pub longest_from : (b : ℕ) (t w more : List ℕ) (what : Option Word) → is_lead b ≡ false → b ∷ t ≡ w ++ more → Spelled w what
-    → ((u after : List ℕ) → t ≡ u ++ after → ends b u ≡ true → suc (length u) ≤ length w) → IsLongest (b ∷ t) w what
-longest_from b t w more what lead e s k = record {
+pub longest_from : (indent : ℕ) (b : ℕ) (t w more : List ℕ) (what : Option Word) → is_lead b ≡ false → b ∷ t ≡ w ++ more → Spelled w what
+    → ((u after : List ℕ) → t ≡ u ++ after → ends b u ≡ true → suc (length u) ≤ length w) → IsLongest indent (b ∷ t) w what
+longest_from indent b t w more what lead e s k = record {
   more = more;
   splits = e;
   spelled = inl s;
-  longest = λ v after other split spelled. after_first b t v after other (length v ≤ length w) lead split spelled
+  longest = λ v after other split spelled. after_first indent b t v after other (length v ≤ length w) lead split spelled
       (λ u isv tail h. let le = k u after tail h in let l = ap length isv in omega (arith, le, l));
 }
 
-pub none_from : (b : ℕ) (t : List ℕ) → is_lead b ≡ false → ((u after : List ℕ) → t ≡ u ++ after → ends b u ≡ true → ⊥)
-    → (w more : List ℕ) (what : Option Word) → b ∷ t ≡ w ++ more → Spells (b ∷ t) w what → ⊥
-none_from b t lead k w more what e s = after_first b t w more what ⊥ lead e s (λ u isv tail h. k u more tail h)
+pub none_from : (indent : ℕ) (b : ℕ) (t : List ℕ) → is_lead b ≡ false → ((u after : List ℕ) → t ≡ u ++ after → ends b u ≡ true → ⊥)
+    → (w more : List ℕ) (what : Option Word) → b ∷ t ≡ w ++ more → Spells indent (b ∷ t) w what → ⊥
+none_from indent b t lead k w more what e s = after_first indent b t w more what ⊥ lead e s (λ u isv tail h. k u more tail h)
 
 empty_length : (u : List ℕ) → is_empty u ≡ true → length u ≡ 0
 empty_length [] e = refl
 empty_length (x ∷ xs) e = cc
 
 -- a piece of one byte, where no longer one begins with it
-pub one_byte : (b : ℕ) (t : List ℕ) (what : Option Word) → is_lead b ≡ false → Spelled (b ∷ []) what → ((u : List ℕ) → ends b u ≡ true → is_empty u ≡ true) → IsLongest (b ∷ t) (b ∷ []) what
-one_byte b t what lead s k = longest_from b t (b ∷ []) t what lead refl s (λ u after tail h. let l = empty_length u (k u h) in omega (arith, l))
+pub one_byte : (indent : ℕ) (b : ℕ) (t : List ℕ) (what : Option Word) → is_lead b ≡ false → Spelled (b ∷ []) what → ((u : List ℕ) → ends b u ≡ true → is_empty u ≡ true) → IsLongest indent (b ∷ t) (b ∷ []) what
+one_byte indent b t what lead s k = longest_from indent b t (b ∷ []) t what lead refl s (λ u after tail h. let l = empty_length u (k u h) in omega (arith, l))
 
 pub one_length : (c : ℕ) (u : List ℕ) → is_one c u ≡ true → (u ≡ c ∷ [])
 one_length c [] e = cc
@@ -75,9 +75,9 @@ prefix_all p (x ∷ xs) = bool_cases (p x) _
     (λ e. rw e refl)
 
 -- a run of bytes is the longest piece, where only they may follow its first
-pub run_longest : (p : ℕ → Bool) (b : ℕ) (t : List ℕ) (what : Option Word) → is_lead b ≡ false → ((u : List ℕ) → ends b u ≡ true → list_all p u ≡ true)
-    → Spelled (b ∷ take (prefix_len p t) t) what → IsLongest (b ∷ t) (b ∷ take (prefix_len p t) t) what
-run_longest p b t what lead k s = longest_from b t (b ∷ take (prefix_len p t) t) (drop (prefix_len p t) t) what lead
+pub run_longest : (indent : ℕ) (p : ℕ → Bool) (b : ℕ) (t : List ℕ) (what : Option Word) → is_lead b ≡ false → ((u : List ℕ) → ends b u ≡ true → list_all p u ≡ true)
+    → Spelled (b ∷ take (prefix_len p t) t) what → IsLongest indent (b ∷ t) (b ∷ take (prefix_len p t) t) what
+run_longest indent p b t what lead k s = longest_from indent b t (b ∷ take (prefix_len p t) t) (drop (prefix_len p t) t) what lead
     (ap (λ (x : List ℕ). b ∷ x) (sym (take-append-drop (prefix_len p t) t))) s
     (λ u after tail h.
     let le = all_le_prefix p u after (k u h) in
@@ -86,9 +86,9 @@ run_longest p b t what lead k s = longest_from b t (b ∷ take (prefix_len p t) 
     let m = prefix_len-le-length p t in
     omega (arith, le, e, l, m))
 
-pub name_longest : (b : ℕ) (t : List ℕ) (what : Option Word) → is_letter b ≡ true → Spelled (b ∷ take (prefix_len is_name_byte t) t) what
-    → IsLongest (b ∷ t) (b ∷ take (prefix_len is_name_byte t) t) what
-name_longest b t what e s = run_longest is_name_byte b t what (letter_no_lead b e) (λ u h. sym (ends_letter b u e) ∙ h) s
+pub name_longest : (indent : ℕ) (b : ℕ) (t : List ℕ) (what : Option Word) → is_letter b ≡ true → Spelled (b ∷ take (prefix_len is_name_byte t) t) what
+    → IsLongest indent (b ∷ t) (b ∷ take (prefix_len is_name_byte t) t) what
+name_longest indent b t what e s = run_longest indent is_name_byte b t what (letter_no_lead b e) (λ u h. sym (ends_letter b u e) ∙ h) s
 
 -- ---- other pieces
 
@@ -117,19 +117,19 @@ mark_spells b m e =
 -- ---- the pieces that begin with no letter and no digit
 
 -- what `other` answers of a byte and the rest
-pub record OtherIs (b : ℕ) (t text : List ℕ) (shape : Shape) (n : ℕ) : Type 0 where
+pub record OtherIs (indent b : ℕ) (t text : List ℕ) (shape : Shape) (n : ℕ) : Type 0 where
   pub w : List ℕ
-  pub longest : IsLongest (b ∷ t) w (what_of text shape)
+  pub longest : IsLongest indent (b ∷ t) w (what_of indent text shape)
   pub size : n ≡ length w
-  pub small : IsSmall (what_of text shape)
+  pub small : IsSmall (what_of indent text shape)
   pub has : HasPart text shape
 
-other_from : (b : ℕ) (t text w : List ℕ) (s s' : Shape) (n n' : ℕ) → IsLongest (b ∷ t) w (what_of text s) → n ≡ length w → IsSmall (what_of text s) → HasPart text s → s ≡ s' → n ≡ n' → OtherIs b t text s' n'
-other_from b t text w s s' n n' l z small has e f = record {
+other_from : (indent : ℕ) (b : ℕ) (t text w : List ℕ) (s s' : Shape) (n n' : ℕ) → IsLongest indent (b ∷ t) w (what_of indent text s) → n ≡ length w → IsSmall (what_of indent text s) → HasPart text s → s ≡ s' → n ≡ n' → OtherIs indent b t text s' n'
+other_from indent b t text w s s' n n' l z small has e f = record {
   w = w;
-  longest = subst (λ (x : Shape). IsLongest (b ∷ t) w (what_of text x)) e l;
+  longest = subst (λ (x : Shape). IsLongest indent (b ∷ t) w (what_of indent text x)) e l;
   size = sym f ∙ z;
-  small = subst (λ (x : Shape). IsSmall (what_of text x)) e small;
+  small = subst (λ (x : Shape). IsSmall (what_of indent text x)) e small;
   has = subst (λ (x : Shape). HasPart text x) e has;
 }
 
@@ -147,16 +147,16 @@ and_false true b e t = e
 and_false false b e t = cc
 
 -- a first byte that is known
-known : (b x : ℕ) (t w : List ℕ) (what : Option Word) → (b == x) ≡ true → IsLongest (x ∷ t) (x ∷ w) what → IsLongest (b ∷ t) (x ∷ w) what
-known b x t w what e l = subst (λ (y : ℕ). IsLongest (y ∷ t) (x ∷ w) what) (sym (eqb-true b x e)) l
+known : (indent : ℕ) (b x : ℕ) (t w : List ℕ) (what : Option Word) → (b == x) ≡ true → IsLongest indent (x ∷ t) (x ∷ w) what → IsLongest indent (b ∷ t) (x ∷ w) what
+known indent b x t w what e l = subst (λ (y : ℕ). IsLongest indent (y ∷ t) (x ∷ w) what) (sym (eqb-true b x e)) l
 
 -- a second byte that is known
 second : (t : List ℕ) (x : ℕ) → (get_or t 0 0 == x) ≡ true → (0 == x) ≡ false → t ≡ x ∷ drop 1 t
 second [] x e f = cc
 second (c ∷ t) x e f = ap (λ (y : ℕ). y ∷ t) (eqb-true c x e)
 
-two_bytes : (b x : ℕ) (t : List ℕ) (what : Option Word) → is_lead b ≡ false → Spelled (b ∷ x ∷ []) what → ((u : List ℕ) → ends b u ≡ true → length u ≤ 1) → t ≡ x ∷ drop 1 t → IsLongest (b ∷ t) (b ∷ x ∷ []) what
-two_bytes b x t what lead s k e = longest_from b t (b ∷ x ∷ []) (drop 1 t) what lead (ap (λ (y : List ℕ). b ∷ y) e) s (λ u after tail h. let l = k u h in omega (arith, l))
+two_bytes : (indent : ℕ) (b x : ℕ) (t : List ℕ) (what : Option Word) → is_lead b ≡ false → Spelled (b ∷ x ∷ []) what → ((u : List ℕ) → ends b u ≡ true → length u ≤ 1) → t ≡ x ∷ drop 1 t → IsLongest indent (b ∷ t) (b ∷ x ∷ []) what
+two_bytes indent b x t what lead s k e = longest_from indent b t (b ∷ x ∷ []) (drop 1 t) what lead (ap (λ (y : List ℕ). b ∷ y) e) s (λ u after tail h. let l = k u h in omega (arith, l))
 
 one_le : (c : ℕ) (u : List ℕ) → is_one c u ≡ true → length u ≤ 1
 one_le c u e = let h = ap length (one_length c u e) in omega (arith, h)
@@ -178,8 +178,8 @@ mark_ends b t u after l d dollar slash cr minus tail h =
     let both : true ≡ false = sym yes ∙ no in cc))
     (λ e. and_right (is_single b) (is_empty u) (sym (cond_false (b == 45) (is_empty u || is_one 62 u) (is_single b && is_empty u) e) ∙ o2))
 
-mark_longest : (b : ℕ) (t : List ℕ) (k : ℕ) → is_lead b ≡ false → is_letter b ≡ false → is_digit b ≡ false → (b == 36) ≡ false → (b == 92) ≡ false → (b == 13) ≡ false → ((b == 45) ≡ true → (get_or t 0 0 == 62) ≡ false) → slice_get marks k ≡ Some (b ∷ []) → IsLongest (b ∷ t) (b ∷ []) (Some (Mark k))
-mark_longest b t k lead l d dollar slash cr minus s = longest_from b t (b ∷ []) t _ lead refl s (λ u after tail h. let e = empty_length u (mark_ends b t u after l d dollar slash cr minus tail h) in omega (arith, e))
+mark_longest : (indent : ℕ) (b : ℕ) (t : List ℕ) (k : ℕ) → is_lead b ≡ false → is_letter b ≡ false → is_digit b ≡ false → (b == 36) ≡ false → (b == 92) ≡ false → (b == 13) ≡ false → ((b == 45) ≡ true → (get_or t 0 0 == 62) ≡ false) → slice_get marks k ≡ Some (b ∷ []) → IsLongest indent (b ∷ t) (b ∷ []) (Some (Mark k))
+mark_longest indent b t k lead l d dollar slash cr minus s = longest_from indent b t (b ∷ []) t _ lead refl s (λ u after tail h. let e = empty_length u (mark_ends b t u after l d dollar slash cr minus tail h) in omega (arith, e))
 
 -- no mark of one byte is a carriage return
 no_return : (b k : ℕ) → one_mark b ≡ Some k → (b == 13) ≡ false
@@ -191,35 +191,35 @@ shape_of p = p.0
 abbrev size_of : (Shape × ℕ) → ℕ
 size_of p = p.1
 
-pub other_ok : (b : ℕ) (t text : List ℕ) (s : Shape) (n : ℕ) → is_lead b ≡ false → is_letter b ≡ false → is_digit b ≡ false → (b == 36) ≡ false → (b == 92) ≡ false → other b (get_or t 0 0) ≡ Some (s, n) → OtherIs b t text s n
-other_ok b t text s n lead l d dollar slash e =
+pub other_ok : (indent : ℕ) (b : ℕ) (t text : List ℕ) (s : Shape) (n : ℕ) → is_lead b ≡ false → is_letter b ≡ false → is_digit b ≡ false → (b == 36) ≡ false → (b == 92) ≡ false → other b (get_or t 0 0) ≡ Some (s, n) → OtherIs indent b t text s n
+other_ok indent b t text s n lead l d dollar slash e =
     choose (b == 32 || b == 9) (shape.Blank, 1) (s, n) _ _ e
     (λ h q. or_cases (b == 32) (b == 9) _ h
-    (λ x. other_from b t text (32 ∷ []) shape.Blank s 1 n (known b 32 t [] None x (one_byte 32 t None refl (inl refl) (λ u z. z))) refl (λ m z. cc) tt (ap shape_of q) (ap size_of q))
-    (λ x. other_from b t text (9 ∷ []) shape.Blank s 1 n (known b 9 t [] None x (one_byte 9 t None refl (inr (inl refl)) (λ u z. z))) refl (λ m z. cc) tt (ap shape_of q) (ap size_of q)))
+    (λ x. other_from indent b t text (32 ∷ []) shape.Blank s 1 n (known indent b 32 t [] None x (one_byte indent 32 t None refl (inl refl) (λ u z. z))) refl (λ m z. cc) tt (ap shape_of q) (ap size_of q))
+    (λ x. other_from indent b t text (9 ∷ []) shape.Blank s 1 n (known indent b 9 t [] None x (one_byte indent 9 t None refl (inr (inl refl)) (λ u z. z))) refl (λ m z. cc) tt (ap shape_of q) (ap size_of q)))
     (λ _ e. choose (b == 10) (shape.Newline, 1) (s, n) _ _ e
-    (λ x q. other_from b t text (10 ∷ []) shape.Newline s 1 n (known b 10 t [] _ x (one_byte 10 t (Some Newline) refl (inl refl) (λ u z. z))) refl (λ m z. cc) tt (ap shape_of q) (ap size_of q))
+    (λ x q. other_from indent b t text (10 ∷ []) shape.Newline s 1 n (known indent b 10 t [] _ x (one_byte indent 10 t (Some Newline) refl (inl refl) (λ u z. z))) refl (λ m z. cc) tt (ap shape_of q) (ap size_of q))
     (λ _ e. choose (b == 13 && get_or t 0 0 == 10) (shape.Newline, 2) (s, n) _ _ e
-    (λ x q. other_from b t text (13 ∷ 10 ∷ []) shape.Newline s 2 n
-    (known b 13 t (10 ∷ []) _ (and_left _ _ x) (two_bytes 13 10 t (Some Newline) refl (inr refl) (λ u z. one_le 10 u z) (second t 10 (and_right _ _ x) refl))) refl (λ m z. cc) tt (ap shape_of q) (ap size_of q))
+    (λ x q. other_from indent b t text (13 ∷ 10 ∷ []) shape.Newline s 2 n
+    (known indent b 13 t (10 ∷ []) _ (and_left _ _ x) (two_bytes indent 13 10 t (Some Newline) refl (inr refl) (λ u z. one_le 10 u z) (second t 10 (and_right _ _ x) refl))) refl (λ m z. cc) tt (ap shape_of q) (ap size_of q))
     (λ _ e. choose (b == 45 && get_or t 0 0 == 62) (shape.Mark 10, 2) (s, n) _ _ e
-    (λ x q. other_from b t text (45 ∷ 62 ∷ []) (shape.Mark 10) s 2 n
-    (known b 45 t (62 ∷ []) _ (and_left _ _ x) (two_bytes 45 62 t (Some (Mark 10)) refl refl (λ u z. minus_le u z) (second t 62 (and_right _ _ x) refl))) refl (λ m z. cc) tt (ap shape_of q) (ap size_of q))
+    (λ x q. other_from indent b t text (45 ∷ 62 ∷ []) (shape.Mark 10) s 2 n
+    (known indent b 45 t (62 ∷ []) _ (and_left _ _ x) (two_bytes indent 45 62 t (Some (Mark 10)) refl refl (λ u z. minus_le u z) (second t 62 (and_right _ _ x) refl))) refl (λ m z. cc) tt (ap shape_of q) (ap size_of q))
     (λ bare e. one_mark_ok (one_mark b) refl (and_false (b == 45) (get_or t 0 0 == 62) bare) e))))
   where
-    one_mark_ok : (o : Option ℕ) → one_mark b ≡ o → ((b == 45) ≡ true → (get_or t 0 0 == 62) ≡ false) → one_mark_shape o ≡ Some (s, n) → OtherIs b t text s n
+    one_mark_ok : (o : Option ℕ) → one_mark b ≡ o → ((b == 45) ≡ true → (get_or t 0 0 == 62) ≡ false) → one_mark_shape o ≡ Some (s, n) → OtherIs indent b t text s n
     one_mark_ok None i bare e = cc
-    one_mark_ok (Some k) i bare e = let q = some_pair_parts (shape.Mark k) s 1 n e in other_from b t text (b ∷ []) (shape.Mark k) s 1 n (mark_longest b t k lead l d dollar slash (no_return b k i) bare (mark_spells b k i)) refl (λ m z. cc) tt q.0 q.1
+    one_mark_ok (Some k) i bare e = let q = some_pair_parts (shape.Mark k) s 1 n e in other_from indent b t text (b ∷ []) (shape.Mark k) s 1 n (mark_longest indent b t k lead l d dollar slash (no_return b k i) bare (mark_spells b k i)) refl (λ m z. cc) tt q.0 q.1
 
 -- nothing begins there
 single_no : (b : ℕ) → (b == 32 || b == 9) ≡ false → (b == 10) ≡ false → one_mark b ≡ None → is_single b ≡ false
 single_no b e f g = grind (arith, ap (λ (o : Option ℕ). is_some o) g)
 
-pub other_none : (b : ℕ) (t : List ℕ) → is_lead b ≡ false → is_letter b ≡ false → is_digit b ≡ false → (b == 36) ≡ false → (b == 92) ≡ false → other b (get_or t 0 0) ≡ None → (w more : List ℕ) (what : Option Word) → b ∷ t ≡ w ++ more → Spells (b ∷ t) w what → ⊥
-other_none b t lead l d dollar slash e =
+pub other_none : (indent : ℕ) (b : ℕ) (t : List ℕ) → is_lead b ≡ false → is_letter b ≡ false → is_digit b ≡ false → (b == 36) ≡ false → (b == 92) ≡ false → other b (get_or t 0 0) ≡ None → (w more : List ℕ) (what : Option Word) → b ∷ t ≡ w ++ more → Spells indent (b ∷ t) w what → ⊥
+other_none indent b t lead l d dollar slash e =
     refuse (b == 32 || b == 9) (shape.Blank, 1) _ _ e (λ blank e. refuse (b == 10) (shape.Newline, 1) _ _ e (λ nl e.
     refuse (b == 13 && get_or t 0 0 == 10) (shape.Newline, 2) _ _ e (λ cr e. refuse (b == 45 && get_or t 0 0 == 62) (shape.Mark 10, 2) _ _ e (λ arrow e.
-    none_from b t lead (λ u after tail h.
+    none_from indent b t lead (λ u after tail h.
     let none : one_mark b ≡ None = no_mark (one_mark b) e in
     let o : ends_other b u ≡ true = sym (ends_rest b u l d dollar slash) ∙ h in
     bool_cases (b == 13) ⊥
@@ -246,8 +246,8 @@ name_all : (u : List ℕ) → is_name u ≡ true → list_all is_name_byte u ≡
 name_all [] e = refl
 name_all (x ∷ u) e = ap (λ (v : Bool). (v || is_digit x) && list_all is_name_byte u) (and_left (is_letter x) (list_all is_name_byte u) e) ∙ and_right (is_letter x) (list_all is_name_byte u) e
 
-pub dollar_longest : (t name : List ℕ) → name ≡ take (prefix_len is_name_byte t) t → is_name name ≡ true → IsLongest (36 ∷ t) (36 ∷ name) (Some (Name name))
-dollar_longest t name i named = longest_from 36 t (36 ∷ name) (drop (prefix_len is_name_byte t) t) (Some (Name name)) refl
+pub dollar_longest : (indent : ℕ) (t name : List ℕ) → name ≡ take (prefix_len is_name_byte t) t → is_name name ≡ true → IsLongest indent (36 ∷ t) (36 ∷ name) (Some (Name name))
+dollar_longest indent t name i named = longest_from indent 36 t (36 ∷ name) (drop (prefix_len is_name_byte t) t) (Some (Name name)) refl
     (ap (λ (x : List ℕ). 36 ∷ x) (sym (take-append-drop (prefix_len is_name_byte t) t) ∙ ap (λ (x : List ℕ). x ++ drop (prefix_len is_name_byte t) t) (sym i))) (named, inr refl)
     (λ u after tail h.
     let le = all_le_prefix is_name_byte u after (name_all u h) in
@@ -257,8 +257,8 @@ dollar_longest t name i named = longest_from 36 t (36 ∷ name) (drop (prefix_le
     let n = ap length i in
     omega (arith, le, e, l, m, n))
 
-pub dollar_none : (t : List ℕ) → is_letter (get_or t 0 0) ≡ false → (w more : List ℕ) (what : Option Word) → 36 ∷ t ≡ w ++ more → Spells (36 ∷ t) w what → ⊥
-dollar_none t e = none_from 36 t refl (λ u after tail h. bare u h after tail)
+pub dollar_none : (indent : ℕ) (t : List ℕ) → is_letter (get_or t 0 0) ≡ false → (w more : List ℕ) (what : Option Word) → 36 ∷ t ≡ w ++ more → Spells indent (36 ∷ t) w what → ⊥
+dollar_none indent t e = none_from indent 36 t refl (λ u after tail h. bare u h after tail)
   where
     bare : (u : List ℕ) → is_name u ≡ true → (after : List ℕ) → t ≡ u ++ after → ⊥
     bare [] h after tail = cc
@@ -269,23 +269,23 @@ dollar_none t e = none_from 36 t refl (λ u after tail h. bare u h after tail)
 slash_cases : (u : List ℕ) (P : Type 0) → ends 92 u ≡ true → (u ≡ 10 ∷ [] → P) → (u ≡ 13 ∷ 10 ∷ [] → P) → P
 slash_cases u P h f g = or_cases (is_one 10 u) (is_two 13 10 u) P h (λ x. f (one_length 10 u x)) (λ x. g (two_length 13 10 u x))
 
-pub slash_none : (t : List ℕ) → newline_len t ≡ 0 → (w more : List ℕ) (what : Option Word) → 92 ∷ t ≡ w ++ more → Spells (92 ∷ t) w what → ⊥
-slash_none t e = none_from 92 t refl (λ u after tail h. slash_cases u ⊥ h
+pub slash_none : (indent : ℕ) (t : List ℕ) → newline_len t ≡ 0 → (w more : List ℕ) (what : Option Word) → 92 ∷ t ≡ w ++ more → Spells indent (92 ∷ t) w what → ⊥
+slash_none indent t e = none_from indent 92 t refl (λ u after tail h. slash_cases u ⊥ h
     (λ x. let y : newline_len t ≡ 1 = ap newline_len (tail ∙ ap (λ (v : List ℕ). v ++ after) x) in omega (arith, y, e))
     (λ x. let y : newline_len t ≡ 2 = ap newline_len (tail ∙ ap (λ (v : List ℕ). v ++ after) x) in omega (arith, y, e)))
 
-pub slash_longest : (t : List ℕ) → (newline_len t ≡ 0 → ⊥) → (w : List ℕ) × IsLongest (92 ∷ t) w None × (length w ≡ 1 + newline_len t)
-slash_longest t k = newline_forms t _ (λ z. absurd (k z))
+pub slash_longest : (indent : ℕ) (t : List ℕ) → (newline_len t ≡ 0 → ⊥) → (w : List ℕ) × IsLongest indent (92 ∷ t) w None × (length w ≡ 1 + newline_len t)
+slash_longest indent t k = newline_forms t _ (λ z. absurd (k z))
     (λ t' e n. (
       92 ∷ 10 ∷ [],
-      longest_from 92 t (92 ∷ 10 ∷ []) t' None refl (ap (λ (v : List ℕ). 92 ∷ v) e) (inr (inr (inl refl)))
+      longest_from indent 92 t (92 ∷ 10 ∷ []) t' None refl (ap (λ (v : List ℕ). 92 ∷ v) e) (inr (inr (inl refl)))
           (λ u after tail h. slash_cases u _ h (λ x. let l = ap length x in omega (arith, l))
           (λ x. let y : 10 ∷ t' ≡ 13 ∷ 10 ∷ after = sym e ∙ tail ∙ ap (λ (v : List ℕ). v ++ after) x in cc)),
       omega (arith, n),
     ))
     (λ t' e n. (
       92 ∷ 13 ∷ 10 ∷ [],
-      longest_from 92 t (92 ∷ 13 ∷ 10 ∷ []) t' None refl (ap (λ (v : List ℕ). 92 ∷ v) e) (inr (inr (inr refl)))
+      longest_from indent 92 t (92 ∷ 13 ∷ 10 ∷ []) t' None refl (ap (λ (v : List ℕ). 92 ∷ v) e) (inr (inr (inr refl)))
           (λ u after tail h. slash_cases u _ h (λ x. let l = ap length x in omega (arith, l)) (λ x. let l = ap length x in omega (arith, l))),
       omega (arith, n),
     ))

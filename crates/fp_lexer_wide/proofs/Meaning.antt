@@ -121,8 +121,8 @@ spelled_same w a b s t = bool_cases (digit_first w) _
     (λ e. sym (meant w a s e) ∙ meant w b t e)
 
 -- bytes at a place are one piece at most
-pub what_same : (rest w more : List ℕ) (a b : Option Word) → rest ≡ w ++ more → Spells rest w a → Spells rest w b → a ≡ b
-what_same rest w more a b e s t = elim s [
-  | inl p ↦ elim t [ inl q ↦ spelled_same w a b p q | inr q ↦ not_spelled rest w w more b a _ q e p ]
-  | inr p ↦ elim t [ inl q ↦ not_spelled rest w w more a b _ p e q | inr q ↦ (lined_same rest w w a b p q).1 ]
+pub what_same : (indent : ℕ) (rest w more : List ℕ) (a b : Option Word) → rest ≡ w ++ more → Spells indent rest w a → Spells indent rest w b → a ≡ b
+what_same indent rest w more a b e s t = elim s [
+  | inl p ↦ elim t [ inl q ↦ spelled_same w a b p q | inr q ↦ not_spelled indent rest w w more b a _ q e p ]
+  | inr p ↦ elim t [ inl q ↦ not_spelled indent rest w w more a b _ p e q | inr q ↦ (lined_same indent rest w w a b p q).1 ]
 ]

@@ -106,10 +106,10 @@ same_first xs [] after h e f = cc
 same_first xs (b ∷ u) after h e f = sym (ap digit_first e) ∙ f
 
 -- where a digit is first, a number that no other exceeds is the longest piece
-pub numeral_longest : (xs w more : List ℕ) (what : Option Word) → digit_first xs ≡ true → xs ≡ w ++ more → Spelled w what
+pub numeral_longest : (indent : ℕ) (xs w more : List ℕ) (what : Option Word) → digit_first xs ≡ true → xs ≡ w ++ more → Spelled w what
     → ((v after : List ℕ) → xs ≡ v ++ after → is_number v ≡ true → length v ≤ length w) → ((v after : List ℕ) → xs ≡ v ++ after → is_hex v ≡ true → length v ≤ length w)
-    → ((v after : List ℕ) → xs ≡ v ++ after → IsFloat v → length v ≤ length w) → IsLongest xs w what
-numeral_longest xs w more what first e s number hex float = record {
+    → ((v after : List ℕ) → xs ≡ v ++ after → IsFloat v → length v ≤ length w) → IsLongest indent xs w what
+numeral_longest indent xs w more what first e s number hex float = record {
   more = more;
   splits = e;
   spelled = inl s;
@@ -118,7 +118,7 @@ numeral_longest xs w more what first e s number hex float = record {
       | inl q ↦ number v after split q.1
       | inr r ↦ elim r [ inl q ↦ hex v after split q.1 | inr q ↦ float v after split q.1 ]
     ]
-    | inr l ↦ lead_of xs v other _ l (λ b t r o. let no : true ≡ false = sym first ∙ ap digit_first r ∙ lead_no_digit b o in cc)
+    | inr l ↦ lead_of indent xs v other _ l (λ b t r o. let no : true ≡ false = sym first ∙ ap digit_first r ∙ lead_no_digit b o in cc)
   ];
 }
 
@@ -144,33 +144,33 @@ hex_begins xs (b ∷ x ∷ d ∷ ds) after e h =
     let q = and_left (is_hex_digit d) (list_all is_hex_digit ds) (and_right (x == 120 || x == 88) (is_hex_digits (d ∷ ds)) k) in
     ap (λ (v : List ℕ). hex_starts (get_or v 0 0) (get_or v 1 0) (get_or v 2 0)) e ∙ ap (λ (v : Bool). v && ((x == 120 || x == 88) && is_hex_digit d)) z ∙ ap (λ (v : Bool). v && is_hex_digit d) p ∙ q
 
-pub number_longest : (xs : List ℕ) → digit_first xs ≡ true → hex_starts (get_or xs 0 0) (get_or xs 1 0) (get_or xs 2 0) ≡ false → tail_len (drop (prefix_len is_digit xs) xs) ≡ 0
-    → IsLongest xs (take (prefix_len is_digit xs) xs) (Some (Number (pos (value_after 0 (take (prefix_len is_digit xs) xs)))))
-number_longest xs first bare whole =
+pub number_longest : (indent : ℕ) (xs : List ℕ) → digit_first xs ≡ true → hex_starts (get_or xs 0 0) (get_or xs 1 0) (get_or xs 2 0) ≡ false → tail_len (drop (prefix_len is_digit xs) xs) ≡ 0
+    → IsLongest indent xs (take (prefix_len is_digit xs) xs) (Some (Number (pos (value_after 0 (take (prefix_len is_digit xs) xs)))))
+number_longest indent xs first bare whole =
     let n = prefix_len is_digit xs in
     let size = run_length is_digit xs in
     let some = first_run xs first in
-    numeral_longest xs (take n xs) (drop n xs) _ first (sym (take-append-drop n xs))
+    numeral_longest indent xs (take n xs) (drop n xs) _ first (sym (take-append-drop n xs))
     (inl (refl, some_number (take n xs) (omega (arith, size, some)) (prefix_all is_digit xs)))
     (λ v after e h. let b = digits_bound xs v after e h in omega (arith, b, size))
     (λ v after e h. let y : true ≡ false = sym (hex_begins xs v after e h) ∙ bare in cc)
     (λ v after e h. let b = float_bound xs v after h e in omega (arith, b, size, whole))
 
-pub float_longest : (xs : List ℕ) → digit_first xs ≡ true → hex_starts (get_or xs 0 0) (get_or xs 1 0) (get_or xs 2 0) ≡ false → 0 < tail_len (drop (prefix_len is_digit xs) xs)
-    → IsLongest xs (take (float_len xs) xs) (Some Float)
-float_longest xs first bare more =
+pub float_longest : (indent : ℕ) (xs : List ℕ) → digit_first xs ≡ true → hex_starts (get_or xs 0 0) (get_or xs 1 0) (get_or xs 2 0) ≡ false → 0 < tail_len (drop (prefix_len is_digit xs) xs)
+    → IsLongest indent xs (take (float_len xs) xs) (Some Float)
+float_longest indent xs first bare more =
     let n = float_len xs in
     let size = float_size xs in
-    numeral_longest xs (take n xs) (drop n xs) (Some Float) first (sym (take-append-drop n xs)) (float_here xs (first_run xs first) more)
+    numeral_longest indent xs (take n xs) (drop n xs) (Some Float) first (sym (take-append-drop n xs)) (float_here xs (first_run xs first) more)
     (λ v after e h. let b = digits_bound xs v after e h in omega (arith, b, size))
     (λ v after e h. let y : true ≡ false = sym (hex_begins xs v after e h) ∙ bare in cc)
     (λ v after e h. let b = float_bound xs v after h e in omega (arith, b, size))
 
-pub hex_longest : (x d : ℕ) (t : List ℕ) → (x == 120 || x == 88) ≡ true → is_hex_digit d ≡ true
-    → IsLongest (48 ∷ x ∷ d ∷ t) (48 ∷ x ∷ d ∷ take (prefix_len is_hex_digit t) t) (Some (Number (pos (hex_after 0 (d ∷ take (prefix_len is_hex_digit t) t)))))
-hex_longest x d t e g =
+pub hex_longest : (indent : ℕ) (x d : ℕ) (t : List ℕ) → (x == 120 || x == 88) ≡ true → is_hex_digit d ≡ true
+    → IsLongest indent (48 ∷ x ∷ d ∷ t) (48 ∷ x ∷ d ∷ take (prefix_len is_hex_digit t) t) (Some (Number (pos (hex_after 0 (d ∷ take (prefix_len is_hex_digit t) t)))))
+hex_longest indent x d t e g =
     let r = take (prefix_len is_hex_digit t) t in
-    numeral_longest (48 ∷ x ∷ d ∷ t) (48 ∷ x ∷ d ∷ r) (drop (prefix_len is_hex_digit t) t) _ refl
+    numeral_longest indent (48 ∷ x ∷ d ∷ t) (48 ∷ x ∷ d ∷ r) (drop (prefix_len is_hex_digit t) t) _ refl
     (ap (λ (v : List ℕ). 48 ∷ x ∷ d ∷ v) (sym (take-append-drop (prefix_len is_hex_digit t) t)))
     (inr (refl, ap (λ (v : Bool). v && (is_hex_digit d && list_all is_hex_digit r)) e ∙ ap (λ (v : Bool). v && list_all is_hex_digit r) g ∙ prefix_all is_hex_digit t))
     decimal hexadecimal (λ v after e2 h. let b = float_bound (48 ∷ x ∷ d ∷ t) v after h e2 in let l = hex_float x (d ∷ t) e in omega (arith, b, l))

@@ -1,5 +1,6 @@
 -- A text has one list of tokens.
 use Rattle.std.proofs.Common.{◌≡◌, ℕ, List, [], ◌∷◌, length, drop, Option, sym, ap, ◌∙◌, arith, refl, subst}
+use Rattle.fp_lexer_wide.specs.Bytes.{indent_at}
 use Rattle.fp_lexer_wide.specs.Tokens.{Spells, IsLongest, IsPiece, Piece, Cuts, Lexed, kept, ignored, tokens_of}
 use Rattle.fp_lexer_wide.specs.declared.token.Word.{Word}
 use Rattle.fp_lexer_wide.specs.declared.token.Token.{Token}
@@ -10,10 +11,10 @@ use Rattle.fp_lexer_wide.proofs.Cuts.{same_past, same_longest, piece_grows, cuts
 same_piece : (text : List ℕ) (p q : Piece) → IsPiece text p → IsPiece text q → p.from ≡ q.from → p ≡ q
 same_piece text p q i j e =
     let past = same_past text p q i j e in
-    let l : IsLongest (drop p.from text) j.0 q.what = subst (λ (k : ℕ). IsLongest (drop k text) j.0 q.what) (sym e) j.1 in
-    let w = same_longest (drop p.from text) i.0 j.0 p.what q.what i.1 l in
-    let here = subst (λ (x : List ℕ). Spells (drop p.from text) x q.what) (sym w) l.spelled in
-    let what : p.what ≡ q.what = what_same (drop p.from text) i.0 i.1.more p.what q.what i.1.splits i.1.spelled here in
+    let l : IsLongest (indent_at text p.from) (drop p.from text) j.0 q.what = subst (λ (k : ℕ). IsLongest (indent_at text k) (drop k text) j.0 q.what) (sym e) j.1 in
+    let w = same_longest (indent_at text p.from) (drop p.from text) i.0 j.0 p.what q.what i.1 l in
+    let here = subst (λ (x : List ℕ). Spells (indent_at text p.from) (drop p.from text) x q.what) (sym w) l.spelled in
+    let what : p.what ≡ q.what = what_same (indent_at text p.from) (drop p.from text) i.0 i.1.more p.what q.what i.1.splits i.1.spelled here in
     let a : p ≡ record { what = q.what; from = p.from; past = p.past } = ap (λ (x : Option Word). record { what = x; from = p.from; past = p.past }) what in
     let b : record { what = q.what; from = p.from; past = p.past } ≡ record { what = q.what; from = q.from; past = p.past } = ap (λ (x : ℕ). record { what = q.what; from = x; past = p.past }) e in
     let c : record { what = q.what; from = q.from; past = p.past } ≡ q = ap (λ (x : ℕ). record { what = q.what; from = q.from; past = x }) past in

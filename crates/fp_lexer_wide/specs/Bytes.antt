@@ -1,6 +1,6 @@
 -- Kinds of bytes, and lines. FPP Language Specification, "Lexical Elements": the characters of identifiers, of integer literals, of
 -- white space and of ends of lines.
-use Rattle.std.specs.Prelude.{ℕ, Bool, true, false, not, ◌-◌, ◌&&◌, ◌||◌, nat_le, ◌==◌, List, [], ◌∷◌, cond, length, take, drop, slice_index}
+use Rattle.std.specs.Prelude.{ℕ, Bool, true, false, not, ◌-◌, ◌&&◌, ◌||◌, nat_le, nat_lt, ◌==◌, List, [], ◌∷◌, cond, length, take, drop, slice_index}
 use Rattle.std.specs.List.{prefix_len, suffix_len}
 
 -- a letter or `_`
@@ -40,6 +40,17 @@ body_text escaped [] = []
 body_text true (b ∷ bs) = b ∷ body_text false bs
 body_text false (b ∷ bs) = cond (b == 92) (body_text true bs) (b ∷ body_text false bs)
 
+-- whether the byte after these stands behind a backslash that isn't itself behind one; the first of these does or doesn't
+abbrev pub escapes : Bool → List ℕ → Bool
+escapes escaped [] = escaped
+escapes true (b ∷ bs) = escapes false bs
+escapes false (b ∷ bs) = escapes (b == 92) bs
+
+-- up to `left` spaces are left out at the front, and up to `indent` at the start of each later line
+abbrev pub dedent : ℕ → ℕ → List ℕ → List ℕ
+dedent indent left [] = []
+dedent indent left (b ∷ bs) = cond (b == 32 && nat_lt 0 left) (dedent indent (left - 1) bs) (b ∷ dedent indent (cond (b == 10) indent 0) bs)
+
 -- ---- lines
 
 -- how many bytes the newline has that begins with the first of two bytes: a carriage return directly before a newline belongs to it
@@ -65,3 +76,12 @@ abbrev pub trimmed : List ℕ → List ℕ
 trimmed bs =
     let rest = drop (prefix_len is_blank bs) bs in
     take (length rest - suffix_len is_blank rest) rest
+
+-- what the body of a string between `"""` stands for, by how many bytes stand before its opening in the line: without a newline at
+-- its front, up to as many spaces at the start of each later line, and the backslashes of escapes
+abbrev pub long_text : ℕ → List ℕ → List ℕ
+long_text indent raw = body_text false (drop (newline_len raw) (dedent indent 0 raw))
+
+-- how many bytes stand before an offset in its line
+abbrev pub indent_at : List ℕ → ℕ → ℕ
+indent_at text at = suffix_len (λ b. not (b == 10)) (take at text)

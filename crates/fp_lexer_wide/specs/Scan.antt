@@ -1,14 +1,14 @@
 -- What the parts of the lexer answer.
-use Rattle.std.specs.Prelude.{◌≡◌, ◌≢◌, slice_index, ℕ, ◌+◌, ◌-◌, ◌*◌, ◌^◌, ◌<◌, ◌≤◌, ◌==◌, ◌&&◌, ◌||◌, List, [], ◌∷◌, cond, take, drop, true, false, Bool, Option, Some, None, Result, Ok, Err, pos}
+use Rattle.std.specs.Prelude.{◌≡◌, ◌≢◌, slice_index, ℕ, ◌+◌, ◌-◌, ◌*◌, ◌^◌, ◌<◌, ◌≤◌, ◌==◌, ◌&&◌, ◌||◌, List, [], ◌∷◌, cond, take, drop, true, false, not, nat_lt, Bool, Option, Some, None, Result, Ok, Err, pos}
 use Rattle.std.specs.List.{prefix_len}
 use Rattle.std.specs.Str.{IsUtf8, IsCharBoundary}
 use Rattle.fp_base.specs.declared.place.Span.{Span}
 use Rattle.fp_base.specs.Rules.{row}
 use Rattle.fp_base.specs.declared.rule.Rule.{Rule}
-use Rattle.fp_base.specs.declared.rule.Rule.TheVariants.{BadCharacter, OpenString, NumberTooLarge}
-use Rattle.fp_lexer_wide.specs.Bytes.{is_digit, is_hex_digit, hex_digit, body_text, trimmed}
+use Rattle.fp_base.specs.declared.rule.Rule.TheVariants.{BadCharacter, OpenString, BadEscape, NumberTooLarge}
+use Rattle.fp_lexer_wide.specs.Bytes.{is_digit, is_hex_digit, hex_digit, body_text, long_text, indent_at, newline_len, trimmed}
 use Rattle.fp_lexer_wide.specs.Tokens.{IsPiece, kept, ignored_by_rest, Ground, counts, ignored, separated}
-use Rattle.fp_lexer_wide.specs.Broken.{NoneBegins, LargeBegins, BrokenAt}
+use Rattle.fp_lexer_wide.specs.Broken.{NoneBegins, LargeBegins, BadEscapeAt, BrokenAt}
 use Rattle.fp_lexer_wide.specs.declared.token.Token.{Token}
 use Rattle.fp_lexer_wide.specs.declared.token.Word.{Word}
 use Rattle.fp_lexer_wide.specs.declared.token.Word.TheVariants.{Name, Reserved, Number, Float, Str, Mark, Newline, Before, After}
@@ -106,6 +106,23 @@ string_len escaped [] = None
 string_len true (b ∷ bs) = cond (b == 10) None (one_more (string_len false bs))
 string_len false (b ∷ bs) = cond (b == 34) (Some 0) (cond (b == 10) None (one_more (string_len (b == 92) bs)))
 
+-- how many bytes stand before the first `"""` that isn't behind a backslash, at a byte behind one or not
+abbrev pub long_len : Bool → List ℕ → Option ℕ
+long_len escaped [] = None
+long_len true (b ∷ bs) = one_more (long_len false bs)
+long_len false (b ∷ bs) = cond (b == 34 && (slice_index bs 0 == 34 && slice_index bs 1 == 34)) (Some 0) (one_more (long_len (b == 92) bs))
+
+-- how many bytes stand before the first backslash, itself not behind one, that stands directly before a newline
+abbrev pub bad_len : Bool → List ℕ → Option ℕ
+bad_len escaped [] = None
+bad_len true (b ∷ bs) = one_more (bad_len false bs)
+bad_len false (b ∷ bs) = cond (b == 92 && not (newline_len bs == 0)) (Some 0) (one_more (bad_len (b == 92) bs))
+
+-- how many spaces come first, and at most so many
+abbrev pub spaces : ℕ → List ℕ → ℕ
+spaces left [] = 0
+spaces left (b ∷ bs) = cond (b == 32 && nat_lt 0 left) (1 + spaces (left - 1) bs) 0
+
 -- behind so many bytes
 abbrev pub past_bytes : ℕ → Option ℕ → Option ℕ
 past_bytes n None = None
@@ -117,18 +134,19 @@ past_bytes n (Some m) = Some (n + m)
 abbrev pub part_of : List ℕ → Part → List ℕ
 part_of text part = take (part.past - part.from) (drop part.from text)
 
--- what a shape in a text is
-abbrev pub what_of : List ℕ → Shape → Option Word
-what_of text shape.Blank = None
-what_of text (shape.Name part) = Some (Name (part_of text part))
-what_of text (shape.Reserved k) = Some (Reserved k)
-what_of text (shape.Number n) = Some (Number n)
-what_of text shape.Float = Some Float
-what_of text (shape.Str part) = Some (Str (body_text false (part_of text part)))
-what_of text (shape.Mark k) = Some (Mark k)
-what_of text shape.Newline = Some Newline
-what_of text (shape.Before part) = Some (Before (trimmed (part_of text part)))
-what_of text (shape.After part) = Some (After (trimmed (part_of text part)))
+-- what a shape in a text is, before which so many bytes stand in its line
+abbrev pub what_of : ℕ → List ℕ → Shape → Option Word
+what_of indent text shape.Blank = None
+what_of indent text (shape.Name part) = Some (Name (part_of text part))
+what_of indent text (shape.Reserved k) = Some (Reserved k)
+what_of indent text (shape.Number n) = Some (Number n)
+what_of indent text shape.Float = Some Float
+what_of indent text (shape.Str part) = Some (Str (body_text false (part_of text part)))
+what_of indent text (shape.Long part) = Some (Str (long_text indent (part_of text part)))
+what_of indent text (shape.Mark k) = Some (Mark k)
+what_of indent text shape.Newline = Some Newline
+what_of indent text (shape.Before part) = Some (Before (trimmed (part_of text part)))
+what_of indent text (shape.After part) = Some (After (trimmed (part_of text part)))
 
 -- it begins and ends between two characters
 abbrev pub IsPart : List ℕ → Part → Type 0
@@ -138,6 +156,7 @@ IsPart text part = (part.from ≤ part.past) × IsCharBoundary text part.from ×
 abbrev pub HasPart : List ℕ → Shape → Type 0
 HasPart text (shape.Name part) = IsPart text part
 HasPart text (shape.Str part) = IsPart text part
+HasPart text (shape.Long part) = IsPart text part
 HasPart text (shape.Before part) = IsPart text part
 HasPart text (shape.After part) = IsPart text part
 HasPart text shape = Unit {0}
@@ -146,16 +165,23 @@ HasPart text shape = Unit {0}
 abbrev pub IsSmall : Option Word → Type 0
 IsSmall what = (n : ℕ) → what ≡ Some (Number (pos n)) → n < 2 ^ 127
 
+-- no escape is bad in a string that begins at an offset
+abbrev pub HasNoBadEscape : List ℕ → ℕ → Type 0
+HasNoBadEscape text at = (there : ℕ) → BadEscapeAt text at there → ⊥
+
 -- what is wrong with the piece that begins at an offset: a rule is broken there, or within it
 abbrev pub IsFlawed : List ℕ → ℕ → Rule → ℕ → Type 0
 IsFlawed text at BadCharacter there = (there ≡ at) × (slice_index text at ≢ 34) × NoneBegins text at
 IsFlawed text at OpenString there = (there ≡ at) × (slice_index text at ≡ 34) × NoneBegins text at
+IsFlawed text at BadEscape there = BadEscapeAt text at there × ((other : ℕ) → BadEscapeAt text at other → there ≤ other)
 IsFlawed text at NumberTooLarge there = (there ≡ at) × LargeBegins text at
 IsFlawed text at _ there = ⊥
 
 -- the longest piece at an offset: what it is, and where it ends
 abbrev pub GivesPiece : List ℕ → ℕ → Result (Shape × ℕ) Flaw → Type 0
-GivesPiece text at (Ok p) = IsPiece text (record { what = what_of text p.0; from = at; past = p.1 }) × IsSmall (what_of text p.0) × (IsUtf8 text → HasPart text p.0)
+GivesPiece text at (Ok p) =
+    let what = what_of (indent_at text at) text p.0 in
+    IsPiece text (record { what = what; from = at; past = p.1 }) × IsSmall what × (IsUtf8 text → HasPart text p.0) × HasNoBadEscape text at
 GivesPiece text at (Err flaw) = IsFlawed text at flaw.rule flaw.at
 
 -- a rule is broken at an offset of a text, and all that is broken lies behind it, or there and not before it in the table

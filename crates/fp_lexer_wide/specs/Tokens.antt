@@ -1,10 +1,10 @@
 -- The tokens of a text: it is a concatenation of pieces, each the longest that begins at its place, and the tokens are theirs
--- after the newline rules. FPP Language Specification, "Lexical Elements". This profile: no strings between `"""`.
+-- after the newline rules. FPP Language Specification, "Lexical Elements".
 use Rattle.std.specs.Prelude.{◌≡◌, ℕ, ◌+◌, ◌*◌, ◌-◌, ◌<◌, ◌≤◌, ◌⊎◌, ◌&&◌, ◌||◌, ◌==◌, List, [], ◌∷◌, ◌++◌, Bool, true, false, cond, length, drop, slice_get, slice_index, Option, Some, None, pos, ℤ}
 use Rattle.std.specs.List.{list_all}
 use Rattle.fp_base.specs.Places.{place_at}
 use Rattle.fp_base.specs.declared.place.Span.{Span}
-use Rattle.fp_lexer_wide.specs.Bytes.{is_letter, is_digit, is_hex_digit, hex_digit, is_name_byte, is_body, body_text, line, newline_at, trimmed}
+use Rattle.fp_lexer_wide.specs.Bytes.{is_letter, is_digit, is_hex_digit, hex_digit, is_name_byte, is_body, body_text, escapes, long_text, indent_at, line, newline_at, trimmed}
 use Rattle.fp_lexer_wide.specs.Words.{words, marks, else_word}
 use Rattle.fp_lexer_wide.specs.declared.token.Word.{Word}
 use Rattle.fp_lexer_wide.specs.declared.token.Word.TheVariants.{Name, Reserved, Number, Float, Str, Mark, Newline, Before, After}
@@ -90,20 +90,35 @@ Spelled w (Some (After s)) = ⊥
 abbrev pub begins_long : List ℕ → Bool
 begins_long text = slice_index text 1 == 34 && slice_index text 2 == 34
 
--- w is a piece by what follows it: a string; or it goes to the end of the line with which the rest of a text begins: a comment, an
--- annotation of what stands before, or an annotation of what follows, with its newline
--- FPP Language Specification, "Comments and Annotations", and "Expressions", string literals; this profile: the text of an
--- annotation has no blanks at its ends; a backslash stands for the byte behind it; a string on one line doesn't begin with `"""`
-abbrev pub Lined : List ℕ → List ℕ → Option Word → Type 0
-Lined rest w None = (t : List ℕ) × (rest ≡ 35 ∷ t) × (w ≡ 35 ∷ line t)
-Lined rest w (Some (After s)) = (t : List ℕ) × (rest ≡ 64 ∷ 60 ∷ t) × (w ≡ 64 ∷ 60 ∷ line t) × (s ≡ trimmed (line t))
-Lined rest w (Some (Before s)) = (t : List ℕ) × (rest ≡ 64 ∷ t) × (slice_index t 0 == 60 ≡ false) × (w ≡ 64 ∷ line t ++ newline_at (drop (length (line t)) t)) × (s ≡ trimmed (line t))
-Lined rest w (Some (Str s)) = (raw more : List ℕ) × (rest ≡ 34 ∷ raw ++ 34 ∷ more) × (begins_long rest ≡ false) × (is_body false raw ≡ true) × (w ≡ 34 ∷ raw ++ 34 ∷ []) × (s ≡ body_text false raw)
-Lined rest w what = ⊥
+-- the rest of a text begins with `"""`, the bytes `raw`, and then the first `"""` that isn't behind a backslash
+pub record IsLongBody (rest raw : List ℕ) : Type 0 where
+  pub more : List ℕ
+  pub splits : rest ≡ 34 ∷ 34 ∷ 34 ∷ raw ++ 34 ∷ 34 ∷ 34 ∷ more
+  pub free : escapes false raw ≡ false
+  pub first : (shorter after : List ℕ) → rest ≡ 34 ∷ 34 ∷ 34 ∷ shorter ++ 34 ∷ 34 ∷ 34 ∷ after → escapes false shorter ≡ false → length raw ≤ length shorter
 
--- of the rest of a text the bytes w at its front are a piece
-abbrev pub Spells : List ℕ → List ℕ → Option Word → Type 0
-Spells rest w what = Spelled w what ⊎ Lined rest w what
+-- FPP Language Specification, "Expressions", string literals; this profile: a backslash stands for the byte behind it; a string on one
+-- line doesn't begin with `"""`
+abbrev pub OneLine : List ℕ → List ℕ → List ℕ → Type 0
+OneLine rest w s = (raw more : List ℕ) × (rest ≡ 34 ∷ raw ++ 34 ∷ more) × (begins_long rest ≡ false) × (is_body false raw ≡ true) × (w ≡ 34 ∷ raw ++ 34 ∷ []) × (s ≡ body_text false raw)
+
+-- the same section; this profile: spaces alone are left out at the starts of lines, before escapes are read, on the closing line too
+abbrev pub ManyLines : ℕ → List ℕ → List ℕ → List ℕ → Type 0
+ManyLines indent rest w s = (raw : List ℕ) × IsLongBody rest raw × (w ≡ 34 ∷ 34 ∷ 34 ∷ raw ++ 34 ∷ 34 ∷ 34 ∷ []) × (s ≡ long_text indent raw)
+
+-- w is a piece by what follows it, and by how many bytes stand before it in its line: a string; or it goes to the end of the line with
+-- which the rest of a text begins: a comment, an annotation of what stands before, or an annotation of what follows, with its newline
+-- FPP Language Specification, "Comments and Annotations"; this profile: the text of an annotation has no blanks at its ends
+abbrev pub Lined : ℕ → List ℕ → List ℕ → Option Word → Type 0
+Lined indent rest w None = (t : List ℕ) × (rest ≡ 35 ∷ t) × (w ≡ 35 ∷ line t)
+Lined indent rest w (Some (After s)) = (t : List ℕ) × (rest ≡ 64 ∷ 60 ∷ t) × (w ≡ 64 ∷ 60 ∷ line t) × (s ≡ trimmed (line t))
+Lined indent rest w (Some (Before s)) = (t : List ℕ) × (rest ≡ 64 ∷ t) × (slice_index t 0 == 60 ≡ false) × (w ≡ 64 ∷ line t ++ newline_at (drop (length (line t)) t)) × (s ≡ trimmed (line t))
+Lined indent rest w (Some (Str s)) = OneLine rest w s ⊎ ManyLines indent rest w s
+Lined indent rest w what = ⊥
+
+-- of the rest of a text, before which so many bytes stand in its line, the bytes w at its front are a piece
+abbrev pub Spells : ℕ → List ℕ → List ℕ → Option Word → Type 0
+Spells indent rest w what = Spelled w what ⊎ Lined indent rest w what
 
 -- a piece, and the offsets of its first byte and of the byte after its last
 pub record Piece : Type 0 where
@@ -112,15 +127,15 @@ pub record Piece : Type 0 where
   pub past : ℕ
 
 -- of the pieces that the rest of a text begins with, w is the longest
-pub record IsLongest (rest w : List ℕ) (what : Option Word) : Type 0 where
+pub record IsLongest (indent : ℕ) (rest w : List ℕ) (what : Option Word) : Type 0 where
   pub more : List ℕ
   pub splits : rest ≡ w ++ more
-  pub spelled : Spells rest w what
-  pub longest : (v after : List ℕ) (other : Option Word) → rest ≡ v ++ after → Spells rest v other → length v ≤ length w
+  pub spelled : Spells indent rest w what
+  pub longest : (v after : List ℕ) (other : Option Word) → rest ≡ v ++ after → Spells indent rest v other → length v ≤ length w
 
 -- the longest piece that begins at its place
 abbrev pub IsPiece : List ℕ → Piece → Type 0
-IsPiece text p = (w : List ℕ) × IsLongest (drop p.from text) w p.what × (p.past ≡ p.from + length w)
+IsPiece text p = (w : List ℕ) × IsLongest (indent_at text p.from) (drop p.from text) w p.what × (p.past ≡ p.from + length w)
 
 -- from an offset to another the text is these pieces
 abbrev pub Cuts : List ℕ → ℕ → List Piece → ℕ → Type 0

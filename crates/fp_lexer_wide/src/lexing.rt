@@ -57,7 +57,16 @@ fn flaw_of_long(text: &[u8]) -> Flaw
             rule: Rule::TextTooLong,
             at: 0,
         },
-        Err(flaw) => flaw,
+        Err(flaw) => {
+            if flaw.at == 0 {
+                flaw
+            } else {
+                Flaw {
+                    rule: Rule::TextTooLong,
+                    at: 0,
+                }
+            }
+        }
     }
 }
 
@@ -68,17 +77,18 @@ fn flaw_of_mangled(text: &[u8], valid: usize) -> Flaw
     requires short { length text.now ≤ longest_text }
     ensures { IsFirstFlaw text.now result }
 {
+    let mangled = Flaw {
+        rule: Rule::BadCharacter,
+        at: valid,
+    };
     let mut at = 0;
     'pieces: while at < valid {
         match piece(text, at) {
             Ok((_, past)) => at = past,
-            Err(flaw) => return flaw,
+            Err(flaw) => return if flaw.at < valid { flaw } else { mangled },
         }
     }
-    Flaw {
-        rule: Rule::BadCharacter,
-        at: valid,
-    }
+    mangled
 }
 
 /// The tokens of a text, or the first rule that it breaks.
@@ -95,7 +105,7 @@ fn lex_valid(alloc: Global, file: u32, text: &str) -> Result<Row<Token>, Stop>
         match piece(bytes, at) {
             Ok((shape, past)) => {
                 let there = place_after(bytes, here, at, past);
-                let what = what_of(alloc, text, shape)?;
+                let what = what_of(alloc, text, here.column as usize - 1, shape)?;
                 match what {
                     Some(word) => {
                         let span = Span {

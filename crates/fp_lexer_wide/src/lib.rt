@@ -1,4 +1,4 @@
-//! The lexer of the whole language, but for strings between `"""`: from the bytes of a source to its tokens.
+//! The lexer: from the bytes of a source to its tokens.
 #![tactic(auto)]
 
 mod bytes;

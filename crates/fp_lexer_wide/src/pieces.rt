@@ -4,7 +4,10 @@ ghost use Rattle.fp_lexer_wide.specs.Bytes.{is_letter, is_digit};
 ghost use Rattle.fp_lexer_wide.specs.Scan.{GivesPiece, hex_starts, other, tail_len};
 
 use crate::bytes::{byte_at, is_digit, is_letter, line_end, name_end, newline_len};
-use crate::scan::{digits_end, hex_number, hex_starts, number, one_mark, string_end, tail_end};
+use crate::scan::{
+    bad_escape, digits_end, hex_number, hex_starts, long_end, number, one_mark, string_end,
+    tail_end,
+};
 use crate::shape::{Part, Shape};
 use crate::words::reserved;
 use fp_base::Rule;
@@ -35,6 +38,16 @@ fn open_string(at: usize) -> Flaw
 {
     Flaw {
         rule: Rule::OpenString,
+        at,
+    }
+}
+
+/// A backslash stands directly before a newline.
+fn bad_escape_at(at: usize) -> Flaw
+    ensures { result ≡ record { rule = Rule.BadEscape; at = at } }
+{
+    Flaw {
+        rule: Rule::BadEscape,
         at,
     }
 }
@@ -168,6 +181,22 @@ fn begins_long(text: &[u8], at: usize) -> bool
     byte_at(text, at + 1) == b'"' && byte_at(text, at + 2) == b'"'
 }
 
+/// The string between `"""` at an offset.
+fn long_piece(text: &[u8], at: usize) -> Result<(Shape, usize), Flaw>
+    requires within { at < length text.now }
+    requires quote { slice_index text.now at ≡ 34 }
+    requires long { (slice_index text.now (at + 1) == 34 && slice_index text.now (at + 2) == 34) ≡ true }
+    ensures { GivesPiece text.now at result }
+{
+    let Some(past) = long_end(text, at + 3) else {
+        return Err(open_string(at));
+    };
+    match bad_escape(&text[at + 3..past]) {
+        Some(before) => Err(bad_escape_at(at + 3 + before)),
+        None => Ok((Shape::Long(Part { from: at + 3, past }), past + 3)),
+    }
+}
+
 /// The string at an offset.
 fn string_piece(text: &[u8], at: usize) -> Result<(Shape, usize), Flaw>
     requires within { at < length text.now }
@@ -175,7 +204,7 @@ fn string_piece(text: &[u8], at: usize) -> Result<(Shape, usize), Flaw>
     ensures { GivesPiece text.now at result }
 {
     if begins_long(text, at) {
-        return Err(open_string(at));
+        return long_piece(text, at);
     }
     match string_end(text, at + 1) {
         Some(past) => Ok((Shape::Str(Part { from: at + 1, past }), past + 1)),

@@ -1,9 +1,9 @@
-ghost use Rattle.std.specs.Prelude.{◌≡◌, ◌+◌, ◌<◌, ◌≤◌, ◌^◌, drop, length, false, Some, None, ◌-◌, MatchOption};
+ghost use Rattle.std.specs.Prelude.{◌≡◌, ◌==◌, ◌&&◌, not, slice_index, ◌+◌, ◌<◌, ◌≤◌, ◌^◌, drop, length, false, Some, None, ◌-◌, MatchOption};
 ghost use Rattle.std.specs.List.{prefix_len};
-ghost use Rattle.fp_lexer_wide.specs.Bytes.{is_digit, is_hex_digit};
-ghost use Rattle.fp_lexer_wide.specs.Scan.{run_value, run_hex, hex_starts, fraction_len, sign_len, signed_len, exponent_len, tail_len, one_mark, string_len};
+ghost use Rattle.fp_lexer_wide.specs.Bytes.{is_digit, is_hex_digit, newline_len};
+ghost use Rattle.fp_lexer_wide.specs.Scan.{run_value, run_hex, hex_starts, fraction_len, sign_len, signed_len, exponent_len, tail_len, one_mark, string_len, long_len, bad_len, spaces};
 
-use crate::bytes::{byte_at, hex_digit, is_digit, is_hex_digit};
+use crate::bytes::{byte_at, hex_digit, is_digit, is_hex_digit, newline_len};
 
 /// The largest number of a token.
 const LARGEST: u128 = 0x7fff_ffff_ffff_ffff_ffff_ffff_ffff_ffff;
@@ -154,6 +154,68 @@ pub fn string_end(text: &[u8], from: usize) -> Option<usize>
         end += 1;
     }
     None
+}
+
+/// Where the body of a string between `"""` ends that begins at an offset; none where the text ends first.
+pub fn long_end(text: &[u8], from: usize) -> Option<usize>
+    requires { from ≤ length text.now }
+    ensures { MatchOption result (long_len false (drop from text.now) ≡ None) (λ end.
+        (from ≤ end) × (end + 3 ≤ length text.now) × (long_len false (drop from text.now) ≡ Some (end - from))) }
+{
+    let mut escaped = false;
+    let mut end = from;
+    'body: while end < text.len() {
+        let b = text[end];
+        if escaped {
+            escaped = false;
+        } else if b == b'"' && (byte_at(text, end + 1) == b'"' && byte_at(text, end + 2) == b'"') {
+            return Some(end);
+        } else {
+            escaped = b == b'\\';
+        }
+        end += 1;
+    }
+    None
+}
+
+/// A backslash stands at an offset directly before a newline.
+fn breaks_line(body: &[u8], at: usize) -> bool
+    requires { at < length body.now }
+    ensures { result ≡ (slice_index body.now at == 92 && not (newline_len (drop (at + 1) body.now) == 0)) }
+{
+    body[at] == b'\\' && newline_len(body, at + 1) != 0
+}
+
+/// How many bytes of a body stand before the first backslash, itself not behind one, that stands directly before a newline.
+pub fn bad_escape(body: &[u8]) -> Option<usize>
+    ensures { result ≡ bad_len false body.now }
+{
+    let mut escaped = false;
+    let mut at = 0;
+    'body: while at < body.len() {
+        if escaped {
+            escaped = false;
+        } else if breaks_line(body, at) {
+            return Some(at);
+        } else {
+            escaped = body[at] == b'\\';
+        }
+        at += 1;
+    }
+    None
+}
+
+/// How many spaces stand from an offset on, and at most so many.
+pub fn spaces(text: &[u8], from: usize, most: usize) -> usize
+    requires { from ≤ length text.now }
+    ensures value { result ≡ spaces most (drop from text.now) }
+    ensures within { from + result ≤ length text.now }
+{
+    let mut count = 0;
+    'spaces: while count < most && byte_at(text, from + count) == b' ' {
+        count += 1;
+    }
+    count
 }
 
 /// The mark of one byte.

@@ -1,9 +1,10 @@
-ghost use Rattle.std.specs.Prelude.{◌≡◌, ◌-◌, ◌<◌, ◌≤◌, length, slice_index, true, false, IfOk};
+ghost use Rattle.std.specs.Prelude.{◌≡◌, ◌+◌, ◌-◌, ◌<◌, ◌≤◌, ◌==◌, cond, drop, length, slice_index, true, false, IfOk};
 ghost use Rattle.std.specs.List.{prefix_len, suffix_len};
-ghost use Rattle.fp_lexer_wide.specs.Bytes.{is_blank, body_text, trimmed};
-ghost use Rattle.fp_lexer_wide.specs.Scan.{HasPart, what_of};
+ghost use Rattle.fp_lexer_wide.specs.Bytes.{is_blank, body_text, dedent, newline_len, trimmed};
+ghost use Rattle.fp_lexer_wide.specs.Scan.{HasPart, spaces, what_of};
 
-use crate::bytes::is_blank;
+use crate::bytes::{is_blank, newline_len};
+use crate::scan::spaces;
 use crate::token::Word;
 use fp_base::{NoMemory, Text};
 use std::alloc::Global;
@@ -26,6 +27,8 @@ pub enum Shape {
     Float,
     /// A string on one line: what stands between its `"`.
     Str(Part),
+    /// A string on more lines: what stands between its `"""`.
+    Long(Part),
     Mark(u8),
     Newline,
     /// An annotation of what follows it.
@@ -88,10 +91,50 @@ fn unescaped(alloc: Global, body: &str) -> Result<Text, NoMemory>
     Ok(text)
 }
 
-/// What a shape in a text is.
-pub fn what_of(alloc: Global, text: &str, shape: Shape) -> Result<Option<Word>, NoMemory>
+/// Where the text of a body begins, behind a newline of so many bytes at its front and the spaces that are left out behind it.
+fn line_start(body: &[u8], newline: usize, indent: usize) -> usize
+    requires { newline ≤ length body.now }
+    ensures value { result ≡ newline + cond (newline == 0) 0 (spaces indent (drop newline body.now)) }
+    ensures within { result ≤ length body.now }
+{
+    if newline == 0 {
+        0
+    } else {
+        newline + spaces(body, newline, indent)
+    }
+}
+
+/// A body without so many spaces at the start of each line behind the first, and without a newline at its front.
+fn dedented(alloc: Global, body: &str, indent: usize) -> Result<Text, NoMemory>
+    ensures { IfOk result (λ text. text ≡ drop (newline_len body.now) (dedent indent 0 body.now)) }
+{
+    let bytes = body.as_bytes();
+    let mut text = Text::new(alloc);
+    let newline = newline_len(bytes, 0);
+    let mut from = line_start(bytes, newline, indent);
+    let mut at = from;
+    'body: while at < bytes.len() {
+        if bytes[at] == b'\n' {
+            text.push_str(&body[from..at + 1])?;
+            from = at + 1 + spaces(bytes, at + 1, indent);
+            at = from;
+        } else {
+            at += 1;
+        }
+    }
+    text.push_str(&body[from..])?;
+    Ok(text)
+}
+
+/// What a shape in a text is, before which so many bytes stand in its line.
+pub fn what_of(
+    alloc: Global,
+    text: &str,
+    indent: usize,
+    shape: Shape,
+) -> Result<Option<Word>, NoMemory>
     requires { HasPart text.now shape }
-    ensures { IfOk result (λ what. what ≡ what_of text.now shape) }
+    ensures { IfOk result (λ what. what ≡ what_of indent text.now shape) }
 {
     let word = match shape {
         Shape::Blank => return Ok(None),
@@ -100,6 +143,10 @@ pub fn what_of(alloc: Global, text: &str, shape: Shape) -> Result<Option<Word>, 
         Shape::Number(number) => Word::Number(number),
         Shape::Float => Word::Float,
         Shape::Str(part) => Word::Str(unescaped(alloc, &text[part.from..part.past])?),
+        Shape::Long(part) => {
+            let text = dedented(alloc, &text[part.from..part.past], indent)?;
+            Word::Str(unescaped(alloc, text.as_str())?)
+        }
         Shape::Mark(number) => Word::Mark(number),
         Shape::Newline => Word::Newline,
         Shape::Before(part) => Word::Before(trimmed_text(alloc, &text[part.from..part.past])?),

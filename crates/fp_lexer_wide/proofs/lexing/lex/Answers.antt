@@ -5,7 +5,7 @@ use Rattle.fp_lexer_wide.specs.Tokens.{Lexed}
 use Rattle.fp_lexer_wide.specs.Broken.{IsStop, IsUnbroken}
 use Rattle.fp_base.specs.declared.rule.Rule.TheVariants.{TextTooLong}
 use Rattle.fp_lexer_wide.specs.declared.token.Token.{Token}
-use Rattle.fp_lexer_wide.proofs.First.{stops}
+use Rattle.fp_lexer_wide.proofs.First.{broken_within, stops}
 use Rattle.fp_lexer_wide.proofs.lexing.lex.Goals as goal
 
 pub refused-requires : goal.refused-requires
@@ -19,6 +19,12 @@ returns-then-text-gt-LONGEST c = stops c.args.file c.args.text.now c.flaw_of_lon
 pub returns-in-Ok : goal.returns-in-Ok
 returns-in-Ok c = subst (λ (text : List ℕ). MatchResult c.lex_valid.result (λ (tokens : List Token). Lexed c.args.file text tokens × IsUnbroken c.args.file text) (λ (stop : Stop). IsStop c.args.file text stop))
     c.in-Ok.ensures.cases.0 c.lex_valid.ensures
+
+pub refused-requires-in-Err : goal.refused-requires-in-Err
+refused-requires-in-Err c =
+    let flaw = c.flaw_of_mangled-flaw.result in
+    let h = broken_within c.args.text.now flaw.rule flaw.at c.flaw_of_mangled-flaw.ensures.broken in
+    record { within = h; short = omega (arith, h, c.if-text-gt-LONGEST.false) }
 
 pub returns-in-Err : goal.returns-in-Err
 returns-in-Err c = stops c.args.file c.args.text.now c.flaw_of_mangled-flaw.result _ c.refused-in-Err.ensures c.flaw_of_mangled-flaw.ensures

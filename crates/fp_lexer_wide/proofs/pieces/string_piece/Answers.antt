@@ -1,9 +1,6 @@
 use Rattle.std.proofs.Common.{sym, refl}
-use Rattle.fp_lexer_wide.proofs.Gives.{gives_string, long_none, open_none}
+use Rattle.fp_lexer_wide.proofs.Gives.{gives_string, open_none}
 use Rattle.fp_lexer_wide.proofs.pieces.string_piece.Goals as goal
-
-pub returns-then-begins_long : goal.returns-then-begins_long
-returns-then-begins_long c = rw c.open_string.ensures (refl, c.requires.quote, long_none c.args.text.now c.args.at c.requires.within c.requires.quote (sym c.if-begins_long.ensures))
 
 pub returns-in-Some : goal.returns-in-Some
 returns-in-Some c =
@@ -11,4 +8,4 @@ returns-in-Some c =
     gives_string c.args.text.now c.args.at c.in-Some.past c.requires.within c.requires.quote (sym c.if-begins_long.ensures) e.0 e.1 e.2
 
 pub returns-in-None : goal.returns-in-None
-returns-in-None c = rw c.open_string-in-None.ensures (refl, c.requires.quote, open_none c.args.text.now c.args.at c.requires.within c.requires.quote c.in-None.ensures)
+returns-in-None c = rw c.open_string.ensures (refl, c.requires.quote, open_none c.args.text.now c.args.at c.requires.within c.requires.quote (sym c.if-begins_long.ensures) c.in-None.ensures)
