@@ -1,10 +1,10 @@
 -- Places and spans rise with offsets.
-use Rattle.std.proofs.Common.{◌≡◌, ℕ, ◌<◌, ◌≤◌, ◌+◌, ◌-◌, List, [], ◌∷◌, length, take, get_or, Some, None, Option, sym, ◌∙◌, arith, suc, zero, refl, true, false, Bool, not, ◌==◌, subst, ◌&&◌, ◌||◌, inl, inr, count_by}
+use Rattle.std.proofs.Common.{◌≡◌, ℕ, ◌<◌, ◌≤◌, ◌+◌, ◌-◌, List, [], ◌∷◌, length, take, get_or, Some, None, Option, sym, ◌∙◌, arith, suc, zero, refl, true, false, not, ◌==◌, subst, ◌||◌, inl, inr, cond, count_by}
 use Rattle.std.specs.List.{suffix_len}
 use Rattle.std.proofs.lemmas.Grind.{common_steps}
 use Rattle.fp_base.specs.Places.{place_at}
 use Rattle.fp_base.specs.declared.place.Place.{Place}
-use Rattle.fp_lexer.specs.Tokens.{Piece, Cuts, Lexed, Rising, kept, tokens_of, with_token, span_at, is_newline, ignored_by_rest, ignored_after}
+use Rattle.fp_lexer.specs.Tokens.{Piece, Cuts, Lexed, Rising, kept, tokens_of, with_token, span_at, is_newline, ignored_by_rest, Ground, ignored, ignores, after, after_newline}
 use Rattle.fp_lexer.specs.Broken.{ComesBefore}
 use Rattle.fp_lexer.specs.declared.token.Word.{Word}
 use Rattle.fp_lexer.specs.declared.token.Token.{Token}
@@ -60,16 +60,22 @@ pieces_rise file text from (p ∷ ps) c =
     subst (λ (k : ℕ). Rising file text k (tokens_of file text (p ∷ ps))) c.0
     (with_rises file text p.what p.from p.past (tokens_of file text ps) (piece_grows text p c.1) (pieces_rise file text p.past ps c.2))
 
-kept_rises : (file : ℕ) (text : List ℕ) (from : ℕ) (ignored : Bool) (ts : List Token) → Rising file text from ts → Rising file text from (kept ignored ts)
-kept_rises file text from ignored [] r = r
-kept_rises file text from ignored (t ∷ ts) r =
-    let skip = is_newline t.what && (ignored || ignored_by_rest ts) in
-    bool_cases skip _
-    (λ e. subst (λ (us : List Token). Rising file text from us) (sym (cond_true skip (kept true ts) (t ∷ kept (ignored_after t.what) ts) e))
-    (rising_from file text from r.1 (kept true ts) (let a = r.2 in let b = r.3 in omega (arith, a, b)) (kept_rises file text r.1 true ts r.5)))
-    (λ e. subst (λ (us : List Token). Rising file text from us) (sym (cond_false skip (kept true ts) (t ∷ kept (ignored_after t.what) ts) e))
-    (r.0, r.1, r.2, r.3, r.4, kept_rises file text r.1 (ignored_after t.what) ts r.5))
+kept_rises : (file : ℕ) (text : List ℕ) (from : ℕ) (here : Ground) (ts : List Token) → Rising file text from ts → Rising file text from (kept here ts)
+kept_rises file text from here [] r = r
+kept_rises file text from here (t ∷ ts) r =
+    let low = r.2 in let up = r.3 in
+    let skip = ignores here || ignored_by_rest ts in
+    let dropped = kept (after_newline here) ts in
+    let inner = cond skip dropped (t ∷ dropped) in
+    let plain = t ∷ kept (after here t.what) ts in
+    let rest : Rising file text r.1 dropped = kept_rises file text r.1 (after_newline here) ts r.5 in
+    bool_cases (is_newline t.what) _
+    (λ e. subst (λ (us : List Token). Rising file text from us) (sym (cond_true (is_newline t.what) inner plain e)) (bool_cases skip _
+    (λ f. subst (λ (us : List Token). Rising file text from us) (sym (cond_true skip dropped (t ∷ dropped) f)) (rising_from file text from r.1 dropped (omega (arith, low, up)) rest))
+    (λ f. subst (λ (us : List Token). Rising file text from us) (sym (cond_false skip dropped (t ∷ dropped) f)) (r.0, r.1, r.2, r.3, r.4, rest))))
+    (λ e. subst (λ (us : List Token). Rising file text from us) (sym (cond_false (is_newline t.what) inner plain e))
+    (r.0, r.1, r.2, r.3, r.4, kept_rises file text r.1 (after here t.what) ts r.5))
 
 pub spans_rise : (file : ℕ) (text : List ℕ) (tokens : List Token) → Lexed file text tokens → Rising file text 0 tokens
 spans_rise file text tokens l =
-    subst (λ (ts : List Token). Rising file text 0 ts) (sym l.2) (kept_rises file text 0 true (tokens_of file text l.0) (pieces_rise file text 0 l.0 l.1))
+    subst (λ (ts : List Token). Rising file text 0 ts) (sym l.2) (kept_rises file text 0 ignored (tokens_of file text l.0) (pieces_rise file text 0 l.0 l.1))

@@ -1,20 +1,23 @@
 -- What the parts of the lexer answer.
-use Rattle.std.specs.Prelude.{◌≡◌, ℕ, ◌+◌, ◌-◌, ◌*◌, ◌^◌, ◌<◌, ◌==◌, ◌&&◌, ◌||◌, List, [], ◌∷◌, cond, true, false, Option, Some, None, Result, Ok, Err, pos}
-use Rattle.fp_base.specs.declared.place.Place.{Place}
+use Rattle.std.specs.Prelude.{◌≡◌, ◌≢◌, slice_index, ℕ, ◌+◌, ◌-◌, ◌*◌, ◌^◌, ◌<◌, ◌≤◌, ◌==◌, ◌&&◌, ◌||◌, List, [], ◌∷◌, cond, take, drop, true, false, not, nat_lt, Bool, Option, Some, None, Result, Ok, Err, pos}
+use Rattle.std.specs.List.{prefix_len}
+use Rattle.std.specs.Str.{IsUtf8, IsCharBoundary}
 use Rattle.fp_base.specs.declared.place.Span.{Span}
-use Rattle.fp_base.specs.declared.rule.Rule.TheVariants.{BadCharacter, NumberTooLarge}
-use Rattle.fp_base.specs.declared.refusal.Stop.{Stop}
-use Rattle.fp_base.specs.declared.refusal.Stop.TheVariants.{Broken, NoMemory}
-use Rattle.fp_lexer.specs.Bytes.{is_digit}
-use Rattle.fp_lexer.specs.Tokens.{IsPiece, kept, ignored_by_rest}
-use Rattle.fp_lexer.specs.Broken.{NoneBegins, LargeBegins}
+use Rattle.fp_base.specs.Rules.{row}
+use Rattle.fp_base.specs.declared.rule.Rule.{Rule}
+use Rattle.fp_base.specs.declared.rule.Rule.TheVariants.{BadCharacter, OpenString, BadEscape, NumberTooLarge}
+use Rattle.fp_lexer.specs.Bytes.{is_digit, is_hex_digit, hex_digit, body_text, long_text, indent_at, newline_len, trimmed}
+use Rattle.fp_lexer.specs.Tokens.{IsPiece, kept, ignored_by_rest, Ground, counts, ignored, separated}
+use Rattle.fp_lexer.specs.Broken.{NoneBegins, LargeBegins, BadEscapeAt, BrokenAt}
 use Rattle.fp_lexer.specs.declared.token.Token.{Token}
 use Rattle.fp_lexer.specs.declared.token.Word.{Word}
-use Rattle.fp_lexer.specs.declared.token.Word.TheVariants.{Number, Mark, Newline}
+use Rattle.fp_lexer.specs.declared.token.Word.TheVariants.{Name, Reserved, Number, Float, Str, Mark, Newline, Before, After}
 use Rattle.fp_lexer.specs.declared.newlines.Standing.{Standing}
-use Rattle.fp_lexer.specs.declared.newlines.Standing.TheVariants.{Counts, Ignored, Pending}
-use Rattle.fp_lexer.specs.declared.pieces.Fault.{Fault}
-use Rattle.fp_lexer.specs.declared.pieces.Fault.TheVariants.{Bad, TooLarge, OutOfMemory}
+use Rattle.fp_lexer.specs.declared.newlines.Standing.TheVariants.{Counts, Ignored, Separated, Pending}
+use Rattle.fp_lexer.specs.declared.shape.Part.{Part}
+use Rattle.fp_lexer.specs.declared.shape.Shape.{Shape}
+use Rattle.fp_lexer.specs.declared.shape.Shape.TheVariants as shape
+use Rattle.fp_lexer.specs.declared.pieces.Flaw.{Flaw}
 
 -- first bytes, each with the rows of the table of reserved words whose words begin with it: the first, and the one past the last
 abbrev pub rows : List (ℕ × ℕ × ℕ)
@@ -37,6 +40,41 @@ abbrev pub run_value : ℕ → List ℕ → ℕ
 run_value n [] = n
 run_value n (b ∷ bs) = cond (is_digit b) (run_value (10 * n + (b - 48)) bs) n
 
+-- the same of hexadecimal digits
+abbrev pub run_hex : ℕ → List ℕ → ℕ
+run_hex n [] = n
+run_hex n (b ∷ bs) = cond (is_hex_digit b) (run_hex (16 * n + hex_digit b) bs) n
+
+-- three bytes begin a hexadecimal number
+abbrev pub hex_starts : ℕ → ℕ → ℕ → Bool
+hex_starts a b c = a == 48 && ((b == 120 || b == 88) && is_hex_digit c)
+
+-- how many bytes the fraction has that a text begins with
+abbrev pub fraction_len : List ℕ → ℕ
+fraction_len r = cond (slice_index r 0 == 46) (1 + prefix_len is_digit (drop 1 r)) 0
+
+abbrev pub sign_len : List ℕ → ℕ
+sign_len r = cond (slice_index r 0 == 43 || slice_index r 0 == 45) 1 0
+
+abbrev pub signed_at : ℕ → List ℕ → ℕ
+signed_at k r = cond (prefix_len is_digit (drop k r) == 0) 0 (k + prefix_len is_digit (drop k r))
+
+-- digits, after a sign or not
+abbrev pub signed_len : List ℕ → ℕ
+signed_len r = signed_at (sign_len r) r
+
+-- how many bytes the exponent has that a text begins with
+abbrev pub exponent_len : List ℕ → ℕ
+exponent_len r = cond (slice_index r 0 == 101 || slice_index r 0 == 69) (cond (signed_len (drop 1 r) == 0) 0 (1 + signed_len (drop 1 r))) 0
+
+-- a fraction and an exponent
+abbrev pub tail_len : List ℕ → ℕ
+tail_len r = fraction_len r + exponent_len (drop (fraction_len r) r)
+
+-- digits, a fraction and an exponent
+abbrev pub float_len : List ℕ → ℕ
+float_len xs = prefix_len is_digit xs + tail_len (drop (prefix_len is_digit xs) xs)
+
 -- the mark of one byte
 abbrev pub one_mark : ℕ → Option ℕ
 one_mark b =
@@ -45,45 +83,138 @@ one_mark b =
     cond (b == 43) (Some 8) (cond (b == 45) (Some 9) (cond (b == 44) (Some 11) (cond (b == 46) (Some 12) (
     cond (b == 58) (Some 13) (cond (b == 59) (Some 14) (cond (b == 61) (Some 15) None))))))))))))))
 
-abbrev pub one_mark_word : Option ℕ → Option (Option Word × ℕ)
-one_mark_word None = None
-one_mark_word (Some k) = Some (Some (Mark k), 1)
+abbrev pub one_mark_shape : Option ℕ → Option (Shape × ℕ)
+one_mark_shape None = None
+one_mark_shape (Some k) = Some (shape.Mark k, 1)
 
--- the piece that begins with a byte which is no letter and no digit, by the byte after it, and its length
-abbrev pub other : ℕ → ℕ → Option (Option Word × ℕ)
+-- the piece that begins with a byte which begins no piece of another kind, by the byte after it, and its length
+abbrev pub other : ℕ → ℕ → Option (Shape × ℕ)
 other b next =
-    cond (b == 32 || b == 9) (Some (None, 1)) (
-    cond (b == 10) (Some (Some Newline, 1)) (
-    cond (b == 13 && next == 10) (Some (Some Newline, 2)) (
-    cond (b == 45 && next == 62) (Some (Some (Mark 10), 2)) (
-    one_mark_word (one_mark b)))))
+    cond (b == 32 || b == 9) (Some (shape.Blank, 1)) (
+    cond (b == 10) (Some (shape.Newline, 1)) (
+    cond (b == 13 && next == 10) (Some (shape.Newline, 2)) (
+    cond (b == 45 && next == 62) (Some (shape.Mark 10, 2)) (
+    one_mark_shape (one_mark b)))))
+
+abbrev pub one_more : Option ℕ → Option ℕ
+one_more None = None
+one_more (Some n) = Some (n + 1)
+
+-- how many bytes stand before the `"` that closes the body which goes on, behind a backslash or not
+abbrev pub string_len : Bool → List ℕ → Option ℕ
+string_len escaped [] = None
+string_len true (b ∷ bs) = cond (b == 10) None (one_more (string_len false bs))
+string_len false (b ∷ bs) = cond (b == 34) (Some 0) (cond (b == 10) None (one_more (string_len (b == 92) bs)))
+
+-- how many bytes stand before the first `"""` that isn't behind a backslash, at a byte behind one or not
+abbrev pub long_len : Bool → List ℕ → Option ℕ
+long_len escaped [] = None
+long_len true (b ∷ bs) = one_more (long_len false bs)
+long_len false (b ∷ bs) = cond (b == 34 && (slice_index bs 0 == 34 && slice_index bs 1 == 34)) (Some 0) (one_more (long_len (b == 92) bs))
+
+-- how many bytes stand before the first backslash, itself not behind one, that stands directly before a newline
+abbrev pub bad_len : Bool → List ℕ → Option ℕ
+bad_len escaped [] = None
+bad_len true (b ∷ bs) = one_more (bad_len false bs)
+bad_len false (b ∷ bs) = cond (b == 92 && not (newline_len bs == 0)) (Some 0) (one_more (bad_len (b == 92) bs))
+
+-- how many spaces come first, and at most so many
+abbrev pub spaces : ℕ → List ℕ → ℕ
+spaces left [] = 0
+spaces left (b ∷ bs) = cond (b == 32 && nat_lt 0 left) (1 + spaces (left - 1) bs) 0
+
+-- behind so many bytes
+abbrev pub past_bytes : ℕ → Option ℕ → Option ℕ
+past_bytes n None = None
+past_bytes n (Some m) = Some (n + m)
+
+-- ---- pieces
+
+-- the bytes of a part of a text
+abbrev pub part_of : List ℕ → Part → List ℕ
+part_of text part = take (part.past - part.from) (drop part.from text)
+
+-- what a shape in a text is, before which so many bytes stand in its line
+abbrev pub what_of : ℕ → List ℕ → Shape → Option Word
+what_of indent text shape.Blank = None
+what_of indent text (shape.Name part) = Some (Name (part_of text part))
+what_of indent text (shape.Reserved k) = Some (Reserved k)
+what_of indent text (shape.Number n) = Some (Number n)
+what_of indent text shape.Float = Some Float
+what_of indent text (shape.Str part) = Some (Str (body_text false (part_of text part)))
+what_of indent text (shape.Long part) = Some (Str (long_text indent (part_of text part)))
+what_of indent text (shape.Mark k) = Some (Mark k)
+what_of indent text shape.Newline = Some Newline
+what_of indent text (shape.Before part) = Some (Before (trimmed (part_of text part)))
+what_of indent text (shape.After part) = Some (After (trimmed (part_of text part)))
+
+-- it begins and ends between two characters
+abbrev pub IsPart : List ℕ → Part → Type 0
+IsPart text part = (part.from ≤ part.past) × IsCharBoundary text part.from × IsCharBoundary text part.past
+
+-- a shape's part begins and ends between two characters
+abbrev pub HasPart : List ℕ → Shape → Type 0
+HasPart text (shape.Name part) = IsPart text part
+HasPart text (shape.Str part) = IsPart text part
+HasPart text (shape.Long part) = IsPart text part
+HasPart text (shape.Before part) = IsPart text part
+HasPart text (shape.After part) = IsPart text part
+HasPart text shape = Unit {0}
 
 -- a number is below 2 ^ 127
 abbrev pub IsSmall : Option Word → Type 0
 IsSmall what = (n : ℕ) → what ≡ Some (Number (pos n)) → n < 2 ^ 127
 
--- the longest piece at an offset: what it is, and where it ends
-abbrev pub GivesPiece : List ℕ → ℕ → Result (Option Word × ℕ) Fault → Type 0
-GivesPiece text at (Ok p) = IsPiece text (record { what = p.0; from = at; past = p.1 }) × IsSmall p.0
-GivesPiece text at (Err Bad) = NoneBegins text at
-GivesPiece text at (Err TooLarge) = LargeBegins text at
-GivesPiece text at (Err OutOfMemory) = Unit {0}
+-- no escape is bad in a string that begins at an offset
+abbrev pub HasNoBadEscape : List ℕ → ℕ → Type 0
+HasNoBadEscape text at = (there : ℕ) → BadEscapeAt text at there → ⊥
 
--- why the lexer stops at a place
-abbrev pub stop_at : Place → Fault → Stop
-stop_at place Bad = Broken (record { rule = BadCharacter; place = place; other = None })
-stop_at place TooLarge = Broken (record { rule = NumberTooLarge; place = place; other = None })
-stop_at place OutOfMemory = NoMemory
+-- what is wrong with the piece that begins at an offset: a rule is broken there, or within it
+abbrev pub IsFlawed : List ℕ → ℕ → Rule → ℕ → Type 0
+IsFlawed text at BadCharacter there = (there ≡ at) × (slice_index text at ≢ 34) × NoneBegins text at
+IsFlawed text at OpenString there = (there ≡ at) × (slice_index text at ≡ 34) × NoneBegins text at
+IsFlawed text at BadEscape there = BadEscapeAt text at there × ((other : ℕ) → BadEscapeAt text at other → there ≤ other)
+IsFlawed text at NumberTooLarge there = (there ≡ at) × LargeBegins text at
+IsFlawed text at _ there = ⊥
+
+-- the longest piece at an offset: what it is, and where it ends
+abbrev pub GivesPiece : List ℕ → ℕ → Result (Shape × ℕ) Flaw → Type 0
+GivesPiece text at (Ok p) =
+    let what = what_of (indent_at text at) text p.0 in
+    IsPiece text (record { what = what; from = at; past = p.1 }) × IsSmall what × (IsUtf8 text → HasPart text p.0) × HasNoBadEscape text at
+GivesPiece text at (Err flaw) = IsFlawed text at flaw.rule flaw.at
+
+-- a rule is broken at an offset of a text, and all that is broken lies behind it, or there and not before it in the table
+pub record IsFirstFlaw (text : List ℕ) (flaw : Flaw) : Type 0 where
+  pub broken : BrokenAt text flaw.rule flaw.at
+  pub before : (other : Rule) (there : ℕ) → BrokenAt text other there → flaw.at ≤ there
+  pub here : (other : Rule) → BrokenAt text other flaw.at → row flaw.rule ≤ row other
+
+-- ---- newlines
 
 -- what comes of the tokens that follow, from what stands before them: a newline there counts, is ignored, or was read and
 -- counts unless what follows lets it be ignored
 abbrev pub resume : Standing → List Token → List Token
-resume Counts rest = kept false rest
-resume Ignored rest = kept true rest
-resume (Pending span) rest = cond (ignored_by_rest rest) (kept true rest) ((record { what = Newline; at = span }) ∷ kept true rest)
+resume Counts rest = kept counts rest
+resume Ignored rest = kept ignored rest
+resume Separated rest = kept separated rest
+resume (Pending span) rest = cond (ignored_by_rest rest) (kept ignored rest) ((record { what = Newline; at = span }) ∷ kept ignored rest)
 
 -- where a newline was read
 abbrev pub newline_read : Standing → Span → Standing
 newline_read Counts span = Pending span
 newline_read Ignored span = Ignored
+newline_read Separated span = Separated
 newline_read (Pending first) span = Pending first
+
+-- what it means for a newline, whether or not one was read
+abbrev pub ground_of : Standing → Ground
+ground_of Counts = counts
+ground_of Ignored = ignored
+ground_of Separated = separated
+ground_of (Pending span) = ignored
+
+abbrev pub standing : Ground → Standing
+standing counts = Counts
+standing ignored = Ignored
+standing separated = Separated

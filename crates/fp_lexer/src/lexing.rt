@@ -1,75 +1,111 @@
-ghost use Rattle.std.specs.Prelude.{◌≡◌, ◌<◌, ◌≤◌, ℕ, List, length, MatchResult};
+ghost use Rattle.std.specs.Prelude.{◌≡◌, ◌-◌, ◌^◌, ◌<◌, ◌≤◌, ℕ, List, length, None, MatchResult};
+ghost use Rattle.std.specs.Str.Lossy.{utf8_valid_len};
 ghost use Rattle.fp_base.specs.Places.{place_at};
+ghost use Rattle.fp_base.specs.declared.refusal.Stop.TheVariants.{Broken};
 ghost use Rattle.fp_lexer.specs.Tokens.{Lexed, Rising};
 ghost use Rattle.fp_lexer.specs.Broken.{IsStop, IsUnbroken, ComesBefore, longest_text};
-ghost use Rattle.fp_lexer.specs.Scan.{stop_at};
+ghost use Rattle.fp_lexer.specs.Scan.{IsFirstFlaw};
 ghost use Rattle.fp_lexer.specs.declared.token.Token.{Token};
 
 use crate::newlines::{Standing, add};
-use crate::pieces::{Fault, piece};
-use crate::token::{Token, Word};
+use crate::pieces::{Flaw, piece};
+use crate::shape::what_of;
+use crate::token::Token;
 use fp_base::{Place, Refusal, Row, Rule, Span, Stop, place_after, place_of};
 use std::alloc::Global;
+use std::str;
 
 /// The most bytes of a file.
 const LONGEST: usize = 4194304;
 
-/// Lets a piece go.
-fn forget(_what: Option<Word>) {}
-
-/// Why the lexer stops at a place.
-fn stop_at(place: Place, fault: Fault) -> Stop
-    ensures { result ≡ stop_at place fault }
+/// Why a text is refused: a rule, and the offset where it is broken.
+fn refused(file: u32, text: &[u8], flaw: Flaw) -> Stop
+    requires within { flaw.at ≤ length text.now }
+    requires short { flaw.at < 2 ^ 32 - 1 }
+    ensures { result ≡ Broken (record { rule = flaw.rule; place = place_at file text.now flaw.at; other = None }) }
 {
-    match fault {
-        Fault::Bad => Stop::Broken(Refusal {
-            rule: Rule::BadCharacter,
-            place,
-            other: None,
-        }),
-        Fault::TooLarge => Stop::Broken(Refusal {
-            rule: Rule::NumberTooLarge,
-            place,
-            other: None,
-        }),
-        Fault::OutOfMemory => Stop::NoMemory,
+    Stop::Broken(Refusal {
+        rule: flaw.rule,
+        place: place_of(file, text, flaw.at),
+        other: None,
+    })
+}
+
+/// How many bytes of a text come before the first that belongs to no character.
+fn valid_len(text: &[u8]) -> usize
+    ensures { result ≡ utf8_valid_len text.now }
+{
+    match str::from_utf8(text) {
+        Ok(_) => text.len(),
+        Err(error) => error.valid_up_to(),
     }
 }
 
-/// Why a text that is too long is refused: another rule that is broken at its first byte stands before the length in the table.
-fn refuse_long(alloc: Global, file: u32, text: &[u8]) -> Stop
+/// The rule that a text which is too long breaks at its first byte: others stand before the length in the table.
+fn flaw_of_long(text: &[u8]) -> Flaw
     requires { longest_text < length text.now }
-    ensures { IsStop file text.now result }
+    ensures { IsFirstFlaw text.now result }
 {
-    let place = place_of(file, text, 0);
-    match piece(alloc, text, 0) {
-        Ok((what, _)) => {
-            forget(what);
-            Stop::Broken(Refusal {
-                rule: Rule::TextTooLong,
-                place,
-                other: None,
-            })
-        }
-        Err(fault) => stop_at(place, fault),
+    if valid_len(text) == 0 {
+        return Flaw {
+            rule: Rule::BadCharacter,
+            at: 0,
+        };
     }
+    match piece(text, 0) {
+        Ok(_) => Flaw {
+            rule: Rule::TextTooLong,
+            at: 0,
+        },
+        Err(flaw) => {
+            if flaw.at == 0 {
+                flaw
+            } else {
+                Flaw {
+                    rule: Rule::TextTooLong,
+                    at: 0,
+                }
+            }
+        }
+    }
+}
+
+/// The first rule that a text breaks which isn't UTF-8, where its bytes from an offset on are no character.
+fn flaw_of_mangled(text: &[u8], valid: usize) -> Flaw
+    requires valid { valid ≡ utf8_valid_len text.now }
+    requires within { valid < length text.now }
+    requires short { length text.now ≤ longest_text }
+    ensures { IsFirstFlaw text.now result }
+{
+    let mangled = Flaw {
+        rule: Rule::BadCharacter,
+        at: valid,
+    };
+    let mut at = 0;
+    'pieces: while at < valid {
+        match piece(text, at) {
+            Ok((_, past)) => at = past,
+            Err(flaw) => return if flaw.at < valid { flaw } else { mangled },
+        }
+    }
+    mangled
 }
 
 /// The tokens of a text, or the first rule that it breaks.
-pub fn lex(alloc: Global, file: u32, text: &[u8]) -> Result<Row<Token>, Stop>
+fn lex_valid(alloc: Global, file: u32, text: &str) -> Result<Row<Token>, Stop>
+    requires { length text.now ≤ longest_text }
     ensures { MatchResult result (λ tokens. Lexed file text.now tokens × IsUnbroken file text.now) (λ stop. IsStop file text.now stop) }
 {
-    if text.len() > LONGEST {
-        return Err(refuse_long(alloc, file, text));
-    }
+    let bytes = text.as_bytes();
     let mut tokens = Row::new(alloc);
     let mut standing = Standing::Ignored;
     let mut at = 0;
-    let mut here = place_of(file, text, 0);
-    'pieces: while at < text.len() {
-        match piece(alloc, text, at) {
-            Ok((what, past)) => {
-                let there = place_after(text, here, at, past);
+    let mut here = place_of(file, bytes, 0);
+    'pieces: while at < bytes.len() {
+        match piece(bytes, at) {
+            Ok((shape, past)) => {
+                let there = place_after(bytes, here, at, past);
+                let what = what_of(alloc, text, here.column as usize - 1, shape)?;
                 match what {
                     Some(word) => {
                         let span = Span {
@@ -83,10 +119,26 @@ pub fn lex(alloc: Global, file: u32, text: &[u8]) -> Result<Row<Token>, Stop>
                 here = there;
                 at = past;
             }
-            Err(fault) => return Err(stop_at(here, fault)),
+            Err(flaw) => return Err(refused(file, bytes, flaw)),
         }
     }
     Ok(tokens)
+}
+
+/// The tokens of a text, or the first rule that it breaks.
+pub fn lex(alloc: Global, file: u32, text: &[u8]) -> Result<Row<Token>, Stop>
+    ensures { MatchResult result (λ tokens. Lexed file text.now tokens × IsUnbroken file text.now) (λ stop. IsStop file text.now stop) }
+{
+    if text.len() > LONGEST {
+        return Err(refused(file, text, flaw_of_long(text)));
+    }
+    match str::from_utf8(text) {
+        Ok(valid) => lex_valid(alloc, file, valid),
+        Err(error) => {
+            let flaw = flaw_of_mangled(text, error.valid_up_to());
+            Err(refused(file, text, flaw))
+        }
+    }
 }
 
 /// A text has one list of tokens.

@@ -6,6 +6,7 @@ mod lexing;
 mod newlines;
 mod pieces;
 mod scan;
+mod shape;
 #[cfg(test)]
 mod tests;
 mod token;

@@ -1,6 +1,6 @@
-ghost use Rattle.std.specs.Prelude.{◌≡◌, ◌∷◌, ◌++◌, List, IfOk, OnOk, false, cond};
-ghost use Rattle.fp_lexer.specs.Tokens.{ignored_after, ignored_before, is_newline, kept};
-ghost use Rattle.fp_lexer.specs.Scan.{resume, newline_read};
+ghost use Rattle.std.specs.Prelude.{◌≡◌, ◌∷◌, ◌++◌, List, IfOk, OnOk, false};
+ghost use Rattle.fp_lexer.specs.Tokens.{after, after_mark, after_post, opens, ignored_before, is_newline, kept};
+ghost use Rattle.fp_lexer.specs.Scan.{resume, newline_read, ground_of, standing};
 ghost use Rattle.fp_lexer.specs.declared.token.Token.{Token};
 ghost use Rattle.fp_base.specs.declared.place.Span.{Span};
 
@@ -15,6 +15,8 @@ const ELSE: u8 = 24;
 pub enum Standing {
     Counts,
     Ignored,
+    /// It is ignored, and only annotation of what stands befores stand between it and a separator.
+    Separated,
     /// One was read, and counts unless what follows lets it be ignored.
     Pending(Span),
 }
@@ -28,24 +30,21 @@ fn is_newline(word: &Word) -> bool
     }
 }
 
-/// Newlines are ignored after `( * + , - -> / : ; = [ {`.
-fn ignored_after(word: &Word) -> bool
-    ensures { result ≡ ignored_after word.now }
+/// Newlines are ignored after `( * + - -> / : = [ {`.
+fn opens(mark: u8) -> bool
+    ensures { result ≡ opens mark }
 {
-    match word {
-        Word::Mark(mark) => matches!(*mark, 0 | 2 | 4 | 6..=11 | 13..=15),
-        Word::Newline => true,
-        _ => false,
-    }
+    matches!(mark, 0 | 2 | 4 | 6..=10 | 13 | 15)
 }
 
-/// Newlines are ignored before `) ] } else`.
+/// Newlines are ignored before `) ] } else @<`.
 fn ignored_before(word: &Word) -> bool
     ensures { result ≡ ignored_before word.now }
 {
     match word {
         Word::Mark(mark) => matches!(*mark, 1 | 3 | 5),
         Word::Reserved(number) => *number == ELSE,
+        Word::After(_) => true,
         _ => false,
     }
 }
@@ -57,18 +56,46 @@ fn after_newline(standing: Standing, span: Span) -> Standing
     match standing {
         Standing::Counts => Standing::Pending(span),
         Standing::Ignored => Standing::Ignored,
+        Standing::Separated => Standing::Separated,
         Standing::Pending(first) => Standing::Pending(first),
     }
 }
 
-/// What a newline would mean after a word.
-fn after_word(word: &Word) -> Standing
-    ensures { result ≡ cond (ignored_after word.now) Standing.Ignored Standing.Counts }
+/// What a newline would mean after a mark.
+fn after_mark(mark: u8) -> Standing
+    ensures { result ≡ standing (after_mark mark) }
 {
-    if ignored_after(word) {
+    if matches!(mark, 11 | 14) {
+        Standing::Separated
+    } else if opens(mark) {
         Standing::Ignored
     } else {
         Standing::Counts
+    }
+}
+
+/// What a newline would mean after a annotation of what stands before.
+fn after_post(before: Standing) -> Standing
+    ensures { result ≡ standing (after_post (ground_of before)) }
+{
+    match before {
+        Standing::Separated => Standing::Separated,
+        Standing::Counts => Standing::Counts,
+        Standing::Ignored => Standing::Counts,
+        Standing::Pending(_) => Standing::Counts,
+    }
+}
+
+/// What a newline would mean after a word that is no newline.
+fn after_word(before: Standing, word: &Word) -> Standing
+    requires { is_newline word.now ≡ false }
+    ensures { result ≡ standing (after (ground_of before) word.now) }
+{
+    match word {
+        Word::Mark(mark) => after_mark(*mark),
+        Word::Before(_) => Standing::Ignored,
+        Word::After(_) => after_post(before),
+        _ => Standing::Counts,
     }
 }
 
@@ -76,11 +103,12 @@ fn after_word(word: &Word) -> Standing
 fn settle(tokens: &mut Row<Token>, standing: Standing, word: &Word) -> Result<(), NoMemory>
     requires { is_newline word.now ≡ false }
     ensures { OnOk result ((span : Span) (rest : List Token) → tokens.old ++ resume standing ((record { what = word.now; at = span }) ∷ rest)
-        ≡ tokens.new ++ (record { what = word.now; at = span }) ∷ kept (ignored_after word.now) rest) }
+        ≡ tokens.new ++ (record { what = word.now; at = span }) ∷ kept (after (ground_of standing) word.now) rest) }
 {
     match standing {
         Standing::Counts => Ok(()),
         Standing::Ignored => Ok(()),
+        Standing::Separated => Ok(()),
         Standing::Pending(span) => {
             if ignored_before(word) {
                 Ok(())
@@ -107,7 +135,7 @@ pub fn add(
     if is_newline(&word) {
         Ok(after_newline(standing, span))
     } else {
-        let after = after_word(&word);
+        let after = after_word(standing, &word);
         settle(tokens, standing, &word)?;
         tokens.push(Token {
             what: word,

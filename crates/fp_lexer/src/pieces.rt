@@ -1,120 +1,275 @@
-ghost use Rattle.std.specs.Prelude.{◌≡◌, ◌<◌, length, slice_index, true, false, IfOk};
-ghost use Rattle.std.specs.List.{list_all};
-ghost use Rattle.fp_lexer.specs.Bytes.{is_letter, is_digit, is_name_byte};
-ghost use Rattle.fp_lexer.specs.Scan.{GivesPiece, other};
+ghost use Rattle.std.specs.Prelude.{◌≡◌, ◌≢◌, ◌+◌, ◌<◌, drop, length, slice_index, true, false, ◌==◌, ◌&&◌};
+ghost use Rattle.std.specs.List.{prefix_len};
+ghost use Rattle.fp_lexer.specs.Bytes.{is_letter, is_digit};
+ghost use Rattle.fp_lexer.specs.Scan.{GivesPiece, hex_starts, other, tail_len};
 
-use crate::bytes::{byte_at, is_digit, is_letter, name_end};
-use crate::scan::{number, one_mark};
-use crate::token::Word;
+use crate::bytes::{byte_at, is_digit, is_letter, line_end, name_end, newline_len};
+use crate::scan::{
+    bad_escape, digits_end, hex_number, hex_starts, long_end, number, one_mark, string_end,
+    tail_end,
+};
+use crate::shape::{Part, Shape};
 use crate::words::reserved;
-use fp_base::{NoMemory, Text};
-use std::alloc::Global;
+use fp_base::Rule;
 
 /// The number of the mark `->`.
 const ARROW: u8 = 10;
 
-/// Why no piece is read at a place.
+/// What is wrong with a piece: the rule that is broken, and where.
 #[derive(Clone, Copy, Debug, PartialEq, Eq)]
-pub enum Fault {
-    Bad,
-    TooLarge,
-    OutOfMemory,
+pub struct Flaw {
+    pub rule: Rule,
+    pub at: usize,
 }
 
-impl From<NoMemory> for Fault {
-    ghost use Rattle.fp_lexer.specs.declared.pieces.Fault.TheVariants.{OutOfMemory};
-
-    ghost from_gives = { λ _ fault. fault ≡ OutOfMemory };
-
-    fn from(_: NoMemory) -> Fault {
-        Fault::OutOfMemory
+/// No piece begins at an offset.
+fn bad(at: usize) -> Flaw
+    ensures { result ≡ record { rule = Rule.BadCharacter; at = at } }
+{
+    Flaw {
+        rule: Rule::BadCharacter,
+        at,
     }
 }
 
-/// The text of a name, which is ASCII.
-fn text_of_name(alloc: Global, name: &[u8]) -> Result<Text, NoMemory>
-    requires { list_all is_name_byte name.now ≡ true }
-    ensures { IfOk result (λ text. text ≡ name.now) }
+/// No string begins at a `"`.
+fn open_string(at: usize) -> Flaw
+    ensures { result ≡ record { rule = Rule.OpenString; at = at } }
 {
-    let text = Text::from_utf8(alloc, name)?;
-    match text {
-        Some(text) => Ok(text),
-        None => unreachable!(),
+    Flaw {
+        rule: Rule::OpenString,
+        at,
+    }
+}
+
+/// A backslash stands directly before a newline.
+fn bad_escape_at(at: usize) -> Flaw
+    ensures { result ≡ record { rule = Rule.BadEscape; at = at } }
+{
+    Flaw {
+        rule: Rule::BadEscape,
+        at,
+    }
+}
+
+/// The number at an offset is too large.
+fn too_large(at: usize) -> Flaw
+    ensures { result ≡ record { rule = Rule.NumberTooLarge; at = at } }
+{
+    Flaw {
+        rule: Rule::NumberTooLarge,
+        at,
     }
 }
 
 /// The name or reserved word at an offset.
-fn name_piece(alloc: Global, text: &[u8], at: usize) -> Result<(Option<Word>, usize), Fault>
+fn name_piece(text: &[u8], at: usize) -> Result<(Shape, usize), Flaw>
     requires within { at < length text.now }
     requires letter { is_letter (slice_index text.now at) ≡ true }
     ensures { GivesPiece text.now at result }
 {
     let past = name_end(text, at);
-    let word = &text[at..past];
-    match reserved(word) {
-        Some(number) => Ok((Some(Word::Reserved(number)), past)),
-        None => {
-            let name = text_of_name(alloc, word)?;
-            Ok((Some(Word::Name(name)), past))
-        }
+    match reserved(&text[at..past]) {
+        Some(number) => Ok((Shape::Reserved(number), past)),
+        None => Ok((Shape::Name(Part { from: at, past }), past)),
     }
 }
 
-/// The number at an offset.
-fn number_piece(text: &[u8], at: usize) -> Result<(Option<Word>, usize), Fault>
+/// The hexadecimal number at an offset.
+fn hex_piece(text: &[u8], at: usize) -> Result<(Shape, usize), Flaw>
+    requires within { at < length text.now }
+    requires hex { hex_starts (slice_index text.now at) (slice_index text.now (at + 1)) (slice_index text.now (at + 2)) ≡ true }
+    ensures { GivesPiece text.now at result }
+{
+    match hex_number(text, at + 2) {
+        Some((value, past)) => Ok((Shape::Number(value as i128), past)),
+        None => Err(too_large(at)),
+    }
+}
+
+/// The decimal number at an offset.
+fn decimal_piece(text: &[u8], at: usize) -> Result<(Shape, usize), Flaw>
+    requires within { at < length text.now }
+    requires digit { is_digit (slice_index text.now at) ≡ true }
+    requires bare { hex_starts (slice_index text.now at) (slice_index text.now (at + 1)) (slice_index text.now (at + 2)) ≡ false }
+    requires whole { tail_len (drop (at + prefix_len is_digit (drop at text.now)) text.now) ≡ 0 }
+    ensures { GivesPiece text.now at result }
+{
+    match number(text, at) {
+        Some((value, past)) => Ok((Shape::Number(value as i128), past)),
+        None => Err(too_large(at)),
+    }
+}
+
+/// The number or float at an offset.
+fn number_piece(text: &[u8], at: usize) -> Result<(Shape, usize), Flaw>
     requires within { at < length text.now }
     requires digit { is_digit (slice_index text.now at) ≡ true }
     ensures { GivesPiece text.now at result }
 {
-    match number(text, at) {
-        Some((value, past)) => Ok((Some(Word::Number(value as i128)), past)),
-        None => Err(Fault::TooLarge),
+    if hex_starts(text[at], byte_at(text, at + 1), byte_at(text, at + 2)) {
+        return hex_piece(text, at);
+    }
+    let digits = digits_end(text, at);
+    let past = tail_end(text, digits);
+    if past > digits {
+        Ok((Shape::Float, past))
+    } else {
+        decimal_piece(text, at)
     }
 }
 
-/// The piece that begins with a byte which is no letter and no digit, by the byte after it, and its length.
-fn other(b: u8, next: u8) -> Option<(Option<Word>, usize)>
+/// The name behind a `$`.
+fn dollar_piece(text: &[u8], at: usize) -> Result<(Shape, usize), Flaw>
+    requires within { at < length text.now }
+    requires dollar { slice_index text.now at ≡ 36 }
+    ensures { GivesPiece text.now at result }
+{
+    if !is_letter(byte_at(text, at + 1)) {
+        return Err(bad(at));
+    }
+    let past = name_end(text, at + 1);
+    Ok((Shape::Name(Part { from: at + 1, past }), past))
+}
+
+/// The backslash and newline at an offset.
+fn continuation_piece(text: &[u8], at: usize) -> Result<(Shape, usize), Flaw>
+    requires within { at < length text.now }
+    requires backslash { slice_index text.now at ≡ 92 }
+    ensures { GivesPiece text.now at result }
+{
+    let newline = newline_len(text, at + 1);
+    if newline == 0 {
+        Err(bad(at))
+    } else {
+        Ok((Shape::Blank, at + 1 + newline))
+    }
+}
+
+/// The comment at an offset.
+fn comment_piece(text: &[u8], at: usize) -> Result<(Shape, usize), Flaw>
+    requires within { at < length text.now }
+    requires hash { slice_index text.now at ≡ 35 }
+    ensures { GivesPiece text.now at result }
+{
+    Ok((Shape::Blank, line_end(text, at + 1)))
+}
+
+/// The annotation at an offset.
+fn annotation_piece(text: &[u8], at: usize) -> Result<(Shape, usize), Flaw>
+    requires within { at < length text.now }
+    requires sign { slice_index text.now at ≡ 64 }
+    ensures { GivesPiece text.now at result }
+{
+    if byte_at(text, at + 1) == b'<' {
+        let past = line_end(text, at + 2);
+        Ok((Shape::After(Part { from: at + 2, past }), past))
+    } else {
+        let past = line_end(text, at + 1);
+        Ok((
+            Shape::Before(Part { from: at + 1, past }),
+            past + newline_len(text, past),
+        ))
+    }
+}
+
+/// Two more `"` stand behind the byte at an offset.
+fn begins_long(text: &[u8], at: usize) -> bool
+    requires { at < length text.now }
+    ensures { result ≡ (slice_index text.now (at + 1) == 34 && slice_index text.now (at + 2) == 34) }
+{
+    byte_at(text, at + 1) == b'"' && byte_at(text, at + 2) == b'"'
+}
+
+/// The string between `"""` at an offset.
+fn long_piece(text: &[u8], at: usize) -> Result<(Shape, usize), Flaw>
+    requires within { at < length text.now }
+    requires quote { slice_index text.now at ≡ 34 }
+    requires long { (slice_index text.now (at + 1) == 34 && slice_index text.now (at + 2) == 34) ≡ true }
+    ensures { GivesPiece text.now at result }
+{
+    let Some(past) = long_end(text, at + 3) else {
+        return Err(open_string(at));
+    };
+    match bad_escape(&text[at + 3..past]) {
+        Some(before) => Err(bad_escape_at(at + 3 + before)),
+        None => Ok((Shape::Long(Part { from: at + 3, past }), past + 3)),
+    }
+}
+
+/// The string at an offset.
+fn string_piece(text: &[u8], at: usize) -> Result<(Shape, usize), Flaw>
+    requires within { at < length text.now }
+    requires quote { slice_index text.now at ≡ 34 }
+    ensures { GivesPiece text.now at result }
+{
+    if begins_long(text, at) {
+        return long_piece(text, at);
+    }
+    match string_end(text, at + 1) {
+        Some(past) => Ok((Shape::Str(Part { from: at + 1, past }), past + 1)),
+        None => Err(open_string(at)),
+    }
+}
+
+/// The piece that begins with a byte which begins no piece of another kind, by the byte after it, and its length.
+fn other(b: u8, next: u8) -> Option<(Shape, usize)>
     ensures { result ≡ other b next }
 {
     if b == b' ' || b == b'\t' {
-        Some((None, 1))
+        Some((Shape::Blank, 1))
     } else if b == b'\n' {
-        Some((Some(Word::Newline), 1))
+        Some((Shape::Newline, 1))
     } else if b == b'\r' && next == b'\n' {
-        Some((Some(Word::Newline), 2))
+        Some((Shape::Newline, 2))
     } else if b == b'-' && next == b'>' {
-        Some((Some(Word::Mark(ARROW)), 2))
+        Some((Shape::Mark(ARROW), 2))
     } else {
         match one_mark(b) {
-            Some(mark) => Some((Some(Word::Mark(mark)), 1)),
+            Some(mark) => Some((Shape::Mark(mark), 1)),
             None => None,
         }
     }
 }
 
-/// The piece at an offset where no letter and no digit is.
-fn other_piece(text: &[u8], at: usize) -> Result<(Option<Word>, usize), Fault>
+/// The piece at an offset where no piece of another kind begins.
+fn other_piece(text: &[u8], at: usize) -> Result<(Shape, usize), Flaw>
     requires within { at < length text.now }
     requires no_letter { is_letter (slice_index text.now at) ≡ false }
     requires no_digit { is_digit (slice_index text.now at) ≡ false }
+    requires no_hash { slice_index text.now at ≢ 35 }
+    requires no_sign { slice_index text.now at ≢ 64 }
+    requires no_quote { slice_index text.now at ≢ 34 }
+    requires no_dollar { slice_index text.now at ≢ 36 }
+    requires no_backslash { slice_index text.now at ≢ 92 }
     ensures { GivesPiece text.now at result }
 {
     match other(text[at], byte_at(text, at + 1)) {
-        Some((what, length)) => Ok((what, at + length)),
-        None => Err(Fault::Bad),
+        Some((shape, length)) => Ok((shape, at + length)),
+        None => Err(bad(at)),
     }
 }
 
 /// The longest piece at an offset.
-pub fn piece(alloc: Global, text: &[u8], at: usize) -> Result<(Option<Word>, usize), Fault>
+pub fn piece(text: &[u8], at: usize) -> Result<(Shape, usize), Flaw>
     requires { at < length text.now }
     ensures { GivesPiece text.now at result }
 {
     let b = text[at];
     if is_letter(b) {
-        name_piece(alloc, text, at)
+        name_piece(text, at)
     } else if is_digit(b) {
         number_piece(text, at)
+    } else if b == b'#' {
+        comment_piece(text, at)
+    } else if b == b'@' {
+        annotation_piece(text, at)
+    } else if b == b'"' {
+        string_piece(text, at)
+    } else if b == b'$' {
+        dollar_piece(text, at)
+    } else if b == b'\\' {
+        continuation_piece(text, at)
     } else {
         other_piece(text, at)
     }

@@ -10,9 +10,19 @@ fn rendered_word(alloc: Global, word: &Word) -> Result<String, AllocError> {
         Word::Number(number) => format!(in alloc; "{number}"),
         Word::Mark(number) => format!(in alloc; "mark.{number}"),
         Word::Newline => String::from_str(alloc, "line"),
-        Word::Float | Word::Str(_) | Word::Before(_) | Word::After(_) => String::from_str(
-            alloc, "?",
-        ),
+        Word::Before(note) => {
+            let note = note.as_str();
+            format!(in alloc; "before<{note}>")
+        }
+        Word::After(note) => {
+            let note = note.as_str();
+            format!(in alloc; "after<{note}>")
+        }
+        Word::Float => String::from_str(alloc, "float"),
+        Word::Str(text) => {
+            let text = text.as_str();
+            format!(in alloc; "text<{text}>")
+        }
     }
 }
 
@@ -45,7 +55,7 @@ fn rendered(alloc: Global, text: &[u8]) -> Result<String, AllocError> {
 }
 
 /// Texts, and what comes of each.
-static TEXTS: [(&str, &str); 63] = [
+static TEXTS: [(&str, &str); 147] = [
     ("", ""),
     ("\n", ""),
     ("\n\n\r\n \t\n", ""),
@@ -97,8 +107,43 @@ static TEXTS: [(&str, &str); 63] = [
         "()[]{}*/+-->,.:;=",
         "mark.0@1:1-1:2 mark.1@1:2-1:3 mark.2@1:3-1:4 mark.3@1:4-1:5 mark.4@1:5-1:6 mark.5@1:6-1:7 mark.6@1:7-1:8 mark.7@1:8-1:9 mark.8@1:9-1:10 mark.9@1:10-1:11 mark.10@1:11-1:13 mark.11@1:13-1:14 mark.12@1:14-1:15 mark.13@1:15-1:16 mark.14@1:16-1:17 mark.15@1:17-1:18",
     ),
-    ("1.5", "1@1:1-1:2 mark.12@1:2-1:3 5@1:3-1:4"),
-    ("0x10", "0@1:1-1:2 x10@1:2-1:5"),
+    ("1.5", "float@1:1-1:4"),
+    ("1.", "float@1:1-1:3"),
+    ("1.e5", "float@1:1-1:5"),
+    (
+        "1e5 1E+5 1e-05",
+        "float@1:1-1:4 float@1:5-1:9 float@1:10-1:15",
+    ),
+    ("1.5e", "float@1:1-1:4 e@1:4-1:5"),
+    ("1e", "1@1:1-1:2 e@1:2-1:3"),
+    ("1e+", "1@1:1-1:2 e@1:2-1:3 mark.8@1:3-1:4"),
+    ("1.x", "float@1:1-1:3 x@1:3-1:4"),
+    ("1..2", "float@1:1-1:3 mark.12@1:3-1:4 2@1:4-1:5"),
+    ("1.2.3", "float@1:1-1:4 mark.12@1:4-1:5 3@1:5-1:6"),
+    (".5", "mark.12@1:1-1:2 5@1:2-1:3"),
+    ("0.x1", "float@1:1-1:3 x1@1:3-1:5"),
+    ("0x1e5", "485@1:1-1:6"),
+    ("0e1", "float@1:1-1:4"),
+    (
+        "170141183460469231731687303715884105728.0",
+        "float@1:1-1:42",
+    ),
+    ("1.0\na", "float@1:1-1:4 line@1:4-2:1 a@2:1-2:2"),
+    ("0x10", "16@1:1-1:5"),
+    ("0XaF09", "44809@1:1-1:7"),
+    ("0x", "0@1:1-1:2 x@1:2-1:3"),
+    ("0xg", "0@1:1-1:2 xg@1:2-1:4"),
+    ("00x1", "0@1:1-1:3 x1@1:3-1:5"),
+    ("0x1g", "1@1:1-1:4 g@1:4-1:5"),
+    ("0x1.5", "1@1:1-1:4 mark.12@1:4-1:5 5@1:5-1:6"),
+    (
+        "0x7fffffffffffffffffffffffffffffff",
+        "170141183460469231731687303715884105727@1:1-1:35",
+    ),
+    (
+        "0x80000000000000000000000000000000",
+        "L4 number too large@1:1",
+    ),
     ("1a", "1@1:1-1:2 a@1:2-1:3"),
     ("007", "7@1:1-1:4"),
     ("0", "0@1:1-1:2"),
@@ -137,12 +182,148 @@ static TEXTS: [(&str, &str); 63] = [
         "170141183460469231731687303715884105728 ?",
         "L4 number too large@1:1",
     ),
-    ("a \" b", "L1 bad character@1:3"),
-    ("b\n@ c", "L1 bad character@2:1"),
-    ("$a", "L1 bad character@1:1"),
-    ("a \\\n b", "L1 bad character@1:3"),
+    ("a \" b", "L2 open string@1:3"),
+    ("\"\"", "text<>@1:1-1:3"),
+    ("\"a b\"c", "text<a b>@1:1-1:6 c@1:6-1:7"),
+    ("\"# @ $ 'é'\"", "text<# @ $ 'é'>@1:1-1:13"),
+    ("\"a\" \"b\"", "text<a>@1:1-1:4 text<b>@1:5-1:8"),
+    ("\"a\"\"b\"", "text<a>@1:1-1:4 text<b>@1:4-1:7"),
+    (r#""\"""#, r#"text<">@1:1-1:5"#),
+    (r#""\\""#, r#"text<\>@1:1-1:5"#),
+    (r#""\\" a"#, r#"text<\>@1:1-1:5 a@1:6-1:7"#),
+    (r#""a\n\éb""#, "text<anéb>@1:1-1:10"),
+    (r#""\\\"x""#, r#"text<\"x>@1:1-1:8"#),
+    ("\"a\\\rb\"", "text<a\rb>@1:1-1:7"),
+    ("\"a\rb\"", "text<a\rb>@1:1-1:6"),
+    (r#""a\"#, "L2 open string@1:1"),
+    (r#""a\""#, "L2 open string@1:1"),
+    ("\"a\nb\"", "L2 open string@1:1"),
+    ("\"a\\\nb\"", "L2 open string@1:1"),
+    ("\"a\\\r\nb\"", "L2 open string@1:1"),
+    ("x\n \"a", "L2 open string@2:2"),
+    ("\"\"a", "text<>@1:1-1:3 a@1:3-1:4"),
+    (
+        "a, \"\"\n\"b\"",
+        "a@1:1-1:2 mark.11@1:2-1:3 text<>@1:4-1:6 line@1:6-2:1 text<b>@2:1-2:4",
+    ),
     ("é", "L1 bad character@1:1"),
+    ("$a", "a@1:1-1:3"),
+    (
+        "$constant $x1;",
+        "constant@1:1-1:10 x1@1:11-1:14 mark.14@1:14-1:15",
+    ),
+    ("a$b", "a@1:1-1:2 b@1:2-1:4"),
+    ("$", "L1 bad character@1:1"),
+    ("$1", "L1 bad character@1:1"),
+    ("$ a", "L1 bad character@1:1"),
+    ("$$a", "L1 bad character@1:1"),
+    ("$é", "L1 bad character@1:1"),
+    ("a \\\n b", "a@1:1-1:2 b@2:2-2:3"),
+    ("a \\\r\n b", "a@1:1-1:2 b@2:2-2:3"),
+    ("a \\ \n b", "L1 bad character@1:3"),
+    ("a \\\r b", "L1 bad character@1:3"),
+    ("\\", "L1 bad character@1:1"),
+    ("# a", ""),
+    ("a # b\n c", "a@1:1-1:2 line@1:6-2:1 c@2:2-2:3"),
+    ("a # b\r\n c", "a@1:1-1:2 line@1:6-2:1 c@2:2-2:3"),
+    ("a # \r b\n c", "a@1:1-1:2 line@1:8-2:1 c@2:2-2:3"),
+    ("a # b \\\n c", "a@1:1-1:2 line@1:8-2:1 c@2:2-2:3"),
+    ("# é ? \" $ @\na", "a@2:1-2:2"),
+    ("a\n# b\n\n  # c\nd", "a@1:1-1:2 line@1:2-2:1 d@5:1-5:2"),
+    ("@ a", "before<a>@1:1-1:4"),
+    ("@", "before<>@1:1-1:2"),
+    ("@ \t a  b \t", "before<a  b>@1:1-1:11"),
+    ("@ \t \na", "before<>@1:1-2:1 a@2:1-2:2"),
+    ("@ é \n", "before<é>@1:1-2:1"),
+    ("@ a\nb", "before<a>@1:1-2:1 b@2:1-2:2"),
+    ("@ a\r\nb", "before<a>@1:1-2:1 b@2:1-2:2"),
+    ("@ a\n\n \n# c\nb", "before<a>@1:1-2:1 b@5:1-5:2"),
+    (
+        "@ a\n@ b\nc",
+        "before<a>@1:1-2:1 before<b>@2:1-3:1 c@3:1-3:2",
+    ),
+    (
+        "a\n@ b\nc",
+        "a@1:1-1:2 line@1:2-2:1 before<b>@2:1-3:1 c@3:1-3:2",
+    ),
+    ("@ a # b \\\nc", "before<a # b \\>@1:1-2:1 c@2:1-2:2"),
+    ("@ < a", "before<< a>@1:1-1:6"),
+    ("@< a", "after<a>@1:1-1:5"),
+    ("@<", "after<>@1:1-1:3"),
+    ("@<\ta \r\n", "after<a>@1:1-1:6"),
+    (
+        "a @< b\nc",
+        "a@1:1-1:2 after<b>@1:3-1:7 line@1:7-2:1 c@2:1-2:2",
+    ),
+    (
+        "a\n@< b\nc",
+        "a@1:1-1:2 after<b>@2:1-2:5 line@2:5-3:1 c@3:1-3:2",
+    ),
+    (
+        "a, @< b\nc",
+        "a@1:1-1:2 mark.11@1:2-1:3 after<b>@1:4-1:8 c@2:1-2:2",
+    ),
+    (
+        "a; @< b\n@< c\n\nd",
+        "a@1:1-1:2 mark.14@1:2-1:3 after<b>@1:4-1:8 after<c>@2:1-2:5 d@4:1-4:2",
+    ),
+    (
+        "a,\n\n @< b\nc",
+        "a@1:1-1:2 mark.11@1:2-1:3 after<b>@3:2-3:6 c@4:1-4:2",
+    ),
+    (
+        "a: @< b\nc",
+        "a@1:1-1:2 mark.13@1:2-1:3 after<b>@1:4-1:8 line@1:8-2:1 c@2:1-2:2",
+    ),
+    (
+        "a @< b\n@< c\nd",
+        "a@1:1-1:2 after<b>@1:3-1:7 after<c>@2:1-2:5 line@2:5-3:1 d@3:1-3:2",
+    ),
+    (
+        "a, @< b\n)\nc",
+        "a@1:1-1:2 mark.11@1:2-1:3 after<b>@1:4-1:8 mark.1@2:1-2:2 line@2:2-3:1 c@3:1-3:2",
+    ),
+    (
+        "@ a\n@< b\nc",
+        "before<a>@1:1-2:1 after<b>@2:1-2:5 line@2:5-3:1 c@3:1-3:2",
+    ),
 ];
+
+/// Bytes that are no text, and what comes of each.
+static BYTES: [(&[u8], &str); 17] = [
+    (b"a\xff", "L1 bad character@1:2"),
+    (b"\xc3", "L1 bad character@1:1"),
+    (b"# a\xc3\n", "L1 bad character@1:4"),
+    (b"# \xc3\xa9\xff\n", "L1 bad character@1:5"),
+    (b"a\n# \xe2\x82 b", "L1 bad character@2:3"),
+    (b"@ a\xff", "L1 bad character@1:4"),
+    (b"@< \xed\xa0\x80", "L1 bad character@1:4"),
+    (b"a ? # \xff", "L1 bad character@1:3"),
+    (b"# \xff\n ?", "L1 bad character@1:3"),
+    (
+        b"170141183460469231731687303715884105728 # \xff",
+        "L4 number too large@1:1",
+    ),
+    (
+        b"# \xff\n170141183460469231731687303715884105728",
+        "L1 bad character@1:3",
+    ),
+    (b"a\xc3\xa9", "L1 bad character@1:2"),
+    (b"\"\xff\"", "L1 bad character@1:2"),
+    (b"\"\xff", "L2 open string@1:1"),
+    (b"\"\\\xff\"", "L1 bad character@1:3"),
+    (b"$\xff", "L1 bad character@1:1"),
+    (b"\\\xff", "L1 bad character@1:1"),
+];
+
+#[test]
+fn refuses_bytes_that_are_no_text(rt: HostRuntime) -> Result<(), Fail> {
+    for (bytes, want) in BYTES.iter() {
+        let found = rendered(rt.alloc(), bytes)?;
+        assert_eq!(rt; found.as_str(), *want, "at {bytes:?}");
+    }
+    Ok(())
+}
 
 #[test]
 fn cuts_texts(rt: HostRuntime) -> Result<(), Fail> {
@@ -153,20 +334,22 @@ fn cuts_texts(rt: HostRuntime) -> Result<(), Fail> {
     Ok(())
 }
 
-/// The bytes that may stand behind a name: letters, digits, `_`, the marks, blanks and the newline.
+/// The bytes that may stand behind a name: letters, digits, `_`, the marks, blanks, the newline, and what begins a comment or an
+/// annotation.
 static BYTES_OF_TEXTS: &str =
-    "ABCDEFGHIJKLMNOPQRSTUVWXYZabcdefghijklmnopqrstuvwxyz_0123456789()[]{}*/+-,.:;= \t\n";
+    "ABCDEFGHIJKLMNOPQRSTUVWXYZabcdefghijklmnopqrstuvwxyz_0123456789()[]{}*/+-,.:;= \t\n#@";
 
 #[test]
 fn refuses_bytes(rt: HostRuntime) -> Result<(), Fail> {
     for byte in 0..=255u8 {
         let found = rendered(rt.alloc(), &[b'a', byte])?;
         let begins = BYTES_OF_TEXTS.as_bytes().contains(&byte);
-        assert_eq!(rt;
-            found.as_str() == "L1 bad character@1:2",
-            !begins,
-            "at {byte}"
-        );
+        let wanted = if byte == b'"' {
+            "L2 open string@1:2"
+        } else {
+            "L1 bad character@1:2"
+        };
+        assert_eq!(rt; found.as_str() == wanted, !begins, "at {byte}");
     }
     Ok(())
 }

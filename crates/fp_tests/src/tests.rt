@@ -72,7 +72,7 @@ fn checked<R: Threads + Wait + Sync>(
 }
 
 /// What `check a.fpp` writes, and its status, where nothing fails.
-const ROWS: [(&str, &str, &str, Status); 24] = [
+const ROWS: [(&str, &str, &str, Status); 29] = [
     ("", "", "", Status::Done),
     ("constant a = 16", "constant a = 16\n", "", Status::Done),
     ("constant a = 16\n", "constant a = 16\n", "", Status::Done),
@@ -121,26 +121,56 @@ const ROWS: [(&str, &str, &str, Status); 24] = [
     (
         "constant a = \"x\n",
         "",
-        "a.fpp:1:14: L1 bad character\n",
+        "a.fpp:1:14: L2 open string\n",
         Status::Refused,
     ),
     (
         "constant a = 1 # c\n",
+        "constant a = 1\n",
         "",
-        "a.fpp:1:16: L1 bad character\n",
-        Status::Refused,
+        Status::Done,
     ),
     (
         "constant a = 1.5\n",
         "",
-        "a.fpp:1:15: G1 unexpected token\n",
+        "a.fpp:1:14: G1 unexpected token\n",
         Status::Refused,
     ),
     (
         "constant a = 0x10\n",
+        "constant a = 16\n",
         "",
-        "a.fpp:1:15: G1 unexpected token\n",
+        Status::Done,
+    ),
+    (
+        "constant a = \"x\"\n",
+        "",
+        "a.fpp:1:14: G1 unexpected token\n",
         Status::Refused,
+    ),
+    (
+        "constant a = \"\"\"x\n\"\"",
+        "",
+        "a.fpp:1:14: L2 open string\n",
+        Status::Refused,
+    ),
+    (
+        "constant a = \"\"\"x\\\n\"\"\"",
+        "",
+        "a.fpp:1:18: L3 bad escape\n",
+        Status::Refused,
+    ),
+    (
+        "@ b\nconstant a = 1\n",
+        "",
+        "a.fpp:1:1: G1 unexpected token\n",
+        Status::Refused,
+    ),
+    (
+        "constant $port \\\n = 1\n",
+        "constant port = 1\n",
+        "",
+        Status::Done,
     ),
     (
         "constant a = 170141183460469231731687303715884105727",

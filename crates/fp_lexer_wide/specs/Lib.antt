@@ -1,5 +1,0 @@
-pub mod Bytes
-pub mod Words
-pub mod Tokens
-pub mod Broken
-pub mod Scan
