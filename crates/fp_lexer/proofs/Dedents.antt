@@ -11,7 +11,7 @@ use Rattle.fp_lexer.proofs.Runs.{bool_cases, cond_true, cond_false, and_left}
 use Rattle.fp_lexer.proofs.Lines.{newline_forms}
 use Rattle.fp_lexer.proofs.Copies.{stays}
 
-and_none : (b : Bool) → (b && false) ≡ false
+pub and_none : (b : Bool) → (b && false) ≡ false
 and_none true = refl
 and_none false = refl
 

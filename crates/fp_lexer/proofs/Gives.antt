@@ -14,7 +14,7 @@ use Rattle.fp_lexer.specs.declared.shape.Shape.{Shape}
 use Rattle.fp_lexer.specs.declared.shape.Shape.TheVariants as shape
 use Rattle.fp_lexer.specs.declared.token.Word.{Word}
 use Rattle.fp_lexer.specs.declared.token.Word.TheVariants.{Name, Reserved, Number, Str, Before, After}
-use Rattle.fp_lexer.proofs.Runs.{bool_cases, cond_true, cond_false, run_value-is, run_hex-is, and_left, and_right}
+use Rattle.fp_lexer.proofs.Runs.{cond_true, cond_false, run_value-is, run_hex-is, and_left, and_right}
 use Rattle.fp_lexer.proofs.Lines.{line_splits, line_takes, newline_forms}
 use Rattle.fp_lexer.proofs.FirstBytes.{digit_first}
 use Rattle.fp_lexer.proofs.Lined.{is_lead, lined_longest, lead_none, quoted, long_quoted}

@@ -1,18 +1,17 @@
 -- The string between `"""` at an offset of a text, from what the parts of the lexer say.
-use Rattle.std.proofs.Common.{◌≡◌, ℕ, ◌<◌, ◌≤◌, ◌+◌, ◌-◌, List, [], ◌∷◌, ◌++◌, length, take, drop, get_or, Some, None, Ok, Option, sym, ap, ◌∙◌, arith, refl, true, false, subst, ◌&&◌, length-append, length-drop, get_or-drop, append_assoc, drop-drop, take_at, inl, inr}
+use Rattle.std.proofs.Common.{◌≡◌, ℕ, ◌<◌, ◌≤◌, ◌+◌, ◌-◌, List, [], ◌∷◌, ◌++◌, length, take, drop, get_or, Some, None, Ok, sym, ap, ◌∙◌, arith, refl, true, false, subst, ◌&&◌, length-append, get_or-drop, append_assoc, drop-drop, take_at, inr}
 use Rattle.std.specs.Prelude.{◌==◌}
 use Rattle.std.proofs.lemmas.Bool.{eqb-true}
-use Rattle.std.specs.Str.{IsUtf8}
 use Rattle.fp_lexer.specs.Bytes.{long_text, indent_at}
-use Rattle.fp_lexer.specs.Scan.{long_len, bad_len, string_len, part_of, IsPart, IsFlawed, GivesPiece}
-use Rattle.fp_lexer.specs.Broken.{NoneBegins, BadEscapeAt}
-use Rattle.fp_lexer.specs.Tokens.{begins_long, IsLongBody, IsPiece, Piece}
+use Rattle.fp_lexer.specs.Scan.{long_len, bad_len, string_len, IsPart, IsFlawed, GivesPiece}
+use Rattle.fp_lexer.specs.Broken.{NoneBegins}
+use Rattle.fp_lexer.specs.Tokens.{begins_long, IsLongBody, IsPiece}
 use Rattle.fp_base.specs.declared.rule.Rule.TheVariants.{BadEscape}
 use Rattle.fp_lexer.specs.declared.shape.Shape.TheVariants as shape
 use Rattle.fp_lexer.specs.declared.token.Word.TheVariants.{Str}
 use Rattle.fp_lexer.proofs.Runs.{cond_true, and_left, and_right}
 use Rattle.fp_lexer.proofs.Lined.{lined_longest, lead_none, quoted, long_quoted}
-use Rattle.fp_lexer.proofs.LongStrings.{ReadLong, long_sound, long_body, bad_is, bad_first_is, bad_none, bad_within, same_body}
+use Rattle.fp_lexer.proofs.LongStrings.{long_sound, long_body, bad_is, bad_first_is, bad_none, bad_within, same_body}
 use Rattle.fp_lexer.proofs.Parts.{quoted_part}
 use Rattle.fp_lexer.proofs.Gives.{first_is, none_first, long_is, within_from, first_behind}
 

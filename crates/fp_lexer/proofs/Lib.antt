@@ -20,3 +20,4 @@ pub mod Rises
 pub mod First
 pub mod State
 pub mod Unique
+pub mod SameWords

@@ -1,5 +1,5 @@
 -- Strings between `"""`: one at most at a place, and the first bad escape in it.
-use Rattle.std.proofs.Common.{◌≡◌, ℕ, ◌<◌, ◌≤◌, ◌+◌, List, [], ◌∷◌, ◌++◌, length, drop, get_or, Some, None, Option, sym, ap, ◌∙◌, arith, suc, zero, refl, cond, true, false, Bool, not, ◌||◌, ◌&&◌, subst, length-append}
+use Rattle.std.proofs.Common.{◌≡◌, ℕ, ◌<◌, ◌≤◌, ◌+◌, List, [], ◌∷◌, ◌++◌, length, drop, get_or, Some, None, Option, sym, ap, ◌∙◌, arith, suc, zero, refl, true, false, Bool, not, ◌&&◌, length-append}
 use Rattle.std.specs.Prelude.{◌==◌, slice_index, nat_lt, ◌-◌}
 use Rattle.std.proofs.lemmas.Bool.{eqb-true, ne_eqb, ltb-true}
 use Rattle.std.proofs.lemmas.List.{drop_more, drop_all}

@@ -115,7 +115,7 @@ meant w (Some (Str t)) s d = absurd s
 meant w (Some (Before t)) s d = absurd s
 meant w (Some (After t)) s d = absurd s
 
-spelled_same : (w : List ℕ) (a b : Option Word) → Spelled w a → Spelled w b → a ≡ b
+pub spelled_same : (w : List ℕ) (a b : Option Word) → Spelled w a → Spelled w b → a ≡ b
 spelled_same w a b s t = bool_cases (digit_first w) _
     (λ e. numeral_same w a b (numeral_of w a s e) (numeral_of w b t e))
     (λ e. sym (meant w a s e) ∙ meant w b t e)

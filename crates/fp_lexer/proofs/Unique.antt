@@ -20,7 +20,7 @@ same_piece text p q i j e =
     let c : record { what = q.what; from = q.from; past = p.past } ≡ q = ap (λ (x : ℕ). record { what = q.what; from = q.from; past = x }) past in
     a ∙ b ∙ c
 
-same_pieces : (text : List ℕ) (a b c : ℕ) (ps qs : List Piece) → a ≡ b → Cuts text a ps c → Cuts text b qs c → ps ≡ qs
+pub same_pieces : (text : List ℕ) (a b c : ℕ) (ps qs : List Piece) → a ≡ b → Cuts text a ps c → Cuts text b qs c → ps ≡ qs
 same_pieces text a b c [] [] e p q = refl
 same_pieces text a b c [] (r ∷ qs) e p q = let g = piece_grows text r q.1 in let u = cuts_up text r.past c qs q.2 in let f = q.0 in absurd (omega (arith, g, u, f, e, p))
 same_pieces text a b c (r ∷ ps) [] e p q = let g = piece_grows text r p.1 in let u = cuts_up text r.past c ps p.2 in let f = p.0 in absurd (omega (arith, g, u, f, e, q))

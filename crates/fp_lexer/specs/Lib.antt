@@ -2,4 +2,5 @@ pub mod Bytes
 pub mod Words
 pub mod Tokens
 pub mod Broken
+pub mod Alike
 pub mod Scan

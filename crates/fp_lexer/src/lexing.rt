@@ -3,6 +3,7 @@ ghost use Rattle.std.specs.Str.Lossy.{utf8_valid_len};
 ghost use Rattle.fp_base.specs.Places.{place_at};
 ghost use Rattle.fp_base.specs.declared.refusal.Stop.TheVariants.{Broken};
 ghost use Rattle.fp_lexer.specs.Tokens.{Lexed, Rising};
+ghost use Rattle.fp_lexer.specs.Alike.{DifferInBlanks, words_of};
 ghost use Rattle.fp_lexer.specs.Broken.{IsStop, IsUnbroken, ComesBefore, longest_text};
 ghost use Rattle.fp_lexer.specs.Scan.{IsFirstFlaw};
 ghost use Rattle.fp_lexer.specs.declared.token.Token.{Token};
@@ -154,4 +155,9 @@ pub fn spans_rise()
 /// Of two offsets in a text the lesser has the place that comes before the other's.
 pub fn places_rise()
     ensures { (file : ℕ) (text : List ℕ) (a b : ℕ) → a < b → b ≤ length text → ComesBefore (place_at file text a) (place_at file text b) }
+{}
+
+/// Two texts that differ only in comments and blanks have the same words.
+pub fn same_words()
+    ensures { (file other : ℕ) (text changed : List ℕ) (a b : List Token) → DifferInBlanks text changed → Lexed file text a → Lexed other changed b → words_of a ≡ words_of b }
 {}

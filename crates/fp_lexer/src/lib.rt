@@ -12,5 +12,5 @@ mod tests;
 mod token;
 mod words;
 
-pub use lexing::{lex, one_lexing, places_rise, spans_rise};
+pub use lexing::{lex, one_lexing, places_rise, same_words, spans_rise};
 pub use token::{Token, Word};

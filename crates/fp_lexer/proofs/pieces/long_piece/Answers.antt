@@ -1,6 +1,5 @@
-use Rattle.std.proofs.Common.{sym, ◌∙◌, refl, arith, ap}
-use Rattle.fp_lexer.specs.Scan.{bad_len}
-use Rattle.fp_lexer.proofs.GivesLong.{LongRead, long_read, bad_flaw, bad_in_text, gives_long, unclosed}
+use Rattle.std.proofs.Common.{sym, refl, arith}
+use Rattle.fp_lexer.proofs.GivesLong.{long_read, bad_flaw, bad_in_text, gives_long, unclosed}
 use Rattle.fp_lexer.proofs.pieces.long_piece.Goals as goal
 
 pub overflow_add-at-in-Some-bad_escape-2 : goal.overflow_add-at-in-Some-bad_escape-2

@@ -1,7 +1,7 @@
-use Rattle.std.proofs.Common.{◌≡◌, List, ℕ, [], ◌++◌, ◌+◌, ◌-◌, take, drop, sym, ap, ◌∙◌, arith, subst, refl, cond}
+use Rattle.std.proofs.Common.{◌≡◌, List, ℕ, [], ◌++◌, ◌+◌, ◌-◌, take, drop, sym, ap, ◌∙◌, arith, subst, cond}
 use Rattle.std.specs.Str.{IsCharBoundary}
 use Rattle.std.specs.Prelude.{◌==◌}
-use Rattle.fp_lexer.specs.Bytes.{dedent, newline_len}
+use Rattle.fp_lexer.specs.Bytes.{dedent}
 use Rattle.fp_lexer.specs.Scan.{spaces}
 use Rattle.fp_lexer.proofs.Dedents.{starts, starts_part, dedent_front, other_byte, newline_byte, newline_part, spaces_part}
 use Rattle.fp_lexer.proofs.shape.dedented.Goals as goal
