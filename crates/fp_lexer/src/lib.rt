@@ -7,8 +7,6 @@ mod newlines;
 mod pieces;
 mod scan;
 mod shape;
-#[cfg(test)]
-mod tests;
 mod token;
 mod words;
 

@@ -1,6 +1,7 @@
-use super::*;
-use fp_base::{NoMemory, Row, Stop};
+use fp_base::{Row, Stop};
+use fp_lexer::{Token, Word, lex, one_lexing, places_rise, same_words, spans_rise};
 use std::alloc::{AllocError, Global};
+use std::process::Abort;
 use std::test::Fail;
 
 fn rendered_word(alloc: Global, word: &Word) -> Result<String, AllocError> {
@@ -54,8 +55,8 @@ fn rendered(alloc: Global, text: &[u8]) -> Result<String, AllocError> {
     }
 }
 
-/// Texts, and what comes of each.
-static TEXTS: [(&str, &str); 147] = [
+/// Blanks, newlines and marks, and what comes of each.
+static NEWLINES_AND_MARKS: [(&str, &str); 39] = [
     ("", ""),
     ("\n", ""),
     ("\n\n\r\n \t\n", ""),
@@ -107,6 +108,10 @@ static TEXTS: [(&str, &str); 147] = [
         "()[]{}*/+-->,.:;=",
         "mark.0@1:1-1:2 mark.1@1:2-1:3 mark.2@1:3-1:4 mark.3@1:4-1:5 mark.4@1:5-1:6 mark.5@1:6-1:7 mark.6@1:7-1:8 mark.7@1:8-1:9 mark.8@1:9-1:10 mark.9@1:10-1:11 mark.10@1:11-1:13 mark.11@1:13-1:14 mark.12@1:14-1:15 mark.13@1:15-1:16 mark.14@1:16-1:17 mark.15@1:17-1:18",
     ),
+];
+
+/// Numbers and floats, and what comes of each.
+static NUMBERS: [(&str, &str); 32] = [
     ("1.5", "float@1:1-1:4"),
     ("1.", "float@1:1-1:3"),
     ("1.e5", "float@1:1-1:5"),
@@ -163,6 +168,10 @@ static TEXTS: [(&str, &str); 147] = [
         "000000000000000000000000000000000000000000000000001",
         "1@1:1-1:52",
     ),
+];
+
+/// Names and reserved words, and what comes of each.
+static NAMES: [(&str, &str); 10] = [
     ("\ta\t b", "a@1:2-1:3 b@1:5-1:6"),
     ("_", "_@1:1-1:2"),
     ("_a1 A_9", "_a1@1:1-1:4 A_9@1:5-1:8"),
@@ -182,6 +191,10 @@ static TEXTS: [(&str, &str); 147] = [
         "170141183460469231731687303715884105728 ?",
         "L4 number too large@1:1",
     ),
+];
+
+/// Strings on one line, and what comes of each.
+static STRINGS: [(&str, &str); 21] = [
     ("a \" b", "L2 open string@1:3"),
     ("\"\"", "text<>@1:1-1:3"),
     ("\"a b\"c", "text<a b>@1:1-1:6 c@1:6-1:7"),
@@ -206,6 +219,10 @@ static TEXTS: [(&str, &str); 147] = [
         "a, \"\"\n\"b\"",
         "a@1:1-1:2 mark.11@1:2-1:3 text<>@1:4-1:6 line@1:6-2:1 text<b>@2:1-2:4",
     ),
+];
+
+/// What begins no token, names behind `$`, continuations, and what comes of each.
+static SIGNS: [(&str, &str); 14] = [
     ("é", "L1 bad character@1:1"),
     ("$a", "a@1:1-1:3"),
     (
@@ -223,6 +240,10 @@ static TEXTS: [(&str, &str); 147] = [
     ("a \\ \n b", "L1 bad character@1:3"),
     ("a \\\r b", "L1 bad character@1:3"),
     ("\\", "L1 bad character@1:1"),
+];
+
+/// Comments and annotations, and what comes of each.
+static NOTES: [(&str, &str); 31] = [
     ("# a", ""),
     ("a # b\n c", "a@1:1-1:2 line@1:6-2:1 c@2:2-2:3"),
     ("a # b\r\n c", "a@1:1-1:2 line@1:6-2:1 c@2:2-2:3"),
@@ -289,8 +310,82 @@ static TEXTS: [(&str, &str); 147] = [
     ),
 ];
 
+/// Strings between `"""`, and what comes of each.
+static LONG_STRINGS: [(&str, &str); 49] = [
+    ("\"\"\"\"\"\"", "text<>@1:1-1:7"),
+    ("\"\"\"a\" b\"\"c\"\"\"", "text<a\" b\"\"c>@1:1-1:14"),
+    ("\"\"\"a\"\"\"b", "text<a>@1:1-1:8 b@1:8-1:9"),
+    ("\"\"\"a\"\"\"\"", "L2 open string@1:8"),
+    ("\"\"\"a\"\"\"\"\"", "text<a>@1:1-1:8 text<>@1:8-1:10"),
+    (
+        "\"\"\"a\"\"\"\"\"\"b\"\"\"",
+        "text<a>@1:1-1:8 text<b>@1:8-1:15",
+    ),
+    ("\"\"\"\\\"\"\"\"", "text<\">@1:1-1:9"),
+    ("\"\"\"\\\"\"\"\"\"\"", "text<\">@1:1-1:9 text<>@1:9-1:11"),
+    ("\"\"\"a\\\\\"\"\"", "text<a\\>@1:1-1:10"),
+    ("\"\"\"a\\n\\é\"\"\"", "text<ané>@1:1-1:13"),
+    ("\"\"\"# a\n@ b\"\"\"", "text<# a\n@ b>@1:1-2:7"),
+    ("\"\"\"\na\"\"\"", "text<a>@1:1-2:5"),
+    ("\"\"\"\r\na\"\"\"", "text<a>@1:1-2:5"),
+    ("\"\"\"\n\na\"\"\"", "text<\na>@1:1-3:5"),
+    ("\"\"\" \na\"\"\"", "text< \na>@1:1-2:5"),
+    (
+        "x = \"\"\"\n      a\n     b\n    c\n   d\n    \"\"\"",
+        "x@1:1-1:2 mark.15@1:3-1:4 text<  a\n b\nc\nd\n>@1:5-6:8",
+    ),
+    ("  \"\"\"  a\n  b\"\"\"", "text<  a\nb>@1:3-2:7"),
+    ("  \"\"\"\n\ta\n \tb\"\"\"", "text<\ta\n\tb>@1:3-3:7"),
+    ("\"\"\"\n  a\"\"\"", "text<  a>@1:1-2:7"),
+    (
+        "\"é\" \"\"\"\n      a\"\"\"",
+        "text<é>@1:1-1:5 text< a>@1:6-2:11",
+    ),
+    ("\t\"\"\"\n  a\"\"\"", "text< a>@1:2-2:7"),
+    ("  \"\"\"\n  \\  a\"\"\"", "text<  a>@1:3-2:10"),
+    ("  \"\"\"\n \\  a\"\"\"", "text<  a>@1:3-2:9"),
+    ("\\\n  \"\"\"\n   a\"\"\"", "text< a>@2:3-3:8"),
+    ("\"\"\"a\r\nb\"\"\"", "text<a\r\nb>@1:1-2:5"),
+    (" \"\"\"a\r\n  b\"\"\"", "text<a\r\n b>@1:2-2:7"),
+    ("\"\"\"a\rb\"\"\"", "text<a\rb>@1:1-1:10"),
+    (
+        "\"\"\"\na\n\"\"\"\nb",
+        "text<a\n>@1:1-3:4 line@3:4-4:1 b@4:1-4:2",
+    ),
+    (
+        "a, \"\"\"b\"\"\"\n@< c\nd",
+        "a@1:1-1:2 mark.11@1:2-1:3 text<b>@1:4-1:11 after<c>@2:1-2:5 line@2:5-3:1 d@3:1-3:2",
+    ),
+    ("\"\"\"", "L2 open string@1:1"),
+    ("\"\"\"\"", "L2 open string@1:1"),
+    ("\"\"\"\"\"", "L2 open string@1:1"),
+    ("\"\"\"a\n\n", "L2 open string@1:1"),
+    ("x\n  \"\"\"a\n\"\"", "L2 open string@2:3"),
+    ("\"\"\"a\\\"\"\"", "L2 open string@1:1"),
+    ("\"\"\"a\\", "L2 open string@1:1"),
+    ("\"\"\"a\\\nb", "L2 open string@1:1"),
+    ("\"\"\"a\\\nb\"\"\"", "L3 bad escape@1:5"),
+    ("\"\"\"a\\\r\nb\"\"\"", "L3 bad escape@1:5"),
+    ("\"\"\"\\\n\"\"\"", "L3 bad escape@1:4"),
+    ("\"\"\"\n\\\n\\\n\"\"\"", "L3 bad escape@2:1"),
+    ("\"\"\"a\\\\\nb\"\"\"", "text<a\\\nb>@1:1-2:5"),
+    ("\"\"\"a\\\\\\\nb\"\"\"", "L3 bad escape@1:7"),
+    ("\"\"\"a\\\rb\"\"\"", "text<a\rb>@1:1-1:11"),
+    ("\"\"\"\\\n\"\"\" ?", "L3 bad escape@1:4"),
+    ("? \"\"\"\\\n\"\"\"", "L1 bad character@1:1"),
+    (
+        "170141183460469231731687303715884105728 \"\"\"\\\n\"\"\"",
+        "L4 number too large@1:1",
+    ),
+    (
+        "\"\"\"\\\n\"\"\" 170141183460469231731687303715884105728",
+        "L3 bad escape@1:4",
+    ),
+    ("\"\"\"a\\ \n\"\"\"", "text<a \n>@1:1-2:4"),
+];
+
 /// Bytes that are no text, and what comes of each.
-static BYTES: [(&[u8], &str); 17] = [
+static BYTES: [(&[u8], &str); 23] = [
     (b"a\xff", "L1 bad character@1:2"),
     (b"\xc3", "L1 bad character@1:1"),
     (b"# a\xc3\n", "L1 bad character@1:4"),
@@ -314,6 +409,12 @@ static BYTES: [(&[u8], &str); 17] = [
     (b"\"\\\xff\"", "L1 bad character@1:3"),
     (b"$\xff", "L1 bad character@1:1"),
     (b"\\\xff", "L1 bad character@1:1"),
+    (b"\"\"\"\xff\"\"\"", "L1 bad character@1:4"),
+    (b"\"\"\"\xff", "L2 open string@1:1"),
+    (b"\"\"\"\xff\\\n\"\"\"", "L1 bad character@1:4"),
+    (b"\"\"\"\\\n\xff\"\"\"", "L3 bad escape@1:4"),
+    (b"\"\"\"\\\xff\"\"\"", "L1 bad character@1:5"),
+    (b"# \xff\n\"\"\"\\\n\"\"\"", "L1 bad character@1:3"),
 ];
 
 #[test]
@@ -325,13 +426,48 @@ fn refuses_bytes_that_are_no_text(rt: HostRuntime) -> Result<(), Fail> {
     Ok(())
 }
 
-#[test]
-fn cuts_texts(rt: HostRuntime) -> Result<(), Fail> {
-    for (text, want) in TEXTS.iter() {
-        let found = rendered(rt.alloc(), text.as_bytes())?;
+/// Asserts of each text what comes of it.
+fn assert_cut(rt: &impl Abort, alloc: Global, texts: &[(&str, &str)]) -> Result<(), AllocError> {
+    for (text, want) in texts.iter() {
+        let found = rendered(alloc, text.as_bytes())?;
         assert_eq!(rt; found.as_str(), *want, "at {text:?}");
     }
     Ok(())
+}
+
+#[test]
+fn cuts_newlines_and_marks(rt: HostRuntime) -> Result<(), AllocError> {
+    assert_cut(&rt, rt.alloc(), &NEWLINES_AND_MARKS)
+}
+
+#[test]
+fn cuts_numbers(rt: HostRuntime) -> Result<(), AllocError> {
+    assert_cut(&rt, rt.alloc(), &NUMBERS)
+}
+
+#[test]
+fn cuts_names(rt: HostRuntime) -> Result<(), AllocError> {
+    assert_cut(&rt, rt.alloc(), &NAMES)
+}
+
+#[test]
+fn cuts_strings(rt: HostRuntime) -> Result<(), AllocError> {
+    assert_cut(&rt, rt.alloc(), &STRINGS)
+}
+
+#[test]
+fn cuts_signs(rt: HostRuntime) -> Result<(), AllocError> {
+    assert_cut(&rt, rt.alloc(), &SIGNS)
+}
+
+#[test]
+fn cuts_notes(rt: HostRuntime) -> Result<(), AllocError> {
+    assert_cut(&rt, rt.alloc(), &NOTES)
+}
+
+#[test]
+fn cuts_long_strings(rt: HostRuntime) -> Result<(), AllocError> {
+    assert_cut(&rt, rt.alloc(), &LONG_STRINGS)
 }
 
 /// The bytes that may stand behind a name: letters, digits, `_`, the marks, blanks, the newline, and what begins a comment or an
@@ -354,17 +490,44 @@ fn refuses_bytes(rt: HostRuntime) -> Result<(), Fail> {
     Ok(())
 }
 
-#[test]
-fn refuses_long_texts(rt: HostRuntime) -> Result<(), Fail> {
-    let mut text = Vec::new(rt.alloc());
-    for _ in 0..4_194_304 {
+/// Beginnings of texts that are too long, and what comes of each.
+static LONG: [(&str, &str); 3] = [
+    ("a", "L5 text too long@1:1"),
+    ("?", "L1 bad character@1:1"),
+    ("\"\"\"\\\n\"\"\"", "L5 text too long@1:1"),
+];
+
+/// A text of so many bytes: a beginning, and then spaces.
+fn long_text(alloc: Global, first: &str, length: usize) -> Result<Vec<u8>, AllocError> {
+    let mut text = Vec::new(alloc);
+    for byte in first.as_bytes() {
+        text.push(*byte)?;
+    }
+    for _ in first.len()..length {
         text.push(b' ')?;
     }
-    assert_eq!(rt; rendered(rt.alloc(), text.as_slice())?.as_str(), "");
-    text.push(b'a')?;
+    Ok(text)
+}
+
+#[test]
+fn refuses_long_texts(rt: HostRuntime) -> Result<(), Fail> {
+    let longest = long_text(rt.alloc(), "a", 4_194_304)?;
     assert_eq!(rt;
-        rendered(rt.alloc(), text.as_slice())?.as_str(),
-        "L5 text too long@1:1"
+        rendered(rt.alloc(), longest.as_slice())?.as_str(),
+        "a@1:1-1:2"
     );
+    for (first, want) in LONG.iter() {
+        let text = long_text(rt.alloc(), first, 4_194_305)?;
+        let found = rendered(rt.alloc(), text.as_slice())?;
+        assert_eq!(rt; found.as_str(), *want, "at {first:?}");
+    }
     Ok(())
+}
+
+#[test]
+fn laws_can_be_cited(_rt: HostRuntime) {
+    one_lexing();
+    spans_rise();
+    places_rise();
+    same_words();
 }
