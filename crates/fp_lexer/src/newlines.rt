@@ -15,7 +15,7 @@ const ELSE: u8 = 24;
 pub enum Standing {
     Counts,
     Ignored,
-    /// It is ignored, and only annotation of what stands befores stand between it and a separator.
+    /// It is ignored, and only annotations of what stands before stand between it and a separator.
     Separated,
     /// One was read, and counts unless what follows lets it be ignored.
     Pending(Span),
@@ -74,7 +74,7 @@ fn after_mark(mark: u8) -> Standing
     }
 }
 
-/// What a newline would mean after a annotation of what stands before.
+/// What a newline would mean after an annotation of what stands before.
 fn after_post(before: Standing) -> Standing
     ensures { result ≡ standing (after_post (ground_of before)) }
 {
