@@ -4,8 +4,8 @@ use Rattle.std.specs.Prelude.{◌==◌, slice_index}
 use Rattle.std.proofs.lemmas.Bool.{eqb-true}
 use Rattle.fp_base.specs.declared.place.Span.{Span}
 use Rattle.fp_lexer.specs.Bytes.{line, newline_of, newline_len, newline_at, trimmed, body_text, long_text, indent_at}
-use Rattle.fp_lexer.specs.Tokens.{Spells, Lined, OneLine, ManyLines, begins_long, IsPiece, Piece, Cuts, Lexed, kept, ignored, tokens_of, with_token, span_at, is_newline, ignored_by_rest, ignored_before, ignores, Ground, after, after_newline}
-use Rattle.fp_lexer.specs.Alike.{bytes_of, with_piece, token_pieces, WrittenAlike, AllAlike, DifferInBlanks, words_of}
+use Rattle.fp_lexer.specs.Tokens.{Spells, Lined, OneLine, ManyLines, begins_long, IsPiece, Piece, Cuts, Lexed, kept, tokens_of, with_token, span_at, is_newline, ignored_by_rest, ignored_before, ignores, Ground, counts, ignored, separated, after, after_newline}
+use Rattle.fp_lexer.specs.Alike.{bytes_of, seen, token_pieces, WrittenAlike, AllAlike, DifferInBlanks, words_of}
 use Rattle.fp_lexer.specs.declared.token.Word.{Word}
 use Rattle.fp_lexer.specs.declared.token.Word.TheVariants.{Name, Reserved, Number, Float, Str, Mark, Newline, Before, After}
 use Rattle.fp_lexer.specs.declared.token.Token.{Token}
@@ -165,22 +165,40 @@ cuts_pieces : (text : List ℕ) (from to : ℕ) (ps : List Piece) → Cuts text 
 cuts_pieces text from to [] c = tt
 cuts_pieces text from to (p ∷ ps) c = (c.1, cuts_pieces text p.past to ps c.2)
 
-with_pieces : (text : List ℕ) (what : Option Word) (p : Piece) (ps : List Piece) → IsPiece text p → AllPieces text ps → AllPieces text (with_piece what p ps)
-with_pieces text None p ps i a = a
-with_pieces text (Some w) p ps i a = (i, a)
+seen_pieces : (text : List ℕ) (behind : Bool) (what : Option Word) (p : Piece) (rest : Bool → List Piece) → IsPiece text p → ((b : Bool) → AllPieces text (rest b)) → AllPieces text (seen behind what p rest)
+seen_pieces text behind None p rest i a = a behind
+seen_pieces text behind (Some w) p rest i a = by_newline (is_newline w) behind
+  where
+    by_newline : (n b : Bool) → AllPieces text (cond n (cond b (rest true) (p ∷ rest true)) (p ∷ rest false))
+    by_newline true true = a true
+    by_newline true false = (i, a true)
+    by_newline false b = (i, a false)
 
-token_pieces_are : (text : List ℕ) (ps : List Piece) → AllPieces text ps → AllPieces text (token_pieces ps)
-token_pieces_are text [] a = tt
-token_pieces_are text (p ∷ ps) a = with_pieces text p.what p (token_pieces ps) a.0 (token_pieces_are text ps a.1)
+token_pieces_are : (text : List ℕ) (behind : Bool) (ps : List Piece) → AllPieces text ps → AllPieces text (token_pieces behind ps)
+token_pieces_are text behind [] a = tt
+token_pieces_are text behind (p ∷ ps) a = seen_pieces text behind p.what p (λ b. token_pieces b ps) a.0 (λ b. token_pieces_are text b ps a.1)
 
--- blanks have no words
-with_same : (what : Option Word) (p : Piece) (ps : List Piece) (ws : List Word) → p.what ≡ what → words_in ps ≡ ws → words_in (with_piece what p ps) ≡ with_word what ws
-with_same None p ps ws e f = f
-with_same (Some w) p ps ws e f = ap (λ (o : Option Word). with_word o (words_in ps)) e ∙ ap (λ (x : List Word). w ∷ x) f
+-- words without newlines that directly follow a newline
+abbrev once : Bool → List Word → List Word
+once behind [] = []
+once behind (w ∷ ws) = cond (is_newline w) (cond behind (once true ws) (w ∷ once true ws)) (w ∷ once false ws)
 
-token_words : (ps : List Piece) → words_in (token_pieces ps) ≡ words_in ps
-token_words [] = refl
-token_words (p ∷ ps) = with_same p.what p (token_pieces ps) (words_in ps) refl (token_words ps)
+seen_words : (behind : Bool) (what : Option Word) (p : Piece) (rest : Bool → List Piece) (ws : List Word) → p.what ≡ what → ((b : Bool) → words_in (rest b) ≡ once b ws)
+    → words_in (seen behind what p rest) ≡ once behind (with_word what ws)
+seen_words behind None p rest ws e f = f behind
+seen_words behind (Some w) p rest ws e f = by_newline (is_newline w) behind
+  where
+    with_first : (us : List Piece) (vs : List Word) → words_in us ≡ vs → words_in (p ∷ us) ≡ w ∷ vs
+    with_first us vs g = ap (λ (o : Option Word). with_word o (words_in us)) e ∙ ap (λ (x : List Word). w ∷ x) g
+
+    by_newline : (n b : Bool) → words_in (cond n (cond b (rest true) (p ∷ rest true)) (p ∷ rest false)) ≡ cond n (cond b (once true ws) (w ∷ once true ws)) (w ∷ once false ws)
+    by_newline true true = f true
+    by_newline true false = with_first (rest true) (once true ws) (f true)
+    by_newline false b = with_first (rest false) (once false ws) (f false)
+
+token_words : (behind : Bool) (ps : List Piece) → words_in (token_pieces behind ps) ≡ once behind (words_in ps)
+token_words behind [] = refl
+token_words behind (p ∷ ps) = seen_words behind p.what p (λ b. token_pieces b ps) (words_in ps) refl (λ b. token_words b ps)
 
 alike_words : (text other : List ℕ) (ps qs : List Piece) → AllPieces text ps → AllPieces other qs → AllAlike text ps other qs → words_in ps ≡ words_in qs
 alike_words text other [] [] i j a = refl
@@ -191,52 +209,98 @@ alike_words text other (p ∷ ps) (q ∷ qs) i j a =
 
 -- ---- the newline rules look at words alone
 
-rest_alike : (ts us : List Token) → words_of ts ≡ words_of us → ignored_by_rest ts ≡ ignored_by_rest us
-rest_alike [] [] e = refl
-rest_alike [] (u ∷ us) e = cc
-rest_alike (t ∷ ts) [] e = cc
-rest_alike (t ∷ ts) (u ∷ us) e =
-    let w : t.what ≡ u.what = cc in
-    let r : words_of ts ≡ words_of us = cc in
-    ap (λ (x : Word). cond (is_newline x) (ignored_by_rest ts) (ignored_before x)) w ∙ ap (λ (v : Bool). cond (is_newline u.what) v (ignored_before u.what)) (rest_alike ts us r)
+-- what comes first behind the newlines is the end, or a word before which they are ignored
+abbrev ends_by : List Word → Bool
+ends_by [] = true
+ends_by (w ∷ ws) = cond (is_newline w) (ends_by ws) (ignored_before w)
+
+-- one word before the rest, by what a newline means there and whether the rest lets it be ignored
+abbrev step : Ground → Word → Bool → List Word → List Word → List Word
+step here w ends skipped plain = cond (is_newline w) (cond (ignores here || ends) skipped (w ∷ skipped)) (w ∷ plain)
+
+abbrev kept_words : Ground → List Word → List Word
+kept_words here [] = []
+kept_words here (w ∷ ws) = step here w (ends_by ws) (kept_words (after_newline here) ws) (kept_words (after here w) ws)
+
+ends_are : (ts : List Token) → ignored_by_rest ts ≡ ends_by (words_of ts)
+ends_are [] = refl
+ends_are (t ∷ ts) = ap (λ (v : Bool). cond (is_newline t.what) v (ignored_before t.what)) (ends_are ts)
 
 words_cond : (b : Bool) (xs ys : List Token) → words_of (cond b xs ys) ≡ cond b (words_of xs) (words_of ys)
 words_cond true xs ys = refl
 words_cond false xs ys = refl
 
--- one word before the rest, by what a newline means there and whether the rest lets it be ignored
-step : Ground → Word → Bool → List Word → List Word → List Word
-step here x ends skipped plain = cond (is_newline x) (cond (ignores here || ends) skipped (x ∷ skipped)) (x ∷ plain)
-
-kept_words : (here : Ground) (t : Token) (ts : List Token) → words_of (kept here (t ∷ ts)) ≡ step here t.what (ignored_by_rest ts) (words_of (kept (after_newline here) ts)) (words_of (kept (after here t.what) ts))
-unfolding step
-kept_words here t ts =
+kept_are : (here : Ground) (ts : List Token) → words_of (kept here ts) ≡ kept_words here (words_of ts)
+kept_are here [] = refl
+kept_are here (t ∷ ts) =
     let skipped = kept (after_newline here) ts in
-    words_cond (is_newline t.what) (cond (ignores here || ignored_by_rest ts) skipped (t ∷ skipped)) (t ∷ kept (after here t.what) ts)
-    ∙ ap (λ (x : List Word). cond (is_newline t.what) x (t.what ∷ words_of (kept (after here t.what) ts))) (words_cond (ignores here || ignored_by_rest ts) skipped (t ∷ skipped))
+    let plain = kept (after here t.what) ts in
+    words_cond (is_newline t.what) (cond (ignores here || ignored_by_rest ts) skipped (t ∷ skipped)) (t ∷ plain)
+    ∙ ap (λ (x : List Word). cond (is_newline t.what) x (t.what ∷ words_of plain)) (words_cond (ignores here || ignored_by_rest ts) skipped (t ∷ skipped))
+    ∙ ap (λ (v : Bool). step here t.what v (words_of skipped) (words_of plain)) (ends_are ts)
+    ∙ ap (λ (x : List Word). step here t.what (ends_by (words_of ts)) x (words_of plain)) (kept_are (after_newline here) ts)
+    ∙ ap (λ (x : List Word). step here t.what (ends_by (words_of ts)) (kept_words (after_newline here) (words_of ts)) x) (kept_are (after here t.what) ts)
 
-step_alike : (here : Ground) (x y : Word) (m n : Bool) (a b c d : List Word) → x ≡ y → m ≡ n → a ≡ b → c ≡ d → step here x m a c ≡ step here y n b d
-step_alike here x y m n a b c d e f g h = cc
+-- ---- newlines in a row are one
 
-kept_alike : (here : Ground) (ts us : List Token) → words_of ts ≡ words_of us → words_of (kept here ts) ≡ words_of (kept here us)
-kept_alike here [] [] e = refl
-kept_alike here [] (u ∷ us) e = cc
-kept_alike here (t ∷ ts) [] e = cc
-kept_alike here (t ∷ ts) (u ∷ us) e =
-    let w : t.what ≡ u.what = cc in
-    let r : words_of ts ≡ words_of us = cc in
-    kept_words here t ts
-    ∙ step_alike here t.what u.what (ignored_by_rest ts) (ignored_by_rest us) (words_of (kept (after_newline here) ts)) (words_of (kept (after_newline here) us)) (words_of (kept (after here t.what) ts)) (words_of (kept (after here u.what) us))
-    w (rest_alike ts us r) (kept_alike (after_newline here) ts us r) (kept_alike (after here t.what) ts us r ∙ ap (λ (x : Word). words_of (kept (after here x) us)) w)
-    ∙ sym (kept_words here u us)
+ends_once : (b : Bool) (ws : List Word) → ends_by (once b ws) ≡ ends_by ws
+ends_once b [] = refl
+ends_once b (w ∷ ws) = bool_cases (is_newline w) _
+    (λ e. ap ends_by (cond_true (is_newline w) (cond b (once true ws) (w ∷ once true ws)) (w ∷ once false ws) e) ∙ by_behind b e (ends_once true ws) ∙ sym (cond_true (is_newline w) (ends_by ws) (ignored_before w) e))
+    (λ e. ap ends_by (cond_false (is_newline w) (cond b (once true ws) (w ∷ once true ws)) (w ∷ once false ws) e) ∙ cond_false (is_newline w) (ends_by (once false ws)) (ignored_before w) e ∙ sym (cond_false (is_newline w) (ends_by ws) (ignored_before w) e))
+  where
+    by_behind : (b : Bool) → is_newline w ≡ true → ends_by (once true ws) ≡ ends_by ws → ends_by (cond b (once true ws) (w ∷ once true ws)) ≡ ends_by ws
+    by_behind true e f = f
+    by_behind false e f = cond_true (is_newline w) (ends_by (once true ws)) (ignored_before w) e ∙ f
+
+stays_ignored : (here : Ground) → ignores here ≡ true → after_newline here ≡ here
+stays_ignored counts e = cc
+stays_ignored ignored e = refl
+stays_ignored separated e = refl
+
+then_ignores : (here : Ground) → ignores (after_newline here) ≡ true
+then_ignores counts = refl
+then_ignores ignored = refl
+then_ignores separated = refl
+
+-- a newline before words of which the first newlines may be left out
+kept_newline : (here : Ground) (w : Word) (ws : List Word) (b : Bool) → is_newline w ≡ true → (b ≡ true → ignores here ≡ true) → ((h : Ground) → ignores h ≡ true → kept_words h (once true ws) ≡ kept_words h ws)
+    → kept_words here (cond b (once true ws) (w ∷ once true ws)) ≡ kept_words here (w ∷ ws)
+kept_newline here w ws true e i f =
+    let skipped = kept_words (after_newline here) ws in
+    let plain = kept_words (after here w) ws in
+    f here (i refl) ∙ sym (ap (λ (h : Ground). kept_words h ws) (stays_ignored here (i refl)))
+    ∙ sym (cond_true (is_newline w) (cond (ignores here || ends_by ws) skipped (w ∷ skipped)) (w ∷ plain) e ∙ ap (λ (v : Bool). cond (v || ends_by ws) skipped (w ∷ skipped)) (i refl))
+kept_newline here w ws false e i f =
+    let skipped = kept_words (after_newline here) ws in
+    let other = kept_words (after_newline here) (once true ws) in
+    cond_true (is_newline w) (cond (ignores here || ends_by (once true ws)) other (w ∷ other)) (w ∷ kept_words (after here w) (once true ws)) e
+    ∙ ap (λ (v : Bool). cond (ignores here || v) other (w ∷ other)) (ends_once true ws)
+    ∙ ap (λ (x : List Word). cond (ignores here || ends_by ws) x (w ∷ x)) (f (after_newline here) (then_ignores here))
+    ∙ sym (cond_true (is_newline w) (cond (ignores here || ends_by ws) skipped (w ∷ skipped)) (w ∷ kept_words (after here w) ws) e)
+
+kept_once : (b : Bool) (here : Ground) (ws : List Word) → (b ≡ true → ignores here ≡ true) → kept_words here (once b ws) ≡ kept_words here ws
+kept_once b here [] i = refl
+kept_once b here (w ∷ ws) i = bool_cases (is_newline w) _
+    (λ e. ap (kept_words here) (cond_true (is_newline w) (cond b (once true ws) (w ∷ once true ws)) (w ∷ once false ws) e) ∙ kept_newline here w ws b e i (λ h j. kept_once true h ws (λ _. j)))
+    (λ e.
+    let plain = kept_words (after here w) ws in
+    let other = kept_words (after here w) (once false ws) in
+    ap (kept_words here) (cond_false (is_newline w) (cond b (once true ws) (w ∷ once true ws)) (w ∷ once false ws) e)
+    ∙ cond_false (is_newline w) (cond (ignores here || ends_by (once false ws)) (kept_words (after_newline here) (once false ws)) (w ∷ kept_words (after_newline here) (once false ws))) (w ∷ other) e
+    ∙ ap (λ (x : List Word). w ∷ x) (kept_once false (after here w) ws (λ z. cc))
+    ∙ sym (cond_false (is_newline w) (cond (ignores here || ends_by ws) (kept_words (after_newline here) ws) (w ∷ kept_words (after_newline here) ws)) (w ∷ plain) e))
+
+-- the words of a text by its pieces
+words_told : (file : ℕ) (text : List ℕ) (tokens : List Token) (ps : List Piece) → Lexed file text tokens → Cuts text 0 ps (length text) → words_of tokens ≡ kept_words ignored (words_in (token_pieces true ps))
+words_told file text tokens ps l c =
+    let same = same_pieces text 0 0 (length text) l.0 ps refl l.1 c in
+    ap words_of l.2 ∙ kept_are ignored (tokens_of file text l.0)
+    ∙ ap (kept_words ignored) (words_are file text l.0 ∙ ap words_in same) ∙ sym (kept_once true ignored (words_in ps) (λ e. refl)) ∙ sym (ap (kept_words ignored) (token_words true ps))
 
 pub same_words : (file other : ℕ) (text changed : List ℕ) (a b : List Token) → DifferInBlanks text changed → Lexed file text a → Lexed other changed b → words_of a ≡ words_of b
 same_words file other text changed a b d l m =
-    let ps = same_pieces text 0 0 (length text) l.0 d.ps refl l.1 d.first in
-    let qs = same_pieces changed 0 0 (length changed) m.0 d.qs refl m.1 d.second in
-    let words : words_in d.ps ≡ words_in d.qs =
-    sym (token_words d.ps) ∙ alike_words text changed (token_pieces d.ps) (token_pieces d.qs)
-    (token_pieces_are text d.ps (cuts_pieces text 0 (length text) d.ps d.first)) (token_pieces_are changed d.qs (cuts_pieces changed 0 (length changed) d.qs d.second)) d.alike ∙ token_words d.qs in
-    let same : words_of (tokens_of file text l.0) ≡ words_of (tokens_of other changed m.0) =
-    words_are file text l.0 ∙ ap words_in ps ∙ words ∙ ap words_in (sym qs) ∙ sym (words_are other changed m.0) in
-    ap words_of l.2 ∙ kept_alike ignored (tokens_of file text l.0) (tokens_of other changed m.0) same ∙ sym (ap words_of m.2)
+    words_told file text a d.ps l d.first
+    ∙ ap (kept_words ignored) (alike_words text changed (token_pieces true d.ps) (token_pieces true d.qs)
+    (token_pieces_are text true d.ps (cuts_pieces text 0 (length text) d.ps d.first)) (token_pieces_are changed true d.qs (cuts_pieces changed 0 (length changed) d.qs d.second)) d.alike)
+    ∙ sym (words_told other changed b d.qs m d.second)

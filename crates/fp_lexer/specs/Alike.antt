@@ -1,7 +1,8 @@
--- Texts that differ only in comments and blanks: cut into pieces, the pieces that are tokens are written alike, one after another.
-use Rattle.std.specs.Prelude.{◌≡◌, ℕ, ◌-◌, List, [], ◌∷◌, take, drop, length, map, Option, Some, None}
+-- Texts that differ only in comments and blanks, and in how many newlines stand in a row: cut into pieces, those that are tokens are
+-- written alike, one after another.
+use Rattle.std.specs.Prelude.{◌≡◌, ℕ, ◌-◌, List, [], ◌∷◌, take, drop, length, map, Option, Some, None, Bool, true, false, cond}
 use Rattle.fp_lexer.specs.Bytes.{indent_at}
-use Rattle.fp_lexer.specs.Tokens.{Piece, Cuts}
+use Rattle.fp_lexer.specs.Tokens.{Piece, Cuts, is_newline}
 use Rattle.fp_lexer.specs.declared.token.Word.{Word}
 use Rattle.fp_lexer.specs.declared.token.Token.{Token}
 
@@ -9,14 +10,16 @@ use Rattle.fp_lexer.specs.declared.token.Token.{Token}
 abbrev pub bytes_of : List ℕ → Piece → List ℕ
 bytes_of text p = take (p.past - p.from) (drop p.from text)
 
-abbrev pub with_piece : Option Word → Piece → List Piece → List Piece
-with_piece None p ps = ps
-with_piece (Some w) p ps = p ∷ ps
+-- a piece and those behind it, which are told by whether the token before them is a newline
+abbrev pub seen : Bool → Option Word → Piece → (Bool → List Piece) → List Piece
+seen behind None p rest = rest behind
+seen behind (Some w) p rest = cond (is_newline w) (cond behind (rest true) (p ∷ rest true)) (p ∷ rest false)
 
--- the pieces that are tokens, so neither comments nor blanks
-abbrev pub token_pieces : List Piece → List Piece
-token_pieces [] = []
-token_pieces (p ∷ ps) = with_piece p.what p (token_pieces ps)
+-- the pieces that are tokens, so neither comments nor blanks, without newlines that directly follow a newline; the token before them is
+-- a newline or not
+abbrev pub token_pieces : Bool → List Piece → List Piece
+token_pieces behind [] = []
+token_pieces behind (p ∷ ps) = seen behind p.what p (λ b. token_pieces b ps)
 
 -- the same bytes; where they begin with `"""`, as many bytes stand before them in their lines, since the text of such a string is
 -- told by its column
@@ -29,12 +32,13 @@ AllAlike text [] other [] = Unit {0}
 AllAlike text (p ∷ ps) other (q ∷ qs) = WrittenAlike text p other q × AllAlike text ps other qs
 AllAlike text ps other qs = ⊥
 
+-- newlines at the start, and all but one of those in a row, stand for as little as comments and blanks
 pub record DifferInBlanks (text other : List ℕ) : Type 0 where
   pub ps : List Piece
   pub qs : List Piece
   pub first : Cuts text 0 ps (length text)
   pub second : Cuts other 0 qs (length other)
-  pub alike : AllAlike text (token_pieces ps) other (token_pieces qs)
+  pub alike : AllAlike text (token_pieces true ps) other (token_pieces true qs)
 
 -- the words of tokens, without their places
 abbrev pub words_of : List Token → List Word

@@ -157,7 +157,7 @@ pub fn places_rise()
     ensures { (file : ℕ) (text : List ℕ) (a b : ℕ) → a < b → b ≤ length text → ComesBefore (place_at file text a) (place_at file text b) }
 {}
 
-/// Two texts that differ only in comments and blanks have the same words.
+/// Two texts that differ only in comments and blanks, and in how many newlines stand in a row, have the same words.
 pub fn same_words()
     ensures { (file other : ℕ) (text changed : List ℕ) (a b : List Token) → DifferInBlanks text changed → Lexed file text a → Lexed other changed b → words_of a ≡ words_of b }
 {}
