@@ -1,6 +1,6 @@
 -- Two ways to cut a text agree as far as both go.
 use Rattle.std.proofs.Common.{◌≡◌, ℕ, ◌<◌, ◌≤◌, ◌⊎◌, List, [], ◌∷◌, ◌++◌, length, drop, Some, None, Option, sym, ap, ◌∙◌, arith, refl, true, subst, pos, inl, inr, length-append, length-drop}
-use Rattle.fp_lexer.specs.Scan.{IsSmall, HasNoBadEscape}
+use Rattle.fp_lexer.specs.Found.{IsSmall, HasNoBadEscape}
 use Rattle.fp_lexer.specs.Tokens.{Spells, Lined, IsLongest, IsPiece, Piece, Cuts}
 use Rattle.fp_lexer.specs.Broken.{NoneBegins, LargeBegins, BadEscapeAt}
 use Rattle.fp_lexer.specs.Bytes.{indent_at}

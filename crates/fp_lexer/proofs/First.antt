@@ -12,7 +12,7 @@ use Rattle.fp_base.specs.declared.rule.Rule.{Rule}
 use Rattle.fp_base.specs.declared.rule.Rule.TheVariants.{BadCharacter, OpenString, BadEscape, NumberTooLarge, TextTooLong}
 use Rattle.fp_base.specs.declared.refusal.Stop.{Stop}
 use Rattle.fp_base.specs.declared.refusal.Stop.TheVariants.{Broken}
-use Rattle.fp_lexer.specs.Scan.{IsSmall, IsFlawed, IsFirstFlaw}
+use Rattle.fp_lexer.specs.Found.{IsSmall, IsFlawed, IsFirstFlaw}
 use Rattle.fp_lexer.specs.Tokens.{IsPiece, Piece, Cuts}
 use Rattle.fp_lexer.specs.Bytes.{long_text, indent_at}
 use Rattle.fp_lexer.specs.Broken.{Reached, NoneBegins, LargeBegins, BadEscapeAt, BrokenAt, IsUnbroken, ComesBefore, IsFirstBroken, IsStop, longest_text}

@@ -3,7 +3,8 @@ use Rattle.std.proofs.Common.{◌≡◌, ℕ, ◌<◌, ◌≤◌, ◌+◌, ◌-�
 use Rattle.std.specs.Prelude.{◌==◌}
 use Rattle.std.proofs.lemmas.Bool.{eqb-true}
 use Rattle.fp_lexer.specs.Bytes.{long_text, indent_at}
-use Rattle.fp_lexer.specs.Scan.{long_len, bad_len, string_len, IsPart, IsFlawed, GivesPiece}
+use Rattle.fp_lexer.specs.Scan.{long_len, bad_len, string_len}
+use Rattle.fp_lexer.specs.Found.{IsPart, IsFlawed, GivesPiece}
 use Rattle.fp_lexer.specs.Broken.{NoneBegins}
 use Rattle.fp_lexer.specs.Tokens.{begins_long, IsLongBody, IsPiece}
 use Rattle.fp_base.specs.declared.rule.Rule.TheVariants.{BadEscape}

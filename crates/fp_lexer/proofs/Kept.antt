@@ -1,7 +1,7 @@
 -- One step of the newline rules.
 use Rattle.std.proofs.Common.{◌≡◌, List, [], ◌∷◌, ◌++◌, ap, ◌∙◌, refl, cond, true, false, Bool, ◌||◌, append_assoc}
-use Rattle.fp_lexer.specs.Scan.{resume, newline_read, standing}
-use Rattle.fp_lexer.specs.Tokens.{kept, ignored_by_rest, after, after_newline, ignores, Ground, counts, ignored, separated, ignored_before, is_newline}
+use Rattle.fp_lexer.specs.Found.{resume, newline_read, standing}
+use Rattle.fp_lexer.specs.Newlines.{kept, ignored_by_rest, after, after_newline, ignores, Ground, counts, ignored, separated, ignored_before, is_newline}
 use Rattle.fp_lexer.specs.declared.token.Token.{Token}
 use Rattle.fp_base.specs.declared.place.Span.{Span}
 use Rattle.fp_lexer.specs.declared.token.Word.{Word}

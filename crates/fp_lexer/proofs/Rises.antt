@@ -4,7 +4,8 @@ use Rattle.std.specs.List.{suffix_len}
 use Rattle.std.proofs.lemmas.Grind.{common_steps}
 use Rattle.fp_base.specs.Places.{place_at}
 use Rattle.fp_base.specs.declared.place.Place.{Place}
-use Rattle.fp_lexer.specs.Tokens.{Piece, Cuts, Lexed, Rising, kept, tokens_of, with_token, span_at, is_newline, ignored_by_rest, Ground, ignored, ignores, after, after_newline}
+use Rattle.fp_lexer.specs.Tokens.{Piece, Cuts, Lexed, Rising, tokens_of, with_token, span_at}
+use Rattle.fp_lexer.specs.Newlines.{kept, is_newline, ignored_by_rest, Ground, ignored, ignores, after, after_newline}
 use Rattle.fp_lexer.specs.Broken.{ComesBefore}
 use Rattle.fp_lexer.specs.declared.token.Word.{Word}
 use Rattle.fp_lexer.specs.declared.token.Token.{Token}

@@ -4,7 +4,8 @@ use Rattle.std.specs.Prelude.{◌==◌, slice_index}
 use Rattle.std.proofs.lemmas.Bool.{eqb-true}
 use Rattle.fp_base.specs.declared.place.Span.{Span}
 use Rattle.fp_lexer.specs.Bytes.{line, newline_of, newline_len, newline_at, trimmed, body_text, long_text, indent_at}
-use Rattle.fp_lexer.specs.Tokens.{Spells, Lined, OneLine, ManyLines, begins_long, IsPiece, Piece, Cuts, Lexed, kept, tokens_of, with_token, span_at, is_newline, ignored_by_rest, ignored_before, ignores, Ground, counts, ignored, separated, after, after_newline}
+use Rattle.fp_lexer.specs.Tokens.{Spells, Lined, OneLine, ManyLines, begins_long, IsPiece, Piece, Cuts, Lexed, tokens_of, with_token, span_at}
+use Rattle.fp_lexer.specs.Newlines.{kept, is_newline, ignored_by_rest, ignored_before, ignores, Ground, counts, ignored, separated, after, after_newline}
 use Rattle.fp_lexer.specs.Alike.{bytes_of, seen, token_pieces, WrittenAlike, AllAlike, DifferInBlanks, words_of}
 use Rattle.fp_lexer.specs.declared.token.Word.{Word}
 use Rattle.fp_lexer.specs.declared.token.Word.TheVariants.{Name, Reserved, Number, Float, Str, Mark, Newline, Before, After}

@@ -5,8 +5,9 @@ use Rattle.fp_base.specs.Places.{place_at}
 use Rattle.fp_base.specs.declared.place.Place.{Place}
 use Rattle.fp_base.specs.declared.place.Span.{Span}
 use Rattle.fp_lexer.specs.Bytes.{indent_at}
-use Rattle.fp_lexer.specs.Scan.{IsSmall, HasNoBadEscape, resume}
-use Rattle.fp_lexer.specs.Tokens.{IsPiece, Piece, Cuts, kept, ignored, tokens_of, Lexed, span_at}
+use Rattle.fp_lexer.specs.Found.{IsSmall, HasNoBadEscape, resume}
+use Rattle.fp_lexer.specs.Tokens.{IsPiece, Piece, Cuts, tokens_of, Lexed, span_at}
+use Rattle.fp_lexer.specs.Newlines.{kept, ignored}
 use Rattle.fp_lexer.specs.Broken.{IsUnbroken}
 use Rattle.fp_lexer.specs.declared.token.Word.{Word}
 use Rattle.fp_lexer.specs.declared.token.Token.{Token}

@@ -1,7 +1,8 @@
 -- A text has one list of tokens.
 use Rattle.std.proofs.Common.{◌≡◌, ℕ, List, [], ◌∷◌, length, drop, Option, sym, ap, ◌∙◌, arith, refl, subst}
 use Rattle.fp_lexer.specs.Bytes.{indent_at}
-use Rattle.fp_lexer.specs.Tokens.{Spells, IsLongest, IsPiece, Piece, Cuts, Lexed, kept, ignored, tokens_of}
+use Rattle.fp_lexer.specs.Tokens.{Spells, IsLongest, IsPiece, Piece, Cuts, Lexed, tokens_of}
+use Rattle.fp_lexer.specs.Newlines.{kept, ignored}
 use Rattle.fp_lexer.specs.declared.token.Word.{Word}
 use Rattle.fp_lexer.specs.declared.token.Token.{Token}
 use Rattle.fp_lexer.proofs.Meaning.{what_same}

@@ -2,7 +2,8 @@
 -- written alike, one after another.
 use Rattle.std.specs.Prelude.{◌≡◌, ℕ, ◌-◌, List, [], ◌∷◌, take, drop, length, map, Option, Some, None, Bool, true, false, cond}
 use Rattle.fp_lexer.specs.Bytes.{indent_at}
-use Rattle.fp_lexer.specs.Tokens.{Piece, Cuts, is_newline}
+use Rattle.fp_lexer.specs.Tokens.{Piece, Cuts}
+use Rattle.fp_lexer.specs.Newlines.{is_newline}
 use Rattle.fp_lexer.specs.declared.token.Word.{Word}
 use Rattle.fp_lexer.specs.declared.token.Token.{Token}
 

@@ -5,7 +5,8 @@ use Rattle.std.specs.List.{list_all}
 use Rattle.fp_base.specs.Places.{place_at}
 use Rattle.fp_base.specs.declared.place.Span.{Span}
 use Rattle.fp_lexer.specs.Bytes.{is_letter, is_digit, is_hex_digit, hex_digit, is_name_byte, is_body, body_text, escapes, long_text, indent_at, line, newline_at, trimmed}
-use Rattle.fp_lexer.specs.Words.{words, marks, else_word}
+use Rattle.fp_lexer.specs.Newlines.{kept, ignored}
+use Rattle.fp_lexer.specs.Words.{words, marks}
 use Rattle.fp_lexer.specs.declared.token.Word.{Word}
 use Rattle.fp_lexer.specs.declared.token.Word.TheVariants.{Name, Reserved, Number, Float, Str, Mark, Newline, Before, After}
 use Rattle.fp_lexer.specs.declared.token.Token.{Token}
@@ -141,74 +142,6 @@ IsPiece text p = (w : List ℕ) × IsLongest (indent_at text p.from) (drop p.fro
 abbrev pub Cuts : List ℕ → ℕ → List Piece → ℕ → Type 0
 Cuts text from [] to = from ≡ to
 Cuts text from (p ∷ ps) to = (p.from ≡ from) × IsPiece text p × Cuts text p.past ps to
-
--- ---- newlines
--- FPP Language Specification, "Lexical Elements", automatic suppression of newlines; this profile: after and before the words
--- listed here
-
--- what a newline means at a place, by what stands before it: it counts, it is ignored, or it is ignored and only annotations of what
--- stands before, and newlines, stand between it and a separator
-pub data Ground : Type 0 where
-  counts : Ground
-  ignored : Ground
-  separated : Ground
-
-abbrev pub ignores : Ground → Bool
-ignores counts = false
-ignores ignored = true
-ignores separated = true
-
--- newlines are ignored after ( * + - -> / : = [ {
-abbrev pub opens : ℕ → Bool
-opens k = k == 0 || (k == 6 || (k == 8 || (k == 9 || (k == 10 || (k == 7 || (k == 13 || (k == 15 || (k == 2 || k == 4))))))))
-
--- after a mark: `,` and `;` separate
-abbrev pub after_mark : ℕ → Ground
-after_mark k = cond (k == 11 || k == 14) separated (cond (opens k) ignored counts)
-
--- after an annotation of what stands before
-abbrev pub after_post : Ground → Ground
-after_post counts = counts
-after_post ignored = counts
-after_post separated = separated
-
--- after a word; the newline that ends an annotation of what follows is in its piece
-abbrev pub after : Ground → Word → Ground
-after here (Mark k) = after_mark k
-after here (Before s) = ignored
-after here (After s) = after_post here
-after here w = counts
-
--- after a newline, whether or not it counts: newlines in a row are one
-abbrev pub after_newline : Ground → Ground
-after_newline counts = ignored
-after_newline ignored = ignored
-after_newline separated = separated
-
--- newlines are ignored before ) ] } else @<
-abbrev pub ignored_before : Word → Bool
-ignored_before (Mark k) = k == 1 || (k == 3 || k == 5)
-ignored_before (Reserved k) = k == else_word
-ignored_before (After s) = true
-ignored_before w = false
-
-abbrev pub is_newline : Word → Bool
-is_newline Newline = true
-is_newline w = false
-
--- what comes first behind the newlines is the end, or a token before which they are ignored
-abbrev pub ignored_by_rest : List Token → Bool
-ignored_by_rest [] = true
-ignored_by_rest (t ∷ ts) = cond (is_newline t.what) (ignored_by_rest ts) (ignored_before t.what)
-
--- the tokens that count, by what a newline means at the start: a newline counts where neither what stands before it, nor what comes
--- behind it, lets it be ignored
-abbrev pub kept : Ground → List Token → List Token
-kept here [] = []
-kept here (t ∷ ts) =
-    cond (is_newline t.what)
-    (cond (ignores here || ignored_by_rest ts) (kept (after_newline here) ts) (t ∷ kept (after_newline here) ts))
-    (t ∷ kept (after here t.what) ts)
 
 -- ---- tokens
 

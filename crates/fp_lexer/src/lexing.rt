@@ -5,7 +5,7 @@ ghost use Rattle.fp_base.specs.declared.refusal.Stop.TheVariants.{Broken};
 ghost use Rattle.fp_lexer.specs.Tokens.{Lexed, Rising};
 ghost use Rattle.fp_lexer.specs.Alike.{DifferInBlanks, words_of};
 ghost use Rattle.fp_lexer.specs.Broken.{IsStop, IsUnbroken, ComesBefore, longest_text};
-ghost use Rattle.fp_lexer.specs.Scan.{IsFirstFlaw};
+ghost use Rattle.fp_lexer.specs.Found.{IsFirstFlaw};
 ghost use Rattle.fp_lexer.specs.declared.token.Token.{Token};
 
 use crate::newlines::{Standing, add};

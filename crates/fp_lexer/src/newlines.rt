@@ -1,6 +1,6 @@
 ghost use Rattle.std.specs.Prelude.{◌≡◌, ◌∷◌, ◌++◌, List, IfOk, OnOk, false};
-ghost use Rattle.fp_lexer.specs.Tokens.{after, after_mark, after_post, opens, ignored_before, is_newline, kept};
-ghost use Rattle.fp_lexer.specs.Scan.{resume, newline_read, ground_of, standing};
+ghost use Rattle.fp_lexer.specs.Newlines.{after, after_mark, after_post, opens, ignored_before, is_newline, kept};
+ghost use Rattle.fp_lexer.specs.Found.{resume, newline_read, ground_of, standing};
 ghost use Rattle.fp_lexer.specs.declared.token.Token.{Token};
 ghost use Rattle.fp_base.specs.declared.place.Span.{Span};
 

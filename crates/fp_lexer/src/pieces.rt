@@ -1,7 +1,8 @@
 ghost use Rattle.std.specs.Prelude.{◌≡◌, ◌≢◌, ◌+◌, ◌<◌, drop, length, slice_index, true, false, ◌==◌, ◌&&◌};
 ghost use Rattle.std.specs.List.{prefix_len};
 ghost use Rattle.fp_lexer.specs.Bytes.{is_letter, is_digit};
-ghost use Rattle.fp_lexer.specs.Scan.{GivesPiece, hex_starts, other, tail_len};
+ghost use Rattle.fp_lexer.specs.Found.{GivesPiece};
+ghost use Rattle.fp_lexer.specs.Scan.{hex_starts, other, tail_len};
 
 use crate::bytes::{byte_at, is_digit, is_letter, line_end, name_end, newline_len};
 use crate::scan::{

@@ -1,7 +1,8 @@
 ghost use Rattle.std.specs.Prelude.{◌≡◌, ◌+◌, ◌-◌, ◌<◌, ◌≤◌, ◌==◌, cond, drop, length, slice_index, true, false, IfOk};
 ghost use Rattle.std.specs.List.{prefix_len, suffix_len};
 ghost use Rattle.fp_lexer.specs.Bytes.{is_blank, body_text, dedent, newline_len, trimmed};
-ghost use Rattle.fp_lexer.specs.Scan.{HasPart, spaces, what_of};
+ghost use Rattle.fp_lexer.specs.Found.{HasPart, what_of};
+ghost use Rattle.fp_lexer.specs.Scan.{spaces};
 
 use crate::bytes::{is_blank, newline_len};
 use crate::scan::spaces;

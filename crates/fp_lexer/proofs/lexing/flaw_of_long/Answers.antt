@@ -1,7 +1,7 @@
 use Rattle.std.proofs.Common.{sym, ◌∙◌, refl}
 use Rattle.fp_lexer.specs.Bytes.{indent_at}
 use Rattle.fp_lexer.specs.Tokens.{Piece}
-use Rattle.fp_lexer.specs.Scan.{what_of}
+use Rattle.fp_lexer.specs.Found.{what_of}
 use Rattle.fp_lexer.proofs.First.{long_mangled, long_flawed, long_first, long_string}
 use Rattle.fp_lexer.proofs.lexing.flaw_of_long.Goals as goal
 

@@ -2,7 +2,7 @@ use Rattle.std.proofs.Common.{◌≤◌, arith}
 use Rattle.std.specs.Str.Lossy.{utf8_valid_len}
 use Rattle.fp_lexer.specs.Bytes.{indent_at}
 use Rattle.fp_lexer.specs.Tokens.{Piece}
-use Rattle.fp_lexer.specs.Scan.{what_of}
+use Rattle.fp_lexer.specs.Found.{what_of}
 use Rattle.fp_lexer.proofs.Gives.{piece_within}
 use Rattle.fp_lexer.proofs.Cuts.{fine_push, piece_grows}
 use Rattle.fp_lexer.proofs.First.{first_flaw, mangled_flaw, mangled_string}

@@ -5,7 +5,7 @@ use Rattle.fp_base.specs.declared.place.Place.{Place}
 use Rattle.fp_lexer.specs.Bytes.{indent_at}
 use Rattle.fp_lexer.specs.Tokens.{IsPiece, Piece, Lexed}
 use Rattle.fp_lexer.specs.Broken.{IsStop, IsUnbroken}
-use Rattle.fp_lexer.specs.Scan.{IsSmall, HasPart, what_of}
+use Rattle.fp_lexer.specs.Found.{IsSmall, HasPart, what_of}
 use Rattle.fp_lexer.specs.declared.token.Word.{Word}
 use Rattle.fp_lexer.proofs.Gives.{piece_within}
 use Rattle.fp_lexer.proofs.Cuts.{piece_grows}

@@ -1,6 +1,6 @@
 use Rattle.std.proofs.Common.{sym, ◌∙◌, ap, List, ◌++◌}
-use Rattle.fp_lexer.specs.Scan.{resume, ground_of}
-use Rattle.fp_lexer.specs.Tokens.{kept, after}
+use Rattle.fp_lexer.specs.Found.{resume, ground_of}
+use Rattle.fp_lexer.specs.Newlines.{kept, after}
 use Rattle.fp_lexer.specs.declared.token.Token.{Token}
 use Rattle.fp_lexer.specs.declared.newlines.Standing.{Standing}
 use Rattle.fp_lexer.proofs.Kept.{newline_step, resume_after, push_one}

@@ -1,6 +1,6 @@
 use Rattle.std.proofs.Common.{sym, ◌∙◌, ap, List, ◌++◌, ◌∷◌}
-use Rattle.fp_lexer.specs.Scan.{resume, ground_of}
-use Rattle.fp_lexer.specs.Tokens.{kept, after, counts, ignored, separated}
+use Rattle.fp_lexer.specs.Found.{resume, ground_of}
+use Rattle.fp_lexer.specs.Newlines.{kept, after, counts, ignored, separated}
 use Rattle.fp_lexer.specs.declared.token.Token.{Token}
 use Rattle.fp_lexer.specs.declared.token.Word.TheVariants.{Newline}
 use Rattle.fp_lexer.specs.declared.newlines.Standing.{Standing}
