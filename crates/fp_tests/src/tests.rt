@@ -124,24 +124,14 @@ const ROWS: [(&str, &str, &str, Status); 29] = [
         "a.fpp:1:14: L2 open string\n",
         Status::Refused,
     ),
-    (
-        "constant a = 1 # c\n",
-        "constant a = 1\n",
-        "",
-        Status::Done,
-    ),
+    ("constant a = 1 # c\n", "constant a = 1\n", "", Status::Done),
     (
         "constant a = 1.5\n",
         "",
         "a.fpp:1:14: G1 unexpected token\n",
         Status::Refused,
     ),
-    (
-        "constant a = 0x10\n",
-        "constant a = 16\n",
-        "",
-        Status::Done,
-    ),
+    ("constant a = 0x10\n", "constant a = 16\n", "", Status::Done),
     (
         "constant a = \"x\"\n",
         "",
