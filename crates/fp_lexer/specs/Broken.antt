@@ -25,7 +25,8 @@ Reached text at = (ps : List Piece) × Cuts text 0 ps at
 abbrev pub LargeBegins : List ℕ → ℕ → Type 0
 LargeBegins text at = (n past : ℕ) × IsPiece text (record { what = Some (Number (pos n)); from = at; past = past }) × (2 ^ 127 ≤ n)
 
--- behind so many bytes of a body stands a backslash, itself not behind one, directly before a newline
+-- behind so many bytes of a body stands a backslash, itself not behind one, directly before a newline; this profile: no such escape has
+-- a meaning
 abbrev pub HasBadEscape : List ℕ → ℕ → Type 0
 HasBadEscape raw n = (before after : List ℕ) × (raw ≡ before ++ 92 ∷ after) × (n ≡ length before) × (escapes false before ≡ false) × (0 < newline_len after)
 

@@ -26,6 +26,8 @@ abbrev pub is_blank : ℕ → Bool
 is_blank b = b == 32 || b == 9
 
 -- ---- the bodies of strings
+-- FPP Language Specification, "Expressions", string literals: escapes, and the indentation of strings between `"""`; this profile: a
+-- backslash stands for the byte behind it, and spaces alone are indentation
 
 -- the body of a string on one line, at a byte behind a backslash or not: a backslash stands before any byte but a newline, and
 -- there is no other backslash, no newline and no `"`
