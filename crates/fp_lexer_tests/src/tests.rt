@@ -470,6 +470,36 @@ fn cuts_long_strings(rt: HostRuntime) -> Result<(), AllocError> {
     assert_cut(&rt, rt.alloc(), &LONG_STRINGS)
 }
 
+/// The reserved words, in the order of their numbers.
+static RESERVED: &str =
+    "action active activity always array assert async at base block bool change choice command component \
+    connections constant container cpu default diagnostic dictionary do drop else enter entry enum event \
+    every exit external F32 F64 false fatal format get group guard guarded health high hook I16 I32 I64 \
+    I8 id if import include initial input instance interface internal locate low machine match module \
+    omit on opcode orange output packet packets param passive phase port priority private product queue \
+    queued record recv red ref reg request resp save send serial set severity signal size stack state \
+    string struct sync telemetry text throttle time topology true type U16 U32 U64 U8 unmatched update \
+    warning with yellow";
+
+#[test]
+fn numbers_reserved_words(rt: HostRuntime) -> Result<(), Fail> {
+    let Ok(tokens) = lex(rt.alloc(), 0, RESERVED.as_bytes()) else {
+        return Err("refused".into());
+    };
+    assert_eq!(rt; tokens.as_slice().len(), 113);
+    for number in 0..113u8 {
+        let found = match tokens.as_slice().get(number as usize) {
+            Some(token) => match &token.what {
+                Word::Reserved(found) => Some(*found),
+                _ => None,
+            },
+            None => None,
+        };
+        assert_eq!(rt; found, Some(number));
+    }
+    Ok(())
+}
+
 /// The bytes that may stand behind a name: letters, digits, `_`, the marks, blanks, the newline, and what begins a comment or an
 /// annotation.
 static BYTES_OF_TEXTS: &str =
