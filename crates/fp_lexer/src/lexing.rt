@@ -1,4 +1,5 @@
-ghost use Rattle.std.specs.Prelude.{◌≡◌, ◌-◌, ◌^◌, ◌<◌, ◌≤◌, ℕ, List, length, None, MatchResult};
+ghost use Rattle.std.specs.Prelude.{◌≡◌, ◌-◌, ◌^◌, ◌<◌, ◌≤◌, ℕ, List, [], ◌∷◌, ◌++◌, codes, length, None, MatchResult};
+ghost use Rattle.fp_lexer.specs.Bytes.{long_text};
 ghost use Rattle.std.specs.Str.Lossy.{utf8_valid_len};
 ghost use Rattle.fp_base.specs.Places.{place_at};
 ghost use Rattle.fp_base.specs.declared.refusal.Stop.TheVariants.{Broken};
@@ -160,4 +161,11 @@ pub fn places_rise()
 /// Two texts that differ only in comments and blanks, and in how many newlines stand in a row, have the same words.
 pub fn same_words()
     ensures { (file other : ℕ) (text changed : List ℕ) (a b : List Token) → DifferInBlanks text changed → Lexed file text a → Lexed other changed b → words_of a ≡ words_of b }
+{}
+
+/// Worked rows of the text of a string between `"""`: at column 5; on its opening's line; escapes behind the indentation.
+pub fn worked_strings()
+    ensures lines { long_text 4 (10 ∷ codes "      a" ++ 10 ∷ codes "   b" ++ 10 ∷ codes "    ") ≡ codes "  a" ++ 10 ∷ codes "b" ++ 10 ∷ [] }
+    ensures opening { long_text 2 (codes "  a" ++ 13 ∷ 10 ∷ codes "  b") ≡ codes "  a" ++ 13 ∷ 10 ∷ codes "b" }
+    ensures escapes { long_text 2 (10 ∷ codes "  " ++ 92 ∷ 32 ∷ codes "a" ++ 92 ∷ 34 ∷ []) ≡ codes " a" ++ 34 ∷ [] }
 {}

@@ -10,5 +10,5 @@ mod shape;
 mod token;
 mod words;
 
-pub use lexing::{lex, one_lexing, places_rise, same_words, spans_rise};
+pub use lexing::{lex, one_lexing, places_rise, same_words, spans_rise, worked_strings};
 pub use token::{Token, Word};

@@ -1,5 +1,5 @@
 use fp_base::{Row, Stop};
-use fp_lexer::{Token, Word, lex, one_lexing, places_rise, same_words, spans_rise};
+use fp_lexer::{Token, Word, lex, one_lexing, places_rise, same_words, spans_rise, worked_strings};
 use std::alloc::{AllocError, Global};
 use std::process::Abort;
 use std::test::Fail;
@@ -560,4 +560,5 @@ fn laws_can_be_cited(_rt: HostRuntime) {
     spans_rise();
     places_rise();
     same_words();
+    worked_strings();
 }
