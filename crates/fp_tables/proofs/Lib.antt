@@ -2,3 +2,6 @@ pub mod Alls
 pub mod Differing
 pub mod Firsts
 pub mod Joining
+pub mod Shaped
+pub mod Shaping
+pub mod Beside

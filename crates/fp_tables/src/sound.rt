@@ -5,4 +5,6 @@ mod lengths;
 mod names;
 mod naming;
 mod positions;
+mod shapes;
 mod topologies;
+mod values;
