@@ -6,3 +6,5 @@ pub mod Shaped
 pub mod Sized
 pub mod Shaping
 pub mod Beside
+pub mod Chained
+pub mod Uses

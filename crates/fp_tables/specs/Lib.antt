@@ -1,3 +1,4 @@
+pub mod Chains
 pub mod Components
 pub mod Formats
 pub mod Found

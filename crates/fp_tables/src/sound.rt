@@ -1,3 +1,4 @@
+mod chains;
 mod components;
 mod formats;
 mod instances;
