@@ -8,3 +8,4 @@ pub mod Shaping
 pub mod Beside
 pub mod Chained
 pub mod Uses
+pub mod Numbered

@@ -1,12 +1,17 @@
 mod chains;
+mod channels;
 mod components;
+mod events;
+mod formals;
 mod formats;
 mod instances;
 mod lengths;
 mod names;
 mod naming;
+mod parameters;
 mod ports;
 mod positions;
+mod running;
 mod shapes;
 mod sizes;
 mod topologies;
