@@ -9,3 +9,4 @@ pub mod Beside
 pub mod Chained
 pub mod Uses
 pub mod Numbered
+pub mod Specials
