@@ -8,6 +8,7 @@ mod instances;
 mod lengths;
 mod names;
 mod naming;
+mod own_names;
 mod parameters;
 mod ports;
 mod positions;
