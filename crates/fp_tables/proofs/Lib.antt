@@ -10,3 +10,4 @@ pub mod Chained
 pub mod Uses
 pub mod Numbered
 pub mod Specials
+pub mod Joined

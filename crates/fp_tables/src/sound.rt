@@ -10,6 +10,7 @@ mod names;
 mod naming;
 mod own_names;
 mod parameters;
+mod parts;
 mod ports;
 mod positions;
 mod running;

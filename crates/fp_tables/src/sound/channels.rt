@@ -53,7 +53,11 @@ fn may_have_limits(types: &[TypeDef], channel: &Channel) -> bool
 }
 
 /// Whether limits are of integers, a colour standing once above and once below at most.
-pub fn limits_are_good(alloc: Global, types: &[TypeDef], channels: &[Channel]) -> Result<bool, NoMemory>
+pub fn limits_are_good(
+    alloc: Global,
+    types: &[TypeDef],
+    channels: &[Channel],
+) -> Result<bool, NoMemory>
     ensures { IfOk result (λ good. good ≡ list_all (has_good_limits types.now) channels.now) }
 {
     for channel in channels {
@@ -75,9 +79,7 @@ fn limits_have(types: &[TypeDef], kind: Kind, limits: &[Limit]) -> bool
 fn channels_have(types: &[TypeDef], channels: &[Channel]) -> bool
     ensures { result ≡ list_all (λ (channel : Channel). list_all (λ (limit : Limit). has_kind types.now channel.kind limit.value) channel.limits) channels.now }
 {
-    channels
-        .iter()
-        .all(|channel| limits_have(types, channel.kind, channel.limits.as_slice()))
+    channels.iter().all(|channel| limits_have(types, channel.kind, channel.limits.as_slice()))
 }
 
 fn params_have(types: &[TypeDef], params: &[Param]) -> bool

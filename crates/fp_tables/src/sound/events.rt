@@ -41,7 +41,11 @@ fn agree(types: &[TypeDef], pieces: &[Piece], formals: &[Formal]) -> bool
 fn agrees_with_formals(types: &[TypeDef], event: &Event) -> bool
     ensures { result ≡ agrees_with_formals types.now event.now }
 {
-    agree(types, event.fields.parts.as_slice(), event.formals.as_slice())
+    agree(
+        types,
+        event.fields.parts.as_slice(),
+        event.formals.as_slice(),
+    )
 }
 
 /// Whether the fields of each event agree with its formals.

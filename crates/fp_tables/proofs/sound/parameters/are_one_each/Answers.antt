@@ -13,5 +13,5 @@ returns c =
     let distinct = c.in_ok-distinct.distinct in
     let d = distinct_count nat_cmp_total numbers distinct c.in_ok-distinct.ensures in
     let differ = same_from_decides {P = apart (eq_by_cmp nat_cmp) numbers ≡ true} _ (apart (eq_by_cmp nat_cmp) numbers)
-          (λ h. d.0 (grind (arith, nat_tests, c.len.ensures.len, c.len-count.ensures, h)), λ h. let e = d.1 h in grind (arith, nat_tests, c.len.ensures.len, c.len-count.ensures, e)) (λ h. h, λ h. h) in
+    (λ h. d.0 (grind (arith, nat_tests, c.len.ensures.len, c.len-count.ensures, h)), λ h. let e = d.1 h in grind (arith, nat_tests, c.len.ensures.len, c.len-count.ensures, e)) (λ h. h, λ h. h) in
     ap₂ (λ (a b : Bool). a && b) (c.each_is_among.ensures ∙ each_among numbers distinct c.in_ok-distinct.ensures c.args.params.now) (differ ∙ differ_numbers numbers)
