@@ -21,6 +21,9 @@ as_joined a (b ∷ bs) = as_joined (a && b) bs ∙ both_apart a b (all_hold bs)
 pub same_first : {a b : Bool} {xs ys : List Bool} → a ≡ b → xs ≡ ys → ◌≡◌ {A = List Bool} (a ∷ xs) (b ∷ ys)
 same_first e f = ap₂ (λ (x : Bool) (xs : List Bool). x ∷ xs) e f
 
+pub none : ◌≡◌ {A = List Bool} [] []
+none = refl
+
 pub results : (a : Bool) (xs ys : List Bool) → ◌≡◌ {A = List Bool} (a ∷ xs) ys → joined a xs ≡ all_hold ys
 results a xs ys e = as_joined a xs ∙ ap all_hold e
 

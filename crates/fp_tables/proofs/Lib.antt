@@ -11,3 +11,4 @@ pub mod Uses
 pub mod Numbered
 pub mod Specials
 pub mod Joined
+pub mod Parted

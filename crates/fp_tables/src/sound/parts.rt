@@ -1,6 +1,7 @@
 ghost use Rattle.std.specs.Prelude.{◌≡◌, ◌↔◌, ◌||◌, not, IsTrue, IfOk};
 ghost use Rattle.std.specs.List.{list_all};
 ghost use Rattle.fp_tables.specs.Components.{reads_its_format, is_passive, waits_for_nothing};
+ghost use Rattle.fp_tables.specs.SoundParts.{HasSoundParts};
 ghost use Rattle.fp_tables.specs.Parts.{all_hold, all_pass, tests_of_ports, tests_of_commands, tests_of_reports, tests_of_names, tests_of_running, tests_of_component, tests_of_types, tests_of_definitions};
 
 use crate::component::{Component, Event, Queueing};
@@ -146,4 +147,16 @@ fn definitions_are_sound(alloc: Global, model: &Model) -> Result<bool, NoMemory>
     let formals = formals_of_ports_differ(alloc, model.ports.as_slice())?;
     let queues = instances_have_their_queues(model, model.instances.as_slice());
     Ok(short & own & qualified & instances & types & formals & queues)
+}
+
+/// Whether a model's definitions, types, values and components are sound.
+pub fn parts_are_sound(alloc: Global, model: &Model) -> Result<bool, NoMemory>
+    ensures { IfOk result (λ sound. IsTrue sound ↔ HasSoundParts model.now) }
+{
+    if !types_are_sound(alloc, model)? {
+        return Ok(false);
+    }
+    let definitions = definitions_are_sound(alloc, model)?;
+    let components = components_are_sound(alloc, model, model.components.as_slice())?;
+    Ok(definitions & components)
 }
