@@ -2,3 +2,13 @@ pub mod Alls
 pub mod Differing
 pub mod Firsts
 pub mod Joining
+pub mod Shaped
+pub mod Sized
+pub mod Shaping
+pub mod Beside
+pub mod Chained
+pub mod Uses
+pub mod Numbered
+pub mod Specials
+pub mod Joined
+pub mod Parted
