@@ -11,3 +11,4 @@ pub mod Programs
 pub mod Sound
 pub mod SoundPrograms
 pub mod Types
+pub mod Walks
