@@ -7,5 +7,6 @@ mod names;
 mod naming;
 mod placing;
 mod positions;
+mod ranges;
 mod states;
 mod topologies;
