@@ -1,7 +1,8 @@
 -- The ranges of ids that instances take.
-use Rattle.std.proofs.Common.{◌≡◌, ℕ, zero, suc, ◌+◌, ◌<◌, ◌≤◌, Bool, true, false, not, ◌&&◌, ◌||◌, max, ltb, leb, List, [], ◌∷◌, ◌++◌, map, length, take, get_or, take_more, map-append, Option, None, Some, option_map, unwrap_or, refl, sym, ap, ap₂, ◌∙◌, arith, add-one, append-nil}
+use Rattle.std.proofs.Common.{◌≡◌, ℕ, zero, suc, ◌+◌, ◌<◌, ◌≤◌, Bool, true, false, not, ◌&&◌, ◌||◌, max, ltb, leb, List, [], ◌∷◌, ◌++◌, map, length, take, get_or, Option, None, Some, option_map, unwrap_or, refl, sym, ap, ap₂, ◌∙◌, arith, add-one, append-nil}
 use Rattle.std.specs.List.{list_any, filter_map, cons_option}
 use Rattle.std.specs.List.Sorted.{IsPermutation, IsNonDecreasingBy}
+use Rattle.std.proofs.lemmas.List.{take_more, map-append}
 use Rattle.std.proofs.lemmas.List.Elements.{filter_map-append}
 use Rattle.std.proofs.lemmas.List.Sorted.{IsPermutation-sym}
 use Rattle.std.proofs.lemmas.Map.Keys.{IsDistinct-IsPermutation}
@@ -76,7 +77,7 @@ none_meet p q (r ∷ rs) h lt =
 
 rise_apart : (q : ℕ × ℕ) (rs : List (ℕ × ℕ)) → Ascend (q ∷ rs) → rise_above (Some (q.0 + q.1)) rs ≡ (not (list_any (meet q) rs) && apart meet rs)
 rise_apart q [] h = refl
-rise_apart q (r ∷ rs) h = go (leb r.0 (q.0 + q.1)) refl
+rise_apart q (r ∷ rs) h = go (rise_apart r rs (rest_ascend q (r ∷ rs) h)) (leb r.0 (q.0 + q.1)) refl
   where
     on : q.0 ≤ r.0
     on = next_above q r rs h
@@ -84,13 +85,14 @@ rise_apart q (r ∷ rs) h = go (leb r.0 (q.0 + q.1)) refl
     later : Ascend (r ∷ rs)
     later = rest_ascend q (r ∷ rs) h
 
-    go : (b : Bool) → leb r.0 (q.0 + q.1) ≡ b → (not (leb r.0 (q.0 + q.1)) && rise_above (Some (r.0 + r.1)) rs) ≡ (not (meet q r || list_any (meet q) rs) && apart meet (r ∷ rs))
-    go true e =
+    go : rise_above (Some (r.0 + r.1)) rs ≡ (not (list_any (meet r) rs) && apart meet rs) → (b : Bool) → leb r.0 (q.0 + q.1) ≡ b → (not (leb r.0 (q.0 + q.1)) && rise_above (Some (r.0 + r.1)) rs) ≡ (not (meet q r || list_any (meet q) rs) && apart meet (r ∷ rs))
+    go rest true e =
+        let first : q.0 ≤ r.0 = on in
         let met : meet q r ≡ true = grind (arith, nat_tests) in
-        rw (e, met) refl
-    go false e =
+        rw (met, e) refl
+    go rest false e =
         let lt : q.0 + q.1 < r.0 = grind (arith, nat_tests) in
-        rw (e, above q r lt, none_meet q r rs later lt) (rise_apart r rs later)
+        rw (above q r lt, none_meet q r rs later lt, e) rest
 
 pub ascending_apart : (rs : List (ℕ × ℕ)) → Ascend rs → rise_above None rs ≡ apart meet rs
 ascending_apart [] h = refl
@@ -117,19 +119,19 @@ module _ {X : Type 0} (h : X → Option (ℕ × ℕ)) where
 
   some_meets : (q : ℕ × ℕ) (xs : List X) → list_any (overlap (Some q)) (map h xs) ≡ list_any (both_meet q) (filter_map h xs)
   some_meets q [] = refl
-  some_meets q (x ∷ xs) = go (h x)
+  some_meets q (x ∷ xs) = go (some_meets q xs) (h x)
     where
-      go : (o : Option (ℕ × ℕ)) → (overlap (Some q) o || list_any (overlap (Some q)) (map h xs)) ≡ list_any (both_meet q) (cons_option o (filter_map h xs))
-      go None = some_meets q xs
-      go (Some r) = ap (λ b. both_meet q r || b) (some_meets q xs)
+      go : list_any (overlap (Some q)) (map h xs) ≡ list_any (both_meet q) (filter_map h xs) → (o : Option (ℕ × ℕ)) → (overlap (Some q) o || list_any (overlap (Some q)) (map h xs)) ≡ list_any (both_meet q) (cons_option o (filter_map h xs))
+      go rest None = rest
+      go rest (Some r) = ap (λ b. both_meet q r || b) rest
 
   somes_apart : (xs : List X) → apart overlap (map h xs) ≡ apart both_meet (filter_map h xs)
   somes_apart [] = refl
-  somes_apart (x ∷ xs) = go (h x)
+  somes_apart (x ∷ xs) = go (somes_apart xs) (h x)
     where
-      go : (o : Option (ℕ × ℕ)) → (not (list_any (overlap o) (map h xs)) && apart overlap (map h xs)) ≡ apart both_meet (cons_option o (filter_map h xs))
-      go None = rw (none_meets xs) (somes_apart xs)
-      go (Some q) = rw (some_meets q xs, somes_apart xs) refl
+      go : apart overlap (map h xs) ≡ apart both_meet (filter_map h xs) → (o : Option (ℕ × ℕ)) → (not (list_any (overlap o) (map h xs)) && apart overlap (map h xs)) ≡ apart both_meet (cons_option o (filter_map h xs))
+      go rest None = rw (none_meets xs) rest
+      go rest (Some q) = rw (some_meets q xs, rest) refl
 
   pub sorted_apart : (xs : List X) (rs sorted : List (ℕ × ℕ)) → map ends_of rs ≡ filter_map h xs → IsPermutation rs sorted → Ascend sorted → rise_above None sorted ≡ apart overlap (map h xs)
   sorted_apart xs rs sorted same moved ascend =
