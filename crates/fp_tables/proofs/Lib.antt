@@ -6,3 +6,4 @@ pub mod Holding
 pub mod Joining
 pub mod Nesting
 pub mod Ranges
+pub mod Wants

@@ -1,3 +1,4 @@
+pub mod Behind
 pub mod Components
 pub mod Formats
 pub mod Found
@@ -12,3 +13,4 @@ pub mod Sound
 pub mod SoundPrograms
 pub mod Types
 pub mod Walks
+pub mod Wanted

@@ -1,3 +1,4 @@
+mod choices;
 mod components;
 mod formats;
 mod instances;
@@ -10,3 +11,4 @@ mod positions;
 mod ranges;
 mod states;
 mod topologies;
+mod wanted;
