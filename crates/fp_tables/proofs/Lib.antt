@@ -1,7 +1,9 @@
 pub mod Alls
+pub mod Branches
 pub mod Differing
 pub mod Families
 pub mod Firsts
+pub mod Found
 pub mod Holding
 pub mod Joining
 pub mod Nesting

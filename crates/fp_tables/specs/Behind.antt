@@ -1,7 +1,7 @@
 -- What stands behind the choices of a machine.
-use Rattle.std.specs.Prelude.{◌≡◌, ℕ, suc, Bool, true, false, cond, ◌<◌, ◌&&◌, not, max, min, nat_le, is_some, is_none, List, [], ◌∷◌, length, Option, None, Some, slice_get, option_and_then}
-use Rattle.fp_tables.specs.Positions.{is_inside}
-use Rattle.fp_tables.specs.Machines.{node_at, reached, begins_choices, behind_is_given}
+use Rattle.std.specs.Prelude.{◌≡◌, ℕ, suc, Bool, true, false, cond, ◌<◌, ◌≤◌, ◌^◌, ◌&&◌, max, min, sum_by, nat_le, is_some, is_none, List, [], ◌∷◌, length, Option, None, Some, slice_get, option_and_then}
+use Rattle.std.specs.Option.{option_len}
+use Rattle.fp_tables.specs.Machines.{node_at, reached, begins_choices, behind_is_given, has_no_ring}
 use Rattle.fp_tables.specs.Wanted.{meets}
 use Rattle.fp_tables.specs.declared.kind.Kind.{Kind}
 use Rattle.fp_tables.specs.declared.kind.TypeDef.{TypeDef}
@@ -82,3 +82,28 @@ found_behind vs found (Some v) = of_node (node_at vs v)
     of_node (Some (node.State initial entry exit on)) = record { choices = 0; states = Some (v, v); wanted = Nothing }
     of_node (Some (node.Choice guard met unmet)) = or_nothing (found_at found v)
     of_node None = nothing_behind
+
+-- ---- what is known while choices are gone through
+
+-- of how many vertices something was found
+abbrev pub found_count : List (Option Behind) → ℕ
+found_count found = sum_by (λ (b : Option Behind). option_len b) found
+
+-- what was found is so
+pub record AreBehind (types : List TypeDef) (m : Machine) (found : List (Option Behind)) : Type 0 where
+  pub few : length m.vertices < 2 ^ 32
+  pub one_each : length found ≡ length m.vertices
+  pub right : (v : ℕ) (b : Behind) → found_at found v ≡ Some b → IsBehind types m (Some v) b
+  pub bounded : (v : ℕ) (b : Behind) → found_at found v ≡ Some b → b.choices ≤ found_count found
+
+-- what was found stays, and of a choice something is found
+pub record Settles (types : List TypeDef) (m : Machine) (choice : ℕ) (before after : List (Option Behind)) : Type 0 where
+  pub behind : AreBehind types m after
+  pub kept : (v : ℕ) → is_some (found_at before v) ≡ true → is_some (found_at after v) ≡ true
+  pub here : is_some (found_at after choice) ≡ true
+
+-- something is found of each choice
+pub record AllBehind (types : List TypeDef) (m : Machine) (found : List (Option Behind)) : Type 0 where
+  pub behind : AreBehind types m found
+  pub all : (v : ℕ) → is_open m.vertices found v ≡ false
+  pub no_ring : has_no_ring m.vertices ≡ true
