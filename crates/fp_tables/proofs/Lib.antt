@@ -1,5 +1,6 @@
 pub mod Alls
 pub mod Branches
+pub mod Chains
 pub mod Differing
 pub mod Families
 pub mod Firsts

@@ -1,5 +1,5 @@
 -- What stands behind the choices of a machine.
-use Rattle.std.specs.Prelude.{◌≡◌, ℕ, suc, Bool, true, false, cond, ◌<◌, ◌≤◌, ◌^◌, ◌&&◌, max, min, sum_by, nat_le, is_some, is_none, List, [], ◌∷◌, length, Option, None, Some, slice_get, option_and_then}
+use Rattle.std.specs.Prelude.{◌≡◌, ◌⊎◌, ℕ, suc, Bool, true, false, cond, ◌<◌, ◌≤◌, ◌^◌, ◌&&◌, max, min, sum_by, nat_le, is_some, is_none, List, [], ◌∷◌, length, Option, None, Some, slice_get, option_and_then}
 use Rattle.std.specs.Option.{option_len}
 use Rattle.fp_tables.specs.Machines.{node_at, reached, begins_choices, behind_is_given, has_no_ring}
 use Rattle.fp_tables.specs.Wanted.{meets}
@@ -107,3 +107,23 @@ pub record AllBehind (types : List TypeDef) (m : Machine) (found : List (Option 
   pub behind : AreBehind types m found
   pub all : (v : ℕ) → is_open m.vertices found v ≡ false
   pub no_ring : has_no_ring m.vertices ≡ true
+
+-- ---- the path from the choice that is gone through
+
+abbrev pub is_branch : List Vertex → ℕ → ℕ → Type 0
+is_branch vs v w = of_node (node_at vs v)
+  where
+    of_node : Option Node → Type 0
+    of_node (Some (node.Choice guard met unmet)) = (met.target ≡ Some w) ⊎ (unmet.target ≡ Some w)
+    of_node _ = ⊥
+
+-- choices of which nothing was found yet, each a branch of the one before
+abbrev pub IsPath : List Vertex → List (Option Behind) → List ℕ → Type 0
+IsPath vs found [] = Unit {0}
+IsPath vs found (v ∷ []) = is_open vs found v ≡ true
+IsPath vs found (v ∷ w ∷ path) = (is_open vs found v ≡ true) × is_branch vs v w × IsPath vs found (w ∷ path)
+
+-- a path begins at a choice, or something was found of it
+abbrev pub Begins : List (Option Behind) → ℕ → List ℕ → Type 0
+Begins found choice [] = is_some (found_at found choice) ≡ true
+Begins found choice (v ∷ path) = v ≡ choice
