@@ -1,20 +1,16 @@
 -- Paths of choices that are gone through.
 use Rattle.std.proofs.Common.{◌≡◌, ◌≢◌, ℕ, zero, suc, ◌+◌, ◌-◌, ◌*◌, ◌<◌, ◌≤◌, Bool, true, false, cond, not, ◌&&◌, ◌||◌, leb, List, [], ◌∷◌, ◌++◌, length, set, get_or, Option, None, Some, is_none, is_some, slice_get, ◌⊎◌, inl, inr, refl, sym, ap, ap₂, subst, ◌∙◌, arith}
-use Rattle.std.proofs.lemmas.Bool.Decides.{nat_tests, Decides-eqb}
+use Rattle.std.proofs.lemmas.Bool.Decides.{nat_tests}
 use Rattle.std.proofs.lemmas.Option.{slice_get_within}
 use Rattle.fp_tables.specs.Lists.{all_from}
 use Rattle.fp_tables.specs.Machines.{node_at, either_branch, begins_choices, has_no_ring}
-use Rattle.fp_tables.specs.Behind.{found_at, found_count, choice_at, is_open, open_target, open_branch, either, IsBehind, AreBehind, Settles, AllBehind, is_branch, IsPath, Begins}
-use Rattle.fp_tables.specs.declared.kind.TypeDef.{TypeDef}
-use Rattle.fp_tables.specs.declared.machine.Step.{Step}
+use Rattle.fp_tables.specs.Behind.{found_at, choice_at, is_open, is_branch, IsPath}
 use Rattle.fp_tables.specs.declared.machine.Node.{Node}
 use Rattle.fp_tables.specs.declared.machine.Node.TheVariants as node
 use Rattle.fp_tables.specs.declared.machine.Vertex.{Vertex}
-use Rattle.fp_tables.specs.declared.machine.Machine.{Machine}
 use Rattle.fp_tables.specs.declared.sound.choices.Behind.{Behind}
 use Rattle.fp_tables.proofs.Alls.{both}
 use Rattle.fp_tables.proofs.Branches.{begins_step, begins_zero}
-use Rattle.fp_tables.proofs.Found.{found_same, found_other, found_more, count_within}
 
 module _ (vs : List Vertex) where
   -- ---- chains of choices

@@ -5,6 +5,7 @@ pub mod Differing
 pub mod Families
 pub mod Firsts
 pub mod Found
+pub mod Going
 pub mod Holding
 pub mod Joining
 pub mod Nesting
