@@ -73,10 +73,6 @@ module _ (vs : List Vertex) where
       and_false true = refl
       and_false false = refl
 
-  all_hold : {A : Type 0} (f : ℕ → A → Bool) (n : ℕ) (xs : List A) → ((k : ℕ) (x : A) → f k x ≡ true) → all_from f n xs ≡ true
-  all_hold f n [] h = refl
-  all_hold f n (x ∷ xs) h = rw (h n x) (all_hold f (suc n) xs h)
-
   within : (v : ℕ) (o : Option Vertex) → slice_get vs v ≡ o → choice_at vs v ≡ true → v < length vs
   within v None e h = let none : choice_at vs v ≡ false = rw e refl in absurd (cc)
   within v (Some x) e h = slice_get_within vs v x e

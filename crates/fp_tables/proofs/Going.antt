@@ -1,6 +1,7 @@
 -- Steps of going through choices.
-use Rattle.std.proofs.Common.{◌≡◌, ◌≢◌, ℕ, zero, suc, ◌+◌, ◌-◌, ◌*◌, ◌<◌, ◌≤◌, Bool, true, false, cond, not, ◌&&◌, leb, List, [], ◌∷◌, ◌++◌, length, set, Option, None, Some, is_none, is_some, ◌⊎◌, inl, inr, refl, sym, ap, subst, ◌∙◌, arith, length-set}
+use Rattle.std.proofs.Common.{◌≡◌, ◌≢◌, ℕ, zero, suc, ◌+◌, ◌-◌, ◌*◌, ◌<◌, ◌≤◌, Bool, true, false, cond, not, ◌&&◌, leb, List, [], ◌∷◌, ◌++◌, length, set, Option, None, Some, is_none, is_some, ◌⊎◌, inl, inr, eqb, refl, sym, ap, subst, ◌∙◌, arith, length-set}
 use Rattle.std.proofs.lemmas.Bool.Decides.{nat_tests}
+use Rattle.fp_tables.specs.Lists.{all_from}
 use Rattle.fp_tables.specs.Machines.{node_at, begins_choices, either_branch, has_no_ring}
 use Rattle.fp_tables.specs.Behind.{found_at, found_count, choice_at, is_open, open_target, open_branch, either, IsBehind, AreBehind, Settles, AllBehind, is_branch, IsPath, Begins}
 use Rattle.fp_tables.specs.declared.kind.TypeDef.{TypeDef}
@@ -12,6 +13,7 @@ use Rattle.fp_tables.specs.declared.machine.Machine.{Machine}
 use Rattle.fp_tables.specs.declared.sound.choices.Behind.{Behind}
 use Rattle.fp_tables.proofs.Alls.{both}
 use Rattle.fp_tables.proofs.Branches.{begins_step}
+use Rattle.fp_tables.proofs.Holding.{all_hold}
 use Rattle.fp_tables.proofs.Found.{found_same, found_other, found_more, count_within}
 
 module _ (vs : List Vertex) (found : List (Option Behind)) where
@@ -73,3 +75,104 @@ module _ (vs : List Vertex) (found : List (Option Behind)) where
   last_open [] v h = h
   last_open (x ∷ []) v h = h.2
   last_open (x ∷ y ∷ path) v h = last_open (y ∷ path) v h.2
+
+same_or_not : (m n : ℕ) → (m ≡ n) ⊎ (m ≢ n)
+same_or_not m n = go (eqb m n) refl
+  where
+    go : (b : Bool) → eqb m n ≡ b → (m ≡ n) ⊎ (m ≢ n)
+    go true e = inl (grind (arith, nat_tests))
+    go false e = inr (grind (arith, nat_tests))
+
+-- ---- something is found of the last choice of a path
+
+module _ (vs : List Vertex) (found : List (Option Behind)) (t : ℕ) (b : Behind) (lt : t < length found) where
+  abbrev after : List (Option Behind)
+  after = set found t (Some b)
+
+  here_found : found_at after t ≡ Some b
+  here_found = found_same found t b lt
+
+  still_open : (v : ℕ) → v ≢ t → is_open vs found v ≡ true → is_open vs after v ≡ true
+  still_open v ne h = ap (λ (o : Option Behind). choice_at vs v && is_none o) (found_other found t b v ne) ∙ h
+
+  other_than : (v w : ℕ) → is_branch vs v w → is_open vs found w ≡ true → open_branch vs found t ≡ None → v ≢ t
+  other_than v w h o closed = λ e. closed_from vs found v w (node_at vs v) refl h (ap (open_branch vs found) e ∙ closed) o
+
+  first_open : (v : ℕ) (path : List ℕ) → IsPath vs found (v ∷ path) → is_open vs found v ≡ true
+  first_open v [] h = h
+  first_open v (w ∷ path) h = h.0
+
+  pub path_shorter : (path : List ℕ) → IsPath vs found (path ++ t ∷ []) → open_branch vs found t ≡ None → IsPath vs after path
+  path_shorter [] h closed = tt
+  path_shorter (v ∷ []) h closed = still_open v (other_than v t h.1 h.2 closed) h.0
+  path_shorter (v ∷ w ∷ path) h closed =
+      (still_open v (other_than v w h.1 (first_open w (path ++ t ∷ []) h.2) closed) h.0, h.1, path_shorter (w ∷ path) h.2 closed)
+
+  pub begins_shorter : (choice : ℕ) (path : List ℕ) → Begins found choice (path ++ t ∷ []) → Begins after choice path
+  begins_shorter choice [] h = ap (λ (o : Option Behind). is_some o) (ap (found_at after) (sym h) ∙ here_found)
+  begins_shorter choice (v ∷ path) h = h
+
+  pub still_found : (v : ℕ) → is_some (found_at found v) ≡ true → is_some (found_at after v) ≡ true
+  still_found v h = elim (same_or_not v t) [
+    | inl e ↦ ap (λ (o : Option Behind). is_some o) (ap (found_at after) e ∙ here_found)
+    | inr ne ↦ ap (λ (o : Option Behind). is_some o) (found_other found t b v ne) ∙ h
+  ]
+
+  pub more_behind : (types : List TypeDef) (m : Machine) → AreBehind types m found → found_at found t ≡ None → IsBehind types m (Some t) b → b.choices ≤ found_count found + 1 → AreBehind types m after
+  more_behind types m known none behind bound =
+      let more = found_more found t b lt none in
+      record {
+        few = known.few;
+        one_each = length-set found t (Some b) ∙ known.one_each;
+        right = λ v c e. elim (same_or_not v t) [
+          | inl s ↦ let same : b ≡ c = some_same b c (sym here_found ∙ ap (found_at after) (sym s) ∙ e) in subst (λ (x : ℕ). IsBehind types m (Some x) c) (sym s) (subst (IsBehind types m (Some t)) same behind)
+          | inr ne ↦ known.right v c (sym (found_other found t b v ne) ∙ e)
+        ];
+        bounded = λ v c e. elim (same_or_not v t) [
+          | inl s ↦ let same : b ≡ c = some_same b c (sym here_found ∙ ap (found_at after) (sym s) ∙ e) in let long : b.choices ≡ c.choices = ap (λ (x : Behind). x.choices) same in omega (arith, more, long, bound)
+          | inr ne ↦ let few = known.bounded v c (sym (found_other found t b v ne) ∙ e) in omega (arith, more, few)
+        ];
+      }
+    where
+      some_same : (x y : Behind) → Some x ≡ Some y → x ≡ y
+      some_same x y e = cc
+
+-- ---- all choices were gone through
+
+module _ (types : List TypeDef) (m : Machine) (found : List (Option Behind)) (known : AreBehind types m found) where
+  abbrev vs : List Vertex
+  vs = m.vertices
+
+  too_long : (b : Behind) → b.choices ≤ found_count found → leb (suc (length vs)) b.choices ≡ false
+  too_long b h =
+      let within = count_within found in
+      let each = known.one_each in
+      let lt : b.choices < suc (length vs) = omega (arith, within, each, h) in
+      grind (arith, nat_tests)
+
+  none_begins : (v : ℕ) → is_open vs found v ≡ false → (o : Option Node) → node_at vs v ≡ o → begins_choices vs (suc (length vs)) (Some v) ≡ false
+  none_begins v closed None e = begins_step vs (length vs) v ∙ ap (either_branch (begins_choices vs (length vs))) e
+  none_begins v closed (Some (node.State initial entry exit on)) e = begins_step vs (length vs) v ∙ ap (either_branch (begins_choices vs (length vs))) e
+  none_begins v closed (Some (node.Choice guard met unmet)) e = go (found_at found v) refl
+    where
+      go : (o : Option Behind) → found_at found v ≡ o → begins_choices vs (suc (length vs)) (Some v) ≡ false
+      go None f = let opened : is_open vs found v ≡ true = rw (e, f) refl in absurd (cc)
+      go (Some b) f = (known.right v b f).choices (suc (length vs)) ∙ too_long b (known.bounded v b f)
+
+  pub no_ring : ((v : ℕ) → is_open vs found v ≡ false) → has_no_ring vs ≡ true
+  no_ring closed =
+      all_hold (λ n (x : Vertex). not (begins_choices vs (suc (length vs)) (Some n))) 0 vs (λ k x. ap (λ (b : Bool). not b) (none_begins k (closed k) (node_at vs k) refl))
+
+-- ---- an end
+
+pub goes_deeper : (most count long : ℕ) → long ≤ most → (most - count) * (most + 2) + (most + 1 - (long + 1)) < (most - count) * (most + 2) + (most + 1 - long)
+goes_deeper most count long h = omega arith
+
+pub finds_more : (most count long : ℕ) → count < most → (most - (count + 1)) * (most + 2) + (most + 1 - long) < (most - count) * (most + 2) + (most + 1 - (long + 1))
+finds_more most count long lt = go (most - (count + 1)) (most - count) (omega arith)
+  where
+    go : (a b : ℕ) → b ≡ suc a → a * (most + 2) + (most + 1 - long) < b * (most + 2) + (most + 1 - (long + 1))
+    go a b e =
+        let same : b * (most + 2) ≡ suc a * (most + 2) = ap (λ (n : ℕ). n * (most + 2)) e in
+        let more : suc a * (most + 2) ≡ a * (most + 2) + (most + 2) = omega arith in
+        omega (arith, same, more)

@@ -1,9 +1,12 @@
-ghost use Rattle.std.specs.Prelude.{◌≡◌, ℕ, length, slice_get};
-ghost use Rattle.fp_tables.specs.Behind.{join_spans, found_at, is_open, open_target, open_branch, found_behind};
+ghost use Rattle.std.specs.Prelude.{◌≡◌, ◌<◌, ◌≤◌, ◌+◌, ◌^◌, ◌&&◌, suc, max, Some, None, true, false, Option, IfOk, MatchOption};
+ghost use Rattle.fp_tables.specs.Machines.{has_no_ring, guard_is_given, actions_are_given};
+ghost use Rattle.fp_tables.specs.Wanted.{meets};
+ghost use Rattle.fp_tables.specs.Behind.{join_spans, found_at, found_count, choice_at, is_open, open_target, open_branch, found_behind, IsBehind, AreBehind, Settles};
+ghost use Rattle.fp_tables.specs.declared.kind.Kind.{Kind};
 
 use crate::kind::TypeDef;
 use crate::machine::{Machine, Node, Step, Vertex};
-use crate::sound::wanted::{self, Wanted};
+use crate::sound::wanted::{both_wanted, wanted_by_actions, wanted_by_guard, Wanted};
 use fp_base::NoMemory;
 use std::alloc::Global;
 
@@ -92,4 +95,65 @@ pub fn found_behind(vertices: &[Vertex], found: &[Option<Behind>], target: Optio
         },
         None => NOTHING,
     }
+}
+
+/// What is behind a choice, from what is behind its branches.
+fn around(types: &[TypeDef], machine: &Machine, guard: u32, yes: &Step, no: &Step, met: &Behind, unmet: &Behind) -> Behind
+    requires { max met.now.choices unmet.now.choices < 2 ^ 32 }
+    ensures choices { result.choices ≡ suc (max met.now.choices unmet.now.choices) }
+    ensures states { result.states ≡ join_spans met.now.states unmet.now.states }
+    ensures wanted { (given : Option Kind) → meets types.now given result.wanted ≡ (guard_is_given types.now machine.now given guard && actions_are_given types.now machine.now given yes.now.actions && meets types.now given met.now.wanted && actions_are_given types.now machine.now given no.now.actions && meets types.now given unmet.now.wanted) }
+{
+    let guard = wanted_by_guard(types, machine, guard);
+    let yes = wanted_by_actions(types, machine, yes.actions.as_slice());
+    let no = wanted_by_actions(types, machine, no.actions.as_slice());
+    let met_wanted = both_wanted(both_wanted(guard, yes), met.wanted);
+    Behind {
+        choices: met.choices.max(unmet.choices) + 1,
+        states: join_spans(met.states, unmet.states),
+        wanted: both_wanted(both_wanted(met_wanted, no), unmet.wanted),
+    }
+}
+
+/// What is behind a choice, from what was found behind its branches.
+fn behind_choice(types: &[TypeDef], machine: &Machine, found: &[Option<Behind>], choice: usize) -> Behind
+    requires known { AreBehind types.now machine.now found.now }
+    requires is_choice { choice_at machine.now.vertices choice ≡ true }
+    requires closed { open_branch machine.now.vertices found.now choice ≡ None }
+    ensures behind { IsBehind types.now machine.now (Some choice) result }
+    ensures bounded { result.choices ≤ found_count found.now + 1 }
+{
+    let vertices = machine.vertices.as_slice();
+    match machine.vertices.get(choice) {
+        Some(Vertex { node: Node::Choice { guard, yes, no }, .. }) => {
+            let met = found_behind(vertices, found, yes.target);
+            let unmet = found_behind(vertices, found, no.target);
+            around(types, machine, *guard, yes, no, &met, &unmet)
+        }
+        _ => NOTHING,
+    }
+}
+
+/// Finds what is behind a choice and behind those that it leads to, unless they make a ring.
+fn settle(alloc: Global, types: &[TypeDef], machine: &Machine, found: Vec<Option<Behind>>, start: usize) -> Result<Option<Vec<Option<Behind>>>, NoMemory>
+    requires known { AreBehind types.now machine.now found.items }
+    requires open { is_open machine.now.vertices found.items start ≡ true }
+    ensures { IfOk result (λ settled. MatchOption settled (has_no_ring machine.now.vertices ≡ false) (λ after. Settles types.now machine.now start found.items after.items)) }
+{
+    let vertices = machine.vertices.as_slice();
+    let mut found = found;
+    let mut path = vec![in alloc; start]?;
+    while let Some(choice) = path.pop() {
+        match open_branch(vertices, found.as_slice(), choice) {
+            Some(next) => {
+                if path.len() >= vertices.len() {
+                    return Ok(None);
+                }
+                path.push(choice)?;
+                path.push(next)?;
+            }
+            None => found[choice] = Some(behind_choice(types, machine, found.as_slice(), choice)),
+        }
+    }
+    Ok(Some(found))
 }
