@@ -1,5 +1,5 @@
 -- What is behind a choice, from what is behind its branches.
-use Rattle.std.proofs.Common.{◌≡◌, ℕ, zero, suc, ◌<◌, ◌≤◌, Bool, true, false, cond, not, ◌&&◌, ◌||◌, max, min, leb, List, [], ◌∷◌, ◌++◌, Option, None, Some, is_none, is_some, refl, sym, ap, ap₂, subst, ◌∙◌, arith}
+use Rattle.std.proofs.Common.{◌≡◌, ℕ, zero, suc, ◌<◌, ◌≤◌, Bool, true, false, cond, not, ◌&&◌, ◌||◌, max, min, leb, List, [], ◌∷◌, ◌++◌, Option, None, Some, option_map, slice_get, is_none, is_some, refl, sym, ap, ap₂, subst, ◌∙◌, arith}
 use Rattle.std.proofs.lemmas.Bool.Decides.{nat_tests}
 use Rattle.fp_tables.specs.Machines.{node_at, either_branch, reached_at, reached, begins_choices, guard_is_given, actions_are_given, choice_is_given, behind_is_given}
 use Rattle.fp_tables.specs.Wanted.{meets}
@@ -196,3 +196,27 @@ pub closed_branches : (vs : List Vertex) (found : List (Option Behind)) (v guard
 closed_branches vs found v guard met unmet e closed =
     let opened : open_branch vs found v ≡ either (open_target vs found met.target) (open_target vs found unmet.target) = rw e refl in
     either_none _ _ (sym opened ∙ closed)
+
+-- what was found behind the two branches of a choice
+pub record HasBranches (types : List TypeDef) (m : Machine) (found : List (Option Behind)) (v guard : ℕ) (met unmet : Step) (l r : Behind) : Type 0 where
+  pub at : node_at m.vertices v ≡ Some (node.Choice guard met unmet)
+  pub left : IsBehind types m met.target l
+  pub right : IsBehind types m unmet.target r
+  pub left_bound : l.choices ≤ found_count found
+  pub right_bound : r.choices ≤ found_count found
+
+pub has_branches : (types : List TypeDef) (m : Machine) (found : List (Option Behind)) (v guard : ℕ) (met unmet : Step) (l r : Behind) (x : Vertex) → AreBehind types m found → Some x ≡ slice_get m.vertices v →
+    x.node ≡ node.Choice guard met unmet → open_branch m.vertices found v ≡ None → l ≡ found_behind m.vertices found met.target → r ≡ found_behind m.vertices found unmet.target →
+    HasBranches types m found v guard met unmet l r
+has_branches types m found v guard met unmet l r x known got is closed lis ris =
+    let at : node_at m.vertices v ≡ Some (node.Choice guard met unmet) = ap (option_map (λ (y : Vertex). y.node)) (sym got) ∙ ap Some is in
+    let none = closed_branches m.vertices found v guard met unmet at closed in
+    let left = closed_behind types m found known met.target none.0 in
+    let right = closed_behind types m found known unmet.target none.1 in
+    record {
+      at = at;
+      left = subst (IsBehind types m met.target) (sym lis) left.0;
+      right = subst (IsBehind types m unmet.target) (sym ris) right.0;
+      left_bound = subst (λ (b : Behind). b.choices ≤ found_count found) (sym lis) left.1;
+      right_bound = subst (λ (b : Behind). b.choices ≤ found_count found) (sym ris) right.1;
+    }

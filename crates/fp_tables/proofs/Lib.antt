@@ -7,6 +7,7 @@ pub mod Firsts
 pub mod Found
 pub mod Going
 pub mod Holding
+pub mod Insides
 pub mod Joining
 pub mod Nesting
 pub mod Ranges

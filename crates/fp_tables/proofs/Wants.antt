@@ -138,3 +138,6 @@ module _ (types : List TypeDef) (given : Option Kind) where
       of_kind : (k : Option Kind) → meets types given (wanted_by types (Some (record x { kind = k }))) ≡ is_given types m given (Some (record x { kind = k }))
       of_kind None = refl
       of_kind (Some k) = refl
+
+  pub meets_joined : (u v w : Wanted) (a b : Bool) → u ≡ both_wanted v w → meets types given v ≡ a → meets types given w ≡ b → meets types given u ≡ (a && b)
+  meets_joined u v w a b e p q = ap (meets types given) e ∙ meets_both v w ∙ ap₂ (λ (x y : Bool). x && y) p q

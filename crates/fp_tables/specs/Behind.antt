@@ -1,6 +1,8 @@
 -- What stands behind the choices of a machine.
 use Rattle.std.specs.Prelude.{◌≡◌, ◌⊎◌, ℕ, suc, Bool, true, false, cond, ◌<◌, ◌≤◌, ◌^◌, ◌&&◌, max, min, sum_by, nat_le, is_some, is_none, List, [], ◌∷◌, length, Option, None, Some, slice_get, option_and_then}
 use Rattle.std.specs.Option.{option_len}
+use Rattle.fp_tables.specs.Lists.{if_some}
+use Rattle.fp_tables.specs.Positions.{is_inside}
 use Rattle.fp_tables.specs.Machines.{node_at, reached, begins_choices, behind_is_given, has_no_ring}
 use Rattle.fp_tables.specs.Wanted.{meets}
 use Rattle.fp_tables.specs.declared.kind.Kind.{Kind}
@@ -127,3 +129,7 @@ IsPath vs found (v ∷ w ∷ path) = (is_open vs found v ≡ true) × is_branch 
 abbrev pub Begins : List (Option Behind) → ℕ → List ℕ → Type 0
 Begins found choice [] = is_some (found_at found choice) ≡ true
 Begins found choice (v ∷ path) = v ≡ choice
+
+-- whether the least and the greatest stand in a state, if there is any
+abbrev pub span_is_inside : List Vertex → ℕ → Option (ℕ × ℕ) → Bool
+span_is_inside vs state s = if_some (λ (p : ℕ × ℕ). is_inside vs (length vs) p.0 state && is_inside vs (length vs) p.1 state) s

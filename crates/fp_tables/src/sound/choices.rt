@@ -1,7 +1,7 @@
-ghost use Rattle.std.specs.Prelude.{◌≡◌, ◌<◌, ◌≤◌, ◌+◌, ◌^◌, ◌&&◌, suc, max, Some, None, true, false, Option, IfOk, MatchOption};
+ghost use Rattle.std.specs.Prelude.{◌≡◌, ℕ, ◌<◌, ◌≤◌, ◌+◌, ◌^◌, ◌&&◌, suc, max, length, Some, None, true, false, Option, IfOk, MatchOption};
 ghost use Rattle.fp_tables.specs.Machines.{has_no_ring, guard_is_given, actions_are_given};
 ghost use Rattle.fp_tables.specs.Wanted.{meets};
-ghost use Rattle.fp_tables.specs.Behind.{join_spans, found_at, found_count, choice_at, is_open, open_target, open_branch, found_behind, IsBehind, AreBehind, Settles};
+ghost use Rattle.fp_tables.specs.Behind.{join_spans, found_at, found_count, choice_at, is_open, open_target, open_branch, found_behind, IsBehind, AreBehind, Settles, AllBehind};
 ghost use Rattle.fp_tables.specs.declared.kind.Kind.{Kind};
 
 use crate::kind::TypeDef;
@@ -153,6 +153,34 @@ fn settle(alloc: Global, types: &[TypeDef], machine: &Machine, found: Vec<Option
                 path.push(next)?;
             }
             None => found[choice] = Some(behind_choice(types, machine, found.as_slice(), choice)),
+        }
+    }
+    Ok(Some(found))
+}
+
+fn nothing_found(alloc: Global, size: usize) -> Result<Vec<Option<Behind>>, NoMemory>
+    ensures { IfOk result (λ found. (length found.items ≡ size) × ((v : ℕ) → found_at found.items v ≡ None)) }
+{
+    let mut found = Vec::with_capacity(alloc, size)?;
+    for _ in 0..size {
+        found.push(None)?;
+    }
+    Ok(found)
+}
+
+/// What is behind each choice, unless choices make a ring.
+pub fn behind_choices(alloc: Global, types: &[TypeDef], machine: &Machine) -> Result<Option<Vec<Option<Behind>>>, NoMemory>
+    requires { length machine.now.vertices < 2 ^ 32 }
+    ensures { IfOk result (λ found. MatchOption found (has_no_ring machine.now.vertices ≡ false) (λ found. AllBehind types.now machine.now found.items)) }
+{
+    let vertices = machine.vertices.as_slice();
+    let mut found = nothing_found(alloc, vertices.len())?;
+    for choice in 0..vertices.len() {
+        if is_open(vertices, found.as_slice(), choice) {
+            match settle(alloc, types, machine, found, choice)? {
+                Some(after) => found = after,
+                None => return Ok(None),
+            }
         }
     }
     Ok(Some(found))

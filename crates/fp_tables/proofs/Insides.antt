@@ -1,0 +1,68 @@
+-- What stands in a state of vertices in preorder.
+use Rattle.std.proofs.Common.{◌≡◌, ◌≢◌, ℕ, zero, suc, ◌+◌, ◌-◌, ◌<◌, ◌≤◌, Bool, true, false, ◌&&◌, ◌||◌, eqb, ltb, leb, min, max, List, [], ◌∷◌, length, Option, None, Some, option_and_then, slice_get, ◌⊎◌, inl, inr, refl, sym, ap, subst, ◌∙◌, arith}
+use Rattle.std.specs.List.{list_all}
+use Rattle.std.proofs.lemmas.Bool.Decides.{nat_tests}
+use Rattle.std.proofs.lemmas.Option.{slice_get_within}
+use Rattle.fp_tables.specs.Lists.{all_from, if_some, some_and}
+use Rattle.fp_tables.specs.Positions.{is_state, is_inside, stands_in_order, are_in_preorder}
+use Rattle.fp_tables.specs.Behind.{join_spans, span, span_is_inside}
+use Rattle.fp_tables.specs.declared.machine.Vertex.{Vertex}
+use Rattle.fp_tables.proofs.Alls.{both}
+use Rattle.fp_tables.proofs.Nesting.{parent}
+
+all_at : {A : Type 0} (f : ℕ → A → Bool) (n k p : ℕ) (xs : List A) (x : A) → p ≡ n + k → all_from f n xs ≡ true → slice_get xs k ≡ Some x → f p x ≡ true
+all_at f n k p [] x e h g = absurd (cc)
+all_at f n zero p (y ∷ xs) x e h g =
+    let same : y ≡ x = cc in
+    let place : n ≡ p = omega arith in
+    subst (λ (m : ℕ). f m x ≡ true) place (ap (f n) (sym same) ∙ (both (f n y) (all_from f (suc n) xs) h).0)
+all_at f n (suc k) p (y ∷ xs) x e h g = all_at f (suc n) k p xs x (omega arith) (both (f n y) (all_from f (suc n) xs) h).1 g
+
+-- one vertex stands in another, maybe through others
+data Stands (vs : List Vertex) : ℕ → ℕ → Type 0 where
+  once : (v p : ℕ) → parent vs v ≡ Some p → Stands vs v p
+  again : (v q p : ℕ) → parent vs v ≡ Some q → Stands vs q p → Stands vs v p
+
+through : (vs : List Vertex) (v q p : ℕ) → Stands vs v q → Stands vs q p → Stands vs v p
+through vs v q p (once v q e) h = again v q p e h
+through vs v q p (again v r q e s) h = again v r p e (through vs r q p s h)
+
+or_cases : (a b : Bool) → (a || b) ≡ true → (a ≡ true) ⊎ (b ≡ true)
+or_cases true b h = inl refl
+or_cases false b h = inr h
+
+module _ (vs : List Vertex) where
+  from_inside : (n v p : ℕ) → is_inside vs n v p ≡ true → Stands vs v p
+  from_inside zero v p h = absurd (cc)
+  from_inside (suc n) v p h = go (from_inside n) (parent vs v) refl h
+    where
+      go : ((q p : ℕ) → is_inside vs n q p ≡ true → Stands vs q p) → (o : Option ℕ) → parent vs v ≡ o → some_and (λ q. eqb q p || is_inside vs n q p) o ≡ true → Stands vs v p
+      go more None e h = absurd (cc)
+      go more (Some q) e h = elim (or_cases (eqb q p) (is_inside vs n q p) h) [
+        | inl s ↦ let same : q ≡ p = grind (arith, nat_tests) in once v p (e ∙ ap Some same)
+        | inr s ↦ again v q p e (more q p s)
+      ]
+
+  module _ (ordered : are_in_preorder vs ≡ true) where
+    record Follows (v q : ℕ) : Type 0 where
+      later : q < v
+      next : (v ≡ suc q) ⊎ Stands vs (v - 1) q
+
+    follows : (v q : ℕ) (o : Option Vertex) → slice_get vs v ≡ o → option_and_then (λ (x : Vertex). x.parent) o ≡ Some q → Follows v q
+    follows v q None g e = absurd (cc)
+    follows v q (Some x) g e = go x.parent e (all_at (stands_in_order vs) 0 v v vs x (omega arith) ordered g)
+      where
+        go : (o : Option ℕ) → o ≡ Some q → if_some (λ p. ltb p v && is_state (slice_get vs p) && (eqb v (suc p) || is_inside vs (length vs) (v - 1) p)) o ≡ true → Follows v q
+        go None e h = absurd (cc)
+        go (Some p) e h =
+            let same : p ≡ q = cc in
+            let h = subst (λ (p : ℕ). (ltb p v && is_state (slice_get vs p) && (eqb v (suc p) || is_inside vs (length vs) (v - 1) p)) ≡ true) same h in
+            let parts = both (ltb q v && is_state (slice_get vs q)) _ h in
+            let first : ltb q v ≡ true = (both (ltb q v) (is_state (slice_get vs q)) parts.0).0 in
+            record {
+              later = grind (arith, nat_tests);
+              next = elim (or_cases (eqb v (suc q)) (is_inside vs (length vs) (v - 1) q) parts.1) [
+                | inl s ↦ let here : v ≡ suc q = grind (arith, nat_tests) in inl here
+                | inr s ↦ inr (from_inside (length vs) (v - 1) q s)
+              ];
+            }
