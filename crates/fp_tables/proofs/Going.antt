@@ -13,6 +13,7 @@ use Rattle.fp_tables.specs.declared.machine.Machine.{Machine}
 use Rattle.fp_tables.specs.declared.sound.choices.Behind.{Behind}
 use Rattle.fp_tables.proofs.Alls.{both}
 use Rattle.fp_tables.proofs.Branches.{begins_step}
+use Rattle.fp_tables.proofs.Chains.{choice_within}
 use Rattle.fp_tables.proofs.Holding.{all_hold}
 use Rattle.fp_tables.proofs.Found.{found_same, found_other, found_more, count_within}
 
@@ -162,6 +163,13 @@ module _ (types : List TypeDef) (m : Machine) (found : List (Option Behind)) (kn
   pub no_ring : ((v : ℕ) → is_open vs found v ≡ false) → has_no_ring vs ≡ true
   no_ring closed =
       all_hold (λ n (x : Vertex). not (begins_choices vs (suc (length vs)) (Some n))) 0 vs (λ k x. ap (λ (b : Bool). not b) (none_begins k (closed k) (node_at vs k) refl))
+
+pub all_closed : (vs : List Vertex) (found : List (Option Behind)) → ((v : ℕ) → v < length vs → is_open vs found v ≡ false) → (v : ℕ) → is_open vs found v ≡ false
+all_closed vs found closed v = go (is_open vs found v) refl
+  where
+    go : (b : Bool) → is_open vs found v ≡ b → is_open vs found v ≡ false
+    go false e = e
+    go true e = closed v (choice_within vs v (both (choice_at vs v) (is_none (found_at found v)) e).0)
 
 -- ---- an end
 

@@ -24,8 +24,8 @@ data Stands (vs : List Vertex) : ℕ → ℕ → Type 0 where
   again : (v q p : ℕ) → parent vs v ≡ Some q → Stands vs q p → Stands vs v p
 
 through : (vs : List Vertex) (v q p : ℕ) → Stands vs v q → Stands vs q p → Stands vs v p
-through vs v q p (once v q e) h = again v q p e h
-through vs v q p (again v r q e s) h = again v r p e (through vs r q p s h)
+through vs _ _ p (once v q e) h = again v q p e h
+through vs _ _ p (again v r q e s) h = again v r p e (through vs r q p s h)
 
 or_cases : (a b : Bool) → (a || b) ≡ true → (a ≡ true) ⊎ (b ≡ true)
 or_cases true b h = inl refl
@@ -66,3 +66,64 @@ module _ (vs : List Vertex) where
                 | inr s ↦ inr (from_inside (length vs) (v - 1) q s)
               ];
             }
+
+    first_below : (v p : ℕ) → Stands vs v p → p < v
+    first_below _ _ (once v p e) = (follows v p (slice_get vs v) refl e).later
+    first_below _ _ (again v q p e s) =
+        let first = (follows v q (slice_get vs v) refl e).later in
+        let rest = first_below q p s in
+        omega (arith, first, rest)
+
+    to_inside : (n v p : ℕ) → v < n → Stands vs v p → is_inside vs n v p ≡ true
+    to_inside zero v p lt s = absurd (omega arith)
+    to_inside (suc n) _ _ lt (once v p e) = rw (e, itself p) refl
+      where
+        itself : (p : ℕ) → eqb p p ≡ true
+        itself p = grind (arith, nat_tests)
+    to_inside (suc n) _ _ lt (again v q p e s) =
+        let first = (follows v q (slice_get vs v) refl e).later in
+        rw (e, to_inside n q p (omega (arith, first)) s) (or_true (eqb q p))
+      where
+        or_true : (b : Bool) → (b || true) ≡ true
+        or_true true = refl
+        or_true false = refl
+
+    lies : (v : ℕ) (o : Option Vertex) → slice_get vs v ≡ o → (p : ℕ) → option_and_then (λ (x : Vertex). x.parent) o ≡ Some p → v < length vs
+    lies v None g p e = absurd (cc)
+    lies v (Some x) g p e = slice_get_within vs v x g
+
+    stands_lies : (v p : ℕ) → Stands vs v p → v < length vs
+    stands_lies _ _ (once v p e) = lies v (slice_get vs v) refl p e
+    stands_lies _ _ (again v q p e s) = lies v (slice_get vs v) refl q e
+
+    inside : (v p : ℕ) → Stands vs v p → is_inside vs (length vs) v p ≡ true
+    inside v p s = to_inside (length vs) v p (stands_lies v p s) s
+
+    -- what comes before something in a state, and after the state, is in it too
+    before : (u p : ℕ) → p < u → Stands vs (suc u) p → Stands vs u p
+    before u p lt s = go (suc u) p refl lt s
+      where
+        from_next : (v q p : ℕ) → v ≡ suc u → p < u → Follows v q → (q ≡ p) ⊎ Stands vs q p → Stands vs u p
+        from_next v q p e lt f s = elim f.next [
+          | inl n ↦ let same : q ≡ u = omega (arith, n, e) in elim s [ inl k ↦ absurd (omega (arith, k, same)) | inr k ↦ subst (λ (x : ℕ). Stands vs x p) same k ]
+          | inr n ↦
+              let same : v - 1 ≡ u = omega (arith, e) in
+              let here = subst (λ (x : ℕ). Stands vs x q) same n in
+              elim s [ inl k ↦ subst (Stands vs u) k here | inr k ↦ through vs u q p here k ]
+        ]
+
+        go : (v p : ℕ) → v ≡ suc u → p < u → Stands vs v p → Stands vs u p
+        go _ _ e lt (once v p h) = from_next v p p e lt (follows v p (slice_get vs v) refl h) (inl refl)
+        go _ _ e lt (again v q p h s) = from_next v q p e lt (follows v q (slice_get vs v) refl h) (inr s)
+
+    between : (d u p : ℕ) → p < u → Stands vs (u + d) p → Stands vs u p
+    between zero u p lt s = let same : u + 0 ≡ u = omega arith in subst (λ (x : ℕ). Stands vs x p) same s
+    between (suc d) u p lt s =
+        let same : u + suc d ≡ suc (u + d) = omega arith in
+        between d u p lt (before (u + d) p (omega arith) (subst (λ (x : ℕ). Stands vs x p) same s))
+
+    convex : (p l u h : ℕ) → l ≤ u → u ≤ h → is_inside vs (length vs) l p ≡ true → is_inside vs (length vs) h p ≡ true → is_inside vs (length vs) u p ≡ true
+    convex p l u h lu uh least most =
+        let first = first_below l p (from_inside (length vs) l p least) in
+        let same : h ≡ u + (h - u) = omega arith in
+        inside u p (between (h - u) u p (omega (arith, first)) (subst (λ (x : ℕ). Stands vs x p) same (from_inside (length vs) h p most)))
