@@ -3,7 +3,7 @@ use Rattle.std.proofs.Common.{◌≡◌, ◌≢◌, ℕ, zero, suc, ◌+◌, ◌
 use Rattle.std.proofs.lemmas.Bool.Decides.{nat_tests}
 use Rattle.fp_tables.specs.Lists.{all_from}
 use Rattle.fp_tables.specs.Machines.{node_at, begins_choices, either_branch, has_no_ring}
-use Rattle.fp_tables.specs.Behind.{found_at, found_count, choice_at, is_open, open_target, open_branch, either, IsBehind, AreBehind, Settles, AllBehind, is_branch, IsPath, Begins}
+use Rattle.fp_tables.specs.Behind.{found_at, found_count, choice_at, is_open, open_target, open_branch, either, found_behind, IsBehind, AreBehind, AllBehind, is_branch, IsPath, Begins}
 use Rattle.fp_tables.specs.declared.kind.TypeDef.{TypeDef}
 use Rattle.fp_tables.specs.declared.machine.Node.{Node}
 use Rattle.fp_tables.specs.declared.machine.Node.TheVariants as node
@@ -12,7 +12,7 @@ use Rattle.fp_tables.specs.declared.machine.Vertex.{Vertex}
 use Rattle.fp_tables.specs.declared.machine.Machine.{Machine}
 use Rattle.fp_tables.specs.declared.sound.choices.Behind.{Behind}
 use Rattle.fp_tables.proofs.Alls.{both}
-use Rattle.fp_tables.proofs.Branches.{begins_step}
+use Rattle.fp_tables.proofs.Branches.{begins_step, closed_behind}
 use Rattle.fp_tables.proofs.Chains.{choice_within}
 use Rattle.fp_tables.proofs.Holding.{all_hold}
 use Rattle.fp_tables.proofs.Found.{found_same, found_other, found_more, count_within}
@@ -163,6 +163,26 @@ module _ (types : List TypeDef) (m : Machine) (found : List (Option Behind)) (kn
   pub no_ring : ((v : ℕ) → is_open vs found v ≡ false) → has_no_ring vs ≡ true
   no_ring closed =
       all_hold (λ n (x : Vertex). not (begins_choices vs (suc (length vs)) (Some n))) 0 vs (λ k x. ap (λ (b : Bool). not b) (none_begins k (closed k) (node_at vs k) refl))
+
+pub all_behind : (types : List TypeDef) (m : Machine) (found : List (Option Behind)) → AreBehind types m found → ((v : ℕ) → is_open m.vertices found v ≡ false) → AllBehind types m found
+all_behind types m found known closed = record {
+  no_ring = no_ring types m found known closed;
+  states = λ t. let k = behind t in k.0.states (suc (length m.vertices)) (few t k.1);
+  wanted = λ given t. let k = behind t in k.0.wanted given (suc (length m.vertices)) (few t k.1);
+}
+  where
+    target_closed : (t : Option ℕ) → open_target m.vertices found t ≡ None
+    target_closed None = refl
+    target_closed (Some v) = rw (closed v) refl
+
+    behind : (t : Option ℕ) → IsBehind types m t (found_behind m.vertices found t) × ((found_behind m.vertices found t).choices ≤ found_count found)
+    behind t = closed_behind types m found known t (target_closed t)
+
+    few : (t : Option ℕ) → (found_behind m.vertices found t).choices ≤ found_count found → (found_behind m.vertices found t).choices < suc (length m.vertices)
+    few t h =
+        let within = count_within found in
+        let each = known.one_each in
+        omega (arith, within, each, h)
 
 pub all_closed : (vs : List Vertex) (found : List (Option Behind)) → ((v : ℕ) → v < length vs → is_open vs found v ≡ false) → (v : ℕ) → is_open vs found v ≡ false
 all_closed vs found closed v = go (is_open vs found v) refl

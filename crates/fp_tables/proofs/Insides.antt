@@ -1,5 +1,5 @@
 -- What stands in a state of vertices in preorder.
-use Rattle.std.proofs.Common.{◌≡◌, ◌≢◌, ℕ, zero, suc, ◌+◌, ◌-◌, ◌<◌, ◌≤◌, Bool, true, false, ◌&&◌, ◌||◌, eqb, ltb, leb, min, max, List, [], ◌∷◌, length, Option, None, Some, option_and_then, slice_get, ◌⊎◌, inl, inr, refl, sym, ap, subst, ◌∙◌, arith}
+use Rattle.std.proofs.Common.{◌≡◌, ◌≢◌, ℕ, zero, suc, ◌+◌, ◌-◌, ◌<◌, ◌≤◌, Bool, true, false, ◌&&◌, ◌||◌, eqb, ltb, leb, min, max, List, [], ◌∷◌, length, Option, None, Some, option_and_then, slice_get, ◌⊎◌, inl, inr, refl, sym, ap, ap₂, subst, ◌∙◌, arith}
 use Rattle.std.specs.List.{list_all}
 use Rattle.std.proofs.lemmas.Bool.Decides.{nat_tests}
 use Rattle.std.proofs.lemmas.Option.{slice_get_within}
@@ -127,3 +127,74 @@ module _ (vs : List Vertex) where
         let first = first_below l p (from_inside (length vs) l p least) in
         let same : h ≡ u + (h - u) = omega arith in
         inside u p (between (h - u) u p (omega (arith, first)) (subst (λ (x : ℕ). Stands vs x p) same (from_inside (length vs) h p most)))
+
+    -- ---- the least and the greatest
+
+    abbrev is_in : ℕ → ℕ → Bool
+    is_in p v = is_inside vs (length vs) v p
+
+    squeeze : (a b c : Bool) → (a ≡ true → c ≡ true → b ≡ true) → (a && (b && c)) ≡ (a && c)
+    squeeze false b c h = refl
+    squeeze true true c h = refl
+    squeeze true false true h = h refl refl
+    squeeze true false false h = refl
+
+    middle : (a b c : Bool) → (b ≡ true → c ≡ true → a ≡ true) → (a && (b && c)) ≡ (b && c)
+    middle true b c h = refl
+    middle false true true h = h refl refl
+    middle false true false h = refl
+    middle false false c h = refl
+
+    outer : (a b c : Bool) → (b ≡ true → a ≡ true → c ≡ true) → (a && (b && c)) ≡ (b && a)
+    outer false true c h = refl
+    outer false false c h = refl
+    outer true true true h = refl
+    outer true true false h = h refl refl
+    outer true false c h = refl
+
+    abbrev Rises : Option (ℕ × ℕ) → Type 0
+    Rises None = Unit {0}
+    Rises (Some s) = s.0 ≤ s.1
+
+    join_rises : (n : ℕ) (o : Option (ℕ × ℕ)) → Rises o → Rises (join_spans (Some (n, n)) o)
+    join_rises n None h = omega arith
+    join_rises n (Some s) h = omega arith
+
+    span_rises : (ns : List ℕ) → Rises (span ns)
+    span_rises [] = tt
+    span_rises (n ∷ ns) = join_rises n (span ns) (span_rises ns)
+
+    both_in : (p n : ℕ) (a b : Bool) → a ≡ b → (is_in p n && a) ≡ (is_in p n && b)
+    both_in p n a b e = ap (λ (x : Bool). is_in p n && x) e
+
+    ends_at : (p l h i j : ℕ) → l ≡ i → h ≡ j → (is_in p l && is_in p h) ≡ (is_in p i && is_in p j)
+    ends_at p l h i j s t = ap₂ (λ (x y : ℕ). is_in p x && is_in p y) s t
+
+    join_in : (p n : ℕ) (s : ℕ × ℕ) → s.0 ≤ s.1 → (is_in p n && (is_in p s.0 && is_in p s.1)) ≡ (is_in p (min n s.0) && is_in p (max n s.1))
+    join_in p n s h = go (ltb n s.0) (ltb s.1 n) refl refl
+      where
+        go : (a b : Bool) → ltb n s.0 ≡ a → ltb s.1 n ≡ b → (is_in p n && (is_in p s.0 && is_in p s.1)) ≡ (is_in p (min n s.0) && is_in p (max n s.1))
+        go true b e f =
+            let lt : n < s.0 = grind (arith, nat_tests) in
+            let order = h in
+            squeeze (is_in p n) (is_in p s.0) (is_in p s.1) (λ x y. convex p n s.0 s.1 (omega arith) order x y) ∙ ends_at p n s.1 (min n s.0) (max n s.1) (omega (arith, order)) (omega (arith, order))
+        go false true e f =
+            let lt : s.1 < n = grind (arith, nat_tests) in
+            let order = h in
+            outer (is_in p n) (is_in p s.0) (is_in p s.1) (λ x y. convex p s.0 s.1 n order (omega arith) x y) ∙ ends_at p s.0 n (min n s.0) (max n s.1) (omega (arith, order)) (omega (arith, order))
+        go false false e f =
+            let least : s.0 ≤ n = grind (arith, nat_tests) in
+            let most : n ≤ s.1 = grind (arith, nat_tests) in
+            middle (is_in p n) (is_in p s.0) (is_in p s.1) (λ x y. convex p s.0 n s.1 least most x y) ∙ ends_at p s.0 s.1 (min n s.0) (max n s.1) (omega arith) (omega arith)
+
+    cons_in : (p n : ℕ) (o : Option (ℕ × ℕ)) → Rises o → (is_in p n && span_is_inside vs p o) ≡ span_is_inside vs p (join_spans (Some (n, n)) o)
+    cons_in p n None h = one (is_in p n)
+      where
+        one : (b : Bool) → (b && true) ≡ (b && b)
+        one true = refl
+        one false = refl
+    cons_in p n (Some s) h = join_in p n s h
+
+    pub span_in : (p : ℕ) (ns : List ℕ) → list_all (λ v. is_inside vs (length vs) v p) ns ≡ span_is_inside vs p (span ns)
+    span_in p [] = refl
+    span_in p (n ∷ ns) = both_in p n _ _ (span_in p ns) ∙ cons_in p n (span ns) (span_rises ns)

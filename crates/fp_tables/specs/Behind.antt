@@ -104,11 +104,19 @@ pub record Settles (types : List TypeDef) (m : Machine) (choice : ℕ) (before a
   pub kept : (v : ℕ) → is_some (found_at before v) ≡ true → is_some (found_at after v) ≡ true
   pub here : is_some (found_at after choice) ≡ true
 
--- something is found of each choice
+-- the states that each target reaches
+abbrev pub FindsStates : List Vertex → List (Option Behind) → Type 0
+FindsStates vs found = (target : Option ℕ) → span (reached vs (suc (length vs)) target) ≡ (found_behind vs found target).states
+
+-- what is wanted behind each target
+abbrev pub FindsWanted : List TypeDef → Machine → List (Option Behind) → Type 0
+FindsWanted types m found =
+    (given : Option Kind) (target : Option ℕ) → behind_is_given types m given (suc (length m.vertices)) target ≡ meets types given (found_behind m.vertices found target).wanted
+
 pub record AllBehind (types : List TypeDef) (m : Machine) (found : List (Option Behind)) : Type 0 where
-  pub behind : AreBehind types m found
-  pub all : (v : ℕ) → is_open m.vertices found v ≡ false
   pub no_ring : has_no_ring m.vertices ≡ true
+  pub states : FindsStates m.vertices found
+  pub wanted : FindsWanted types m found
 
 -- ---- the path from the choice that is gone through
 

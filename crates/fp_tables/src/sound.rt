@@ -10,5 +10,6 @@ mod placing;
 mod positions;
 mod ranges;
 mod states;
+mod steps;
 mod topologies;
 mod wanted;
