@@ -1,10 +1,12 @@
-ghost use Rattle.std.specs.Prelude.{◌≡◌, ℕ, ◌&&◌, true, None, Option};
+ghost use Rattle.std.specs.Prelude.{◌≡◌, ℕ, ◌&&◌, true, None, Option, suc, length, option_and_then, slice_get};
 ghost use Rattle.std.specs.List.{list_all};
 ghost use Rattle.fp_tables.specs.Lists.{all_from, if_some};
-ghost use Rattle.fp_tables.specs.Positions.{are_in_preorder};
-ghost use Rattle.fp_tables.specs.Machines.{stays_inside, actions_are_given, guard_is_given, kind_of_signal, step_is_given, on_is_given, vertex_is_given};
+ghost use Rattle.fp_tables.specs.Positions.{is_inside, are_in_preorder};
+ghost use Rattle.fp_tables.specs.Machines.{stays_inside, actions_are_given, guard_is_given, reached, step_is_given, on_is_given, vertex_is_given};
 ghost use Rattle.fp_tables.specs.Behind.{span_is_inside, FindsStates, FindsWanted};
 ghost use Rattle.fp_tables.specs.declared.kind.Kind.{Kind};
+ghost use Rattle.fp_tables.specs.declared.machine.Named.{Named};
+ghost use Rattle.fp_tables.specs.declared.machine.Step.{Step};
 
 use crate::kind::{Kind, TypeDef};
 use crate::machine::{Machine, Node, On, Step, Vertex};
@@ -23,16 +25,28 @@ fn span_is_inside(vertices: &[Vertex], state: usize, states: Option<(usize, usiz
     }
 }
 
+fn initial_stays_inside(vertices: &[Vertex], found: &[Option<Behind>], state: usize, initial: &Option<Step>) -> bool
+    requires ordered { are_in_preorder vertices.now ≡ true }
+    requires states { FindsStates vertices.now found.now }
+    ensures { result ≡ if_some (λ (step : Step). list_all (λ vertex. is_inside vertices.now (length vertices.now) vertex state) (reached vertices.now (suc (length vertices.now)) step.target)) initial.now }
+{
+    match initial {
+        Some(step) => {
+            let behind = found_behind(vertices, found, step.target);
+            span_is_inside(vertices, state, behind.states)
+        }
+        None => true,
+    }
+}
+
 fn stays_inside(vertices: &[Vertex], found: &[Option<Behind>], at: usize, vertex: &Vertex) -> bool
     requires ordered { are_in_preorder vertices.now ≡ true }
     requires states { FindsStates vertices.now found.now }
     ensures { result ≡ stays_inside vertices.now at vertex.now }
 {
     match &vertex.node {
-        Node::State { initial: Some(step), .. } => {
-            span_is_inside(vertices, at, found_behind(vertices, found, step.target).states)
-        }
-        _ => true,
+        Node::State { initial, .. } => initial_stays_inside(vertices, found, at, initial),
+        Node::Choice { .. } => true,
     }
 }
 
@@ -86,7 +100,7 @@ fn initial_is_given(types: &[TypeDef], machine: &Machine, found: &[Option<Behind
 
 /// The type of a signal's value, if it has one.
 fn kind_of_signal(machine: &Machine, signal: u32) -> Option<Kind>
-    ensures { result ≡ kind_of_signal machine.now signal }
+    ensures { result ≡ option_and_then (λ (signal : Named). signal.kind) (slice_get machine.now.signals signal) }
 {
     match machine.signals.get(signal as usize) {
         Some(signal) => signal.kind,
