@@ -12,3 +12,14 @@ pub mod Joining
 pub mod Nesting
 pub mod Ranges
 pub mod Wants
+pub mod Shaped
+pub mod Sized
+pub mod Shaping
+pub mod Beside
+pub mod Chained
+pub mod Uses
+pub mod Numbered
+pub mod Specials
+pub mod Joined
+pub mod Parted
+pub mod Structured

@@ -1,4 +1,5 @@
 pub mod Behind
+pub mod Chains
 pub mod Components
 pub mod Formats
 pub mod Found
@@ -7,10 +8,14 @@ pub mod Lists
 pub mod Lookup
 pub mod Machines
 pub mod Names
+pub mod Parts
 pub mod Positions
 pub mod Programs
+pub mod Shapes
 pub mod Sound
+pub mod SoundParts
 pub mod SoundPrograms
+pub mod SoundStructure
 pub mod Types
 pub mod Walks
 pub mod Wanted
