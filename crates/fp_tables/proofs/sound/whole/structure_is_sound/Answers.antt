@@ -1,4 +1,4 @@
-use Rattle.std.proofs.Common.{◌≡◌, ◌∙◌, ◌&&◌, Bool, true, false, List, IsTrue, refl, sym, ap}
+use Rattle.std.proofs.Common.{◌≡◌, ◌∙◌, ◌&&◌, Bool, true, false, List, IsTrue, refl, sym, ap, ap₂}
 use Rattle.std.specs.List.{list_all}
 use Rattle.fp_tables.specs.SoundStructure.{is_sound_machine}
 use Rattle.fp_tables.specs.Instances.{numbers_are_in_range}
@@ -21,8 +21,10 @@ unsplit a b c d p q r s = rw (p, q, r, s) refl
 pub returns : goal.returns
 returns c =
     let m = c.args.model.now in
-    let numbers = ? in
-    let machines = ? in (
+    let numbers = c.all_numbers_are_in_range-numbers.ensures ∙ ap (λ (xs : List Instance). list_all (numbers_are_in_range m) xs) (c.as_slice-4).ensures in
+    let machines =
+        c.in_ok-machines.ensures ∙ ap₂ (λ (types : List TypeDef) (xs : List Machine). list_all (is_sound_machine types) xs) (c.as_slice-5).ensures (c.as_slice-6).ensures
+    in (
       λ h.
           let k = split _ _ _ _ h in
           from_tests m (record { positions = sym c.positions_lie-positions.ensures ∙ k.0; ranges = sym c.in_ok-ranges.ensures ∙ k.1; numbers = sym numbers ∙ k.2; machines = sym machines ∙ k.3 }),
