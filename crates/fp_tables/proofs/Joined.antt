@@ -1,7 +1,6 @@
 -- Tests joined: of one thing, and of each of a list.
-use Rattle.std.proofs.Common.{◌≡◌, ℕ, Bool, true, false, ◌&&◌, List, [], ◌∷◌, get_or, refl, sym, ap, ap₂, ◌∙◌}
-use Rattle.std.specs.List.{list_all}
-use Rattle.fp_tables.specs.Parts.{all_hold, all_pass}
+use Rattle.std.proofs.Common.{◌≡◌, Bool, true, false, ◌&&◌, List, [], ◌∷◌, refl, sym, ap, ap₂, ◌∙◌}
+use Rattle.fp_tables.specs.Parts.{all_hold}
 
 -- as the program joins them
 abbrev pub joined : Bool → List Bool → Bool

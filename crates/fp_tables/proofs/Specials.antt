@@ -1,5 +1,5 @@
 -- The kinds of special ports, compared.
-use Rattle.std.proofs.Common.{◌≡◌, Bool, List, [], ◌∷◌, Ordering, refl, ap₂, ◌&&◌, ◌||◌, not}
+use Rattle.std.proofs.Common.{◌≡◌, Bool, List, [], ◌∷◌, refl, ap₂, ◌&&◌, ◌||◌, not}
 use Rattle.std.specs.List.{list_any}
 use Rattle.std.specs.Ordering.{eq_by_cmp}
 use Rattle.fp_tables.specs.Lists.{apart}

@@ -4,7 +4,6 @@ use Rattle.std.proofs.lemmas.Bool.Decides.{Decides-eqb}
 use Rattle.std.specs.List.{list_any, slice_get}
 use Rattle.fp_tables.specs.Lists.{all_from, some_and}
 use Rattle.fp_tables.specs.Types.{form_at, kinds_in, begins_chain, is_named, is_use, Leads, once, again}
-use Rattle.fp_tables.specs.Chains.{chains_are_short}
 use Rattle.fp_tables.specs.declared.kind.Kind.{Kind}
 use Rattle.fp_tables.specs.declared.kind.Kind.TheVariants.{Named}
 use Rattle.fp_tables.specs.declared.kind.Form.{Form}

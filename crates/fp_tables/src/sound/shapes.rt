@@ -6,7 +6,7 @@ ghost use Rattle.fp_tables.specs.Shapes.{meant};
 use crate::kind::{Constant, Field, Form, Kind, TypeDef};
 
 /// What the values of a type are, aliases followed.
-#[derive(Clone, Copy, Debug)]
+#[derive(Clone, Copy)]
 pub enum Shape<'a> {
     Integer { low: i128, high: i128 },
     Truth,
@@ -19,7 +19,7 @@ pub enum Shape<'a> {
 }
 
 /// The shape of a type that isn't one of the model.
-fn primitive<'a>(kind: Kind) -> Shape<'a>
+fn primitive(kind: Kind) -> Shape<'static>
     ensures { meant result ≡ shape_by [] zero kind }
 {
     match kind {
@@ -59,7 +59,7 @@ fn primitive<'a>(kind: Kind) -> Shape<'a>
 }
 
 /// The shape of a form that isn't an alias.
-fn direct<'a>(form: &'a Form) -> Shape<'a>
+fn direct(form: &Form) -> Shape<'_>
     ensures { meant result ≡ of_form (λ _. nothing) form.now }
 {
     match form {
@@ -74,14 +74,14 @@ fn direct<'a>(form: &'a Form) -> Shape<'a>
     }
 }
 
-fn form_at<'a>(types: &'a [TypeDef], at: u32) -> Option<&'a Form>
+fn form_at(types: &[TypeDef], at: u32) -> Option<&Form>
     ensures { option_copied result ≡ form_at types.now at }
 {
     let definition = types.get(at as usize)?;
     Some(&definition.form)
 }
 
-pub fn shape_of<'a>(types: &'a [TypeDef], kind: Kind) -> Shape<'a>
+pub fn shape_of(types: &[TypeDef], kind: Kind) -> Shape<'_>
     ensures { meant result ≡ shape types.now kind }
 {
     let mut target = kind;

@@ -1,14 +1,14 @@
-ghost use Rattle.std.specs.Prelude.{◌≡◌, ◌+◌, min, max, ℕ};
-ghost use Rattle.std.specs.List.{fold, list_all, sum_by};
-ghost use Rattle.fp_base.specs.declared.value.Value.{Value};
+ghost use Rattle.std.specs.Prelude.{◌≡◌, min, max};
+ghost use Rattle.std.specs.List.{fold, sum_by};
 ghost use Rattle.fp_base.specs.declared.value.Part.{Part};
 ghost use Rattle.fp_tables.specs.Types.{leaves, levels, is_of_size};
 
 use fp_base::{Part, Value};
 
-/// A number of leaves and of levels above what a value may have.
+/// The first number of leaves that a value may not have.
 const MANY_LEAVES: u32 = 65_537;
 
+/// The first number of levels that a value may not have.
 const MANY_LEVELS: u32 = 65;
 
 /// How many leaves a value has, or that they are many.

@@ -1,10 +1,9 @@
 ghost use Rattle.std.specs.Prelude.{◌≡◌, IfOk};
 ghost use Rattle.std.specs.List.{list_all};
-ghost use Rattle.fp_tables.specs.Types.{of_form, shape, has, has_kind, is_integer, is_constant_of, form_has_values, type_has_values, is_of_size};
+ghost use Rattle.fp_tables.specs.Types.{is_integer, is_constant_of, form_has_values, type_has_values, is_of_size};
 ghost use Rattle.fp_tables.specs.Sound.{form_is_of_size, form_differs};
 ghost use Rattle.fp_tables.specs.Components.{is_from_1_to};
 ghost use Rattle.fp_tables.specs.Lists.{if_some};
-ghost use Rattle.fp_tables.specs.Shapes.{meant};
 ghost use Rattle.fp_tables.specs.declared.kind.Constant.{Constant};
 ghost use Rattle.fp_tables.specs.declared.kind.Field.{Field};
 ghost use Rattle.fp_tables.specs.declared.kind.TypeDef.{TypeDef};

@@ -1,7 +1,7 @@
-ghost use Rattle.std.specs.Prelude.{◌≡◌, ◌&&◌, ◌==◌, length};
+ghost use Rattle.std.specs.Prelude.{◌≡◌};
 ghost use Rattle.std.specs.List.{list_all, list_any};
 ghost use Rattle.fp_base.specs.Same.{same};
-ghost use Rattle.fp_tables.specs.Types.{has, has_kind, items_have};
+ghost use Rattle.fp_tables.specs.Types.{has, has_kind};
 ghost use Rattle.fp_tables.specs.Shapes.{meant, all_beside, part_has};
 ghost use Rattle.fp_tables.specs.declared.kind.Constant.{Constant};
 

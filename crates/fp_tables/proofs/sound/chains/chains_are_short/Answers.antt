@@ -1,6 +1,5 @@
-use Rattle.std.proofs.Common.{◌≡◌, ◌+◌, ◌∙◌, Bool, not, List, sym, ap, subst, refl, arith}
+use Rattle.std.proofs.Common.{◌+◌, ◌∙◌, Bool, not, List, sym, ap, subst, refl, arith}
 use Rattle.std.specs.List.{list_any}
-use Rattle.fp_tables.specs.Chains.{is_marked}
 use Rattle.fp_tables.proofs.Chained.{AreMarks, first_marks, next_marks, short_early, short_late, users}
 use Rattle.fp_tables.proofs.sound.chains.chains_are_short.Goals as goal
 

@@ -1,8 +1,7 @@
-use Rattle.std.proofs.Common.{◌∙◌, ap, List}
+use Rattle.std.proofs.Common.{◌∙◌, ap}
 use Rattle.std.specs.List.{filter_map}
 use Rattle.std.proofs.lemmas.Result.{IfOk-weaker}
 use Rattle.fp_tables.specs.Components.{set_parameter}
-use Rattle.fp_tables.specs.declared.component.Command.{Command}
 use Rattle.fp_tables.proofs.Numbered.{one_each}
 use Rattle.fp_tables.proofs.sound.parameters.each_has_one_set_command.Goals as goal
 
