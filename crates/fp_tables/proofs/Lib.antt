@@ -1,7 +1,17 @@
 pub mod Alls
+pub mod Branches
+pub mod Chains
 pub mod Differing
+pub mod Families
 pub mod Firsts
+pub mod Found
+pub mod Going
+pub mod Holding
+pub mod Insides
 pub mod Joining
+pub mod Nesting
+pub mod Ranges
+pub mod Wants
 pub mod Shaped
 pub mod Sized
 pub mod Shaping
@@ -12,3 +22,4 @@ pub mod Numbered
 pub mod Specials
 pub mod Joined
 pub mod Parted
+pub mod Structured

@@ -16,13 +16,13 @@ both : (a b : Bool) → (a && b) ≡ true → (a ≡ true) × (b ≡ true)
 both true b h = (refl, h)
 both false b h = absurd (cc)
 
-held : (bs : List Bool) (k : ℕ) → all_hold bs ≡ true → get_or bs k true ≡ true
+pub held : (bs : List Bool) (k : ℕ) → all_hold bs ≡ true → get_or bs k true ≡ true
 held [] k h = refl
 held (b ∷ bs) zero h = (both b (all_hold bs) h).0
 held (b ∷ bs) (suc k) h = held bs k (both b (all_hold bs) h).1
 
 module _ {A : Type 0} where
-  all_and : (p q : A → Bool) (xs : List A) → list_all (λ x. p x && q x) xs ≡ (list_all p xs && list_all q xs)
+  pub all_and : (p q : A → Bool) (xs : List A) → list_all (λ x. p x && q x) xs ≡ (list_all p xs && list_all q xs)
   all_and p q [] = refl
   all_and p q (x ∷ xs) = go (p x) (q x) (list_all p xs) (list_all q xs) (list_all (λ x. p x && q x) xs) (all_and p q xs)
     where
@@ -37,11 +37,11 @@ module _ {A : Type 0} where
   all_true (x ∷ xs) = all_true xs
 
   -- a test of each item by all is one by each of all items
-  by_test : (tests : List (A → Bool)) (xs : List A) → list_all (all_pass tests) xs ≡ all_hold (map (λ test. list_all test xs) tests)
+  pub by_test : (tests : List (A → Bool)) (xs : List A) → list_all (all_pass tests) xs ≡ all_hold (map (λ test. list_all test xs) tests)
   by_test [] xs = all_true xs
   by_test (test ∷ tests) xs = all_and test (all_pass tests) xs ∙ ap (λ b. list_all test xs && b) (by_test tests xs)
 
-  each : (tests : List (A → Bool)) (xs : List A) (k : ℕ) → list_all (all_pass tests) xs ≡ true → get_or (map (λ test. list_all test xs) tests) k true ≡ true
+  pub each : (tests : List (A → Bool)) (xs : List A) (k : ℕ) → list_all (all_pass tests) xs ≡ true → get_or (map (λ test. list_all test xs) tests) k true ≡ true
   each tests xs k h = held (map (λ test. list_all test xs) tests) k (sym (by_test tests xs) ∙ h)
 
 module _ (m : Model) where

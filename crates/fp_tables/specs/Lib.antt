@@ -1,3 +1,4 @@
+pub mod Behind
 pub mod Chains
 pub mod Components
 pub mod Formats
@@ -14,4 +15,7 @@ pub mod Shapes
 pub mod Sound
 pub mod SoundParts
 pub mod SoundPrograms
+pub mod SoundStructure
 pub mod Types
+pub mod Walks
+pub mod Wanted
