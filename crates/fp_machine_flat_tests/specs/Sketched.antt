@@ -1,5 +1,5 @@
 -- The machine of a sketch, and whether it is sound.
-use Rattle.std.specs.Prelude.{◌≡◌, ℕ, Bool, true, false, not, ◌&&◌, List, [], ◌∷◌, map, replicate, Option, Some, None, option_map, option_to_list, is_some}
+use Rattle.std.specs.Prelude.{Bool, false, not, ◌&&◌, List, [], map, replicate, Some, None, option_map, option_to_list, is_some}
 use Rattle.std.specs.List.{list_all}
 use Rattle.fp_tables.specs.Lists.{all_from, if_some}
 use Rattle.fp_tables.specs.Machines.{is_machine_of_size, leads_somewhere, has_its_initial, stays_inside, signals_differ, has_no_ring}
