@@ -66,9 +66,11 @@ module _ (m : Model) where
   sets_or_saves i (what.Save r v) = is_some (saved_name m i r.point)
   sets_or_saves i _ = true
 
+abbrev pub entry_is_named : Described → Program → Entry → Bool
+entry_is_named t program e = nat_lt e.actor (actor_count t program) && is_some (instance_name t.model e.instance) && what_is_named t.model e.instance e.what
+
 abbrev pub are_named : Described → Program → List Entry → Bool
-are_named t program es =
-    list_all (λ (e : Entry). nat_lt e.actor (actor_count t program) && is_some (instance_name t.model e.instance) && what_is_named t.model e.instance e.what) es
+are_named t program es = list_all (entry_is_named t program) es
 
 abbrev pub set_and_save_commands : Described → List Entry → Bool
 set_and_save_commands t es = list_all (λ (e : Entry). sets_or_saves t.model e.instance e.what) es

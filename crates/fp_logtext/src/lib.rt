@@ -3,9 +3,11 @@
 
 mod entries;
 mod going;
+mod laws;
 mod log;
 mod names;
 mod parts;
 mod words;
 
+pub use laws::fitting_runs;
 pub use log::print_log;

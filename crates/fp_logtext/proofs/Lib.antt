@@ -1,0 +1,9 @@
+pub mod Lists
+pub mod Components
+pub mod Commands
+pub mod Naming
+pub mod Frames
+pub mod Dues
+pub mod AtHome
+pub mod Kept
+pub mod Runs
