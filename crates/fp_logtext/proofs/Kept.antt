@@ -161,10 +161,10 @@ module _ (t : Described) (program : Program) (sound : IsSound t.model) (good : I
       let p : m.command.part ≡ part.SaveParam s.0 = saves_part m.command.way m.command.part s.0 m.treated in
       let found : slice_get (component t i).commands m.number ≡ Some m.command = command_in t i m.number ∙ m.found in
       let number : option_and_then (λ (c : Command). parameter_of t program c.part) (slice_get (component t i).commands m.number) ≡ Some s.0 =
-          ap (option_and_then (λ (c : Command). parameter_of t program c.part)) found ∙ ap (parameter_of t program) p in
+      ap (option_and_then (λ (c : Command). parameter_of t program c.part)) found ∙ ap (parameter_of t program) p in
       let named : parameter_name t program i (OfCommand m.number) ≡ s.1.name =
-          ap (λ (o : Option ℕ). unwrap_or (option_map (λ (p : Param). p.name) (option_and_then (slice_get (component t i).params) o)) []) number
-          ∙ ap (λ (o : Option Param). unwrap_or (option_map (λ (p : Param). p.name) o) []) s.3 in
+      ap (λ (o : Option ℕ). unwrap_or (option_map (λ (p : Param). p.name) (option_and_then (slice_get (component t i).params) o)) []) number
+      ∙ ap (λ (o : Option Param). unwrap_or (option_map (λ (p : Param). p.name) o) []) s.3 in
       ap (λ (q : Point). is_name (parameter_name t program i q)) m.is ∙ ap is_name named ∙ param_named i s.0 s.1 s.3
 
   -- ---- a machine's actions

@@ -7,3 +7,4 @@ pub mod Dues
 pub mod AtHome
 pub mod Kept
 pub mod Runs
+pub mod Aliases

@@ -98,7 +98,7 @@ module _ (t : Described) (program : Program) (sound : IsSoundFor t.model (Some t
       let ks = some_and_of (λ ks. have_kinds t.model.types ks vs) (place_kinds t program i point) fit in
       let found : slice_get (component t i).commands m.number ≡ Some m.command = command_in t i m.number ∙ m.found in
       let of : place_kinds t program i point ≡ Some (kinds t program m.command.formals) =
-          ap (place_kinds t program i) m.is ∙ ap (option_map (λ (c : Command). kinds t program c.formals)) found in
+      ap (place_kinds t program i) m.is ∙ ap (option_map (λ (c : Command). kinds t program c.formals)) found in
       let same : ks.0 ≡ kinds t program m.command.formals = some_is ks.0 (kinds t program m.command.formals) (sym ks.1 ∙ of) in
       no_formals m.command.formals vs none (ap (λ (js : List Kind). have_kinds t.model.types js vs) (sym same) ∙ ks.2)
 

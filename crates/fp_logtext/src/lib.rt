@@ -11,3 +11,6 @@ mod words;
 
 pub use laws::fitting_runs;
 pub use log::print_log;
+
+#[cfg(test)]
+mod tests;

@@ -35,7 +35,7 @@ pub fn print_log(
     )
 }
 
-fn log_of(
+pub fn log_of(
     alloc: Global,
     model: &Model,
     topology: u32,
