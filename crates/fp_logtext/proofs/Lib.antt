@@ -8,3 +8,9 @@ pub mod AtHome
 pub mod Kept
 pub mod Runs
 pub mod Aliases
+pub mod Typed
+pub mod Results
+pub mod Handlers
+pub mod Stack
+pub mod Causes
+pub mod Returned
