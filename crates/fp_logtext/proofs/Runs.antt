@@ -66,7 +66,7 @@ module _ (t : Described) (program : Program) (sound : IsSoundFor t.model (Some t
   unfolding fits
   entry_values e h = fit_values t program e.instance e.what (both _ (what_fits t program e.instance e.what) h).1
 
-  fits_what : (a i : ℕ) (w : What) → fits t program a i w ≡ true → what_fits t program i w ≡ true
+  pub fits_what : (a i : ℕ) (w : What) → fits t program a i w ≡ true → what_fits t program i w ≡ true
   unfolding fits
   fits_what a i w h = (both _ (what_fits t program i w) h).1
 

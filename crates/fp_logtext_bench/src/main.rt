@@ -1,6 +1,8 @@
 //! Prints a small log, and measures the printing of a large one where it is asked to.
 #![tactic(auto)]
 
+ghost use Rattle.std.specs.Prelude.{◌≡◌, IfOk, Ok};
+
 mod entries;
 mod model;
 
@@ -22,6 +24,15 @@ fn small_log(alloc: Global) -> Result<Row<u8>, NoMemory> {
     print_log(alloc, &tables, &program, &entries, Finish::Complete)
 }
 
+fn held<T>(outcome: Result<T, NoMemory>) -> Result<T, AllocError>
+    ensures { IfOk result (λ value. outcome ≡ Ok value) }
+{
+    match outcome {
+        Ok(value) => Ok(value),
+        Err(NoMemory) => Err(AllocError),
+    }
+}
+
 fn copied(alloc: Global, bytes: &[u8]) -> Result<Row<u8>, NoMemory> {
     let mut copy = Row::new(alloc);
     for byte in bytes {
@@ -31,17 +42,17 @@ fn copied(alloc: Global, bytes: &[u8]) -> Result<Row<u8>, NoMemory> {
 }
 
 fn measure(rt: &HostRuntime, alloc: Global) -> io::Result<()> {
-    let tables = tables(alloc).map_err(|_| AllocError)?;
-    let program = two_calls(alloc).map_err(|_| AllocError)?;
-    let entries = many_entries(alloc, COUNT).map_err(|_| AllocError)?;
+    let tables = held(tables(alloc))?;
+    let program = held(two_calls(alloc))?;
+    let entries = held(many_entries(alloc, COUNT))?;
     let start = Instant::now(rt)?;
-    let log = print_log(alloc, &tables, &program, &entries, Finish::Complete).map_err(|_| AllocError)?;
+    let log = held(print_log(alloc, &tables, &program, &entries, Finish::Complete))?;
     let printing = start.elapsed(rt)?.as_micros();
     let start = Instant::now(rt)?;
-    let copy = copied(alloc, log.as_slice()).map_err(|_| AllocError)?;
+    let copy = held(copied(alloc, log.as_slice()))?;
     let copying = start.elapsed(rt)?.as_micros();
     let start = Instant::now(rt)?;
-    let block = Row::from_slice(alloc, log.as_slice()).map_err(|_| AllocError)?;
+    let block = held(Row::from_slice(alloc, log.as_slice()))?;
     let moving = start.elapsed(rt)?.as_micros();
     let length = log.len();
     println!(rt; "{length} bytes: printed in {printing} us, copied byte by byte in {copying} us, as a block in {moving} us")?;
@@ -59,7 +70,7 @@ fn main(rt: HostRuntime) -> io::Result<()> {
     if words.next().is_some_and(|word| word.as_str() == "measure") {
         return measure(&rt, rt.alloc());
     }
-    let log = small_log(rt.alloc()).map_err(|_| AllocError)?;
+    let log = held(small_log(rt.alloc()))?;
     if let Ok(text) = str::from_utf8(log.as_slice()) {
         print!(rt; "{text}")?;
     }
