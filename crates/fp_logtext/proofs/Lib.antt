@@ -14,3 +14,4 @@ pub mod Handlers
 pub mod Stack
 pub mod Causes
 pub mod Returned
+pub mod WorkedTexts
