@@ -1,0 +1,16 @@
+//! The text of a run's log.
+#![tactic(auto)]
+
+mod entries;
+mod going;
+mod laws;
+mod log;
+mod names;
+mod parts;
+mod words;
+
+pub use laws::{fitting_runs, full_queue_texts};
+pub use log::print_log;
+
+#[cfg(test)]
+mod tests;
