@@ -1,3 +1,6 @@
+pub mod Acts
+pub mod Arguments
+pub mod Bound
 pub mod Components
 pub mod Formats
 pub mod Found

@@ -1,8 +1,13 @@
+mod bindings;
 mod components;
 mod formats;
 mod instances;
+mod limits;
 mod lengths;
+mod named;
 mod names;
 mod naming;
 mod positions;
+mod queues;
+mod repeats;
 mod topologies;

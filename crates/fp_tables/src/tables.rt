@@ -112,7 +112,7 @@ impl Tables {
         Some(running.machine)
     }
 
-    fn component(&self, instance: u32) -> Option<&Component>
+    pub(crate) fn component(&self, instance: u32) -> Option<&Component>
         ensures { option_copied result ≡ component_of self.now.model instance }
     {
         let instance = self.model.instances.get(instance as usize)?;
