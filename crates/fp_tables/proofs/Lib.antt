@@ -1,7 +1,10 @@
 pub mod Alls
+pub mod Beside
 pub mod Binding
 pub mod Counting
 pub mod Differing
 pub mod Firsts
 pub mod Joining
 pub mod Repeating
+pub mod Shaped
+pub mod Shaping

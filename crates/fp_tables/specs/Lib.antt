@@ -11,6 +11,7 @@ pub mod Machines
 pub mod Names
 pub mod Positions
 pub mod Programs
+pub mod Shapes
 pub mod Sound
 pub mod SoundPrograms
 pub mod Types
