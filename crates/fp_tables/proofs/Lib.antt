@@ -7,4 +7,5 @@ pub mod Firsts
 pub mod Joining
 pub mod Repeating
 pub mod Shaped
+pub mod Sized
 pub mod Shaping

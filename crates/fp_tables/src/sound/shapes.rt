@@ -112,3 +112,12 @@ pub fn member_shape<'a>(types: &'a [TypeDef], field: &Field) -> Shape<'a>
         None => shape_of(types, field.kind),
     }
 }
+
+pub fn shape_of_form<'a>(types: &'a [TypeDef], form: &'a Form) -> Shape<'a>
+    ensures { meant result ≡ of_form (shape types.now) form.now }
+{
+    match form {
+        Form::Alias(kind) => shape_of(types, *kind),
+        _ => direct(form),
+    }
+}
