@@ -1,4 +1,6 @@
+pub mod Aliasing
 pub mod Alls
+pub mod Arguing
 pub mod Beside
 pub mod Binding
 pub mod Counting
@@ -7,5 +9,5 @@ pub mod Firsts
 pub mod Joining
 pub mod Repeating
 pub mod Shaped
-pub mod Sized
 pub mod Shaping
+pub mod Sized

@@ -1,9 +1,9 @@
 -- What an action names, takes and binds.
-use Rattle.std.specs.Prelude.{ℕ, Bool, true, ◌&&◌, ◌==◌, List, [], ◌∷◌, ◌++◌, Option, Some, slice_get, option_map, option_and_then}
+use Rattle.std.specs.Prelude.{ℕ, Bool, true, ◌&&◌, ◌==◌, List, [], ◌∷◌, Option, Some, slice_get, option_map, option_and_then}
 use Rattle.std.specs.List.{list_any}
 use Rattle.fp_tables.specs.Lists.{some_and}
 use Rattle.fp_tables.specs.Positions.{port_of}
-use Rattle.fp_tables.specs.Arguments.{Bindings, kinds_of, arguments_suit}
+use Rattle.fp_tables.specs.Arguments.{Scope, with_bound, kinds_of, arguments_suit}
 use Rattle.fp_tables.specs.Lookup.{Described, component_of, machine_of, placed}
 use Rattle.fp_tables.specs.declared.kind.Kind.{Kind}
 use Rattle.fp_tables.specs.declared.kind.Formal.{Formal}
@@ -47,27 +47,28 @@ module _ (t : Described) where
   machine_at i running = option_and_then (slice_get t.model.machines) (machine_of t.model i running)
 
   -- the arguments are the values of these formals, or the one value of a type
-  abbrev pub takes : Bindings → List Formal → Act → Bool
-  takes bound formals a = arguments_suit t.model.types bound (kinds_of formals) a.with
+  abbrev pub takes : Scope → List Formal → Act → Bool
+  takes scope formals a = arguments_suit t.model.types scope (kinds_of formals) a.with
 
-  abbrev pub takes_one : Bindings → Kind → Act → Bool
-  takes_one bound k a = arguments_suit t.model.types bound (k ∷ []) a.with
+  abbrev pub takes_one : Scope → Kind → Act → Bool
+  takes_one scope k a = arguments_suit t.model.types scope (k ∷ []) a.with
 
   -- ---- what an action binds
 
-  abbrev pub binds : Act → Bindings
+  -- a call binds its result and a read its parameter, where they have a name for it
+  abbrev pub binds : Act → Scope → Scope
   binds a = of_verb a.verb
     where
-      named : Option (List ℕ) → Option Kind → Bindings
-      named (Some name) (Some k) = (name, k) ∷ []
-      named _ _ = []
+      named : Option (List ℕ) → Option Kind → Scope → Scope
+      named (Some name) (Some k) = with_bound name k
+      named _ _ = λ scope. scope
 
-      of_verb : Verb → Bindings
+      of_verb : Verb → Scope → Scope
       of_verb verb.Call = named a.bind (result_at a.subject.instance a.subject.port)
       of_verb verb.Read = named a.bind (option_map (λ (x : Param). x.kind) (option_and_then (λ (c : Component). slice_get c.params a.name) (component_of t.model a.subject.instance)))
-      of_verb _ = []
+      of_verb _ = λ scope. scope
 
   -- each action suits, given what is bound before it
-  abbrev pub suit_in_turn : (Bindings → Act → Bool) → Bindings → List Act → Bool
-  suit_in_turn suits bound [] = true
-  suit_in_turn suits bound (a ∷ rest) = suits bound a && suit_in_turn suits (binds a ++ bound) rest
+  abbrev pub suit_in_turn : (Scope → Act → Bool) → Scope → List Act → Bool
+  suit_in_turn suits scope [] = true
+  suit_in_turn suits scope (a ∷ rest) = suits scope a && suit_in_turn suits (binds a scope) rest

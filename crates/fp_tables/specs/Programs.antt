@@ -1,12 +1,12 @@
 -- What the actions of a sound program are. Programs are this profile's own.
-use Rattle.std.specs.Prelude.{ℕ, Bool, true, false, not, cond, codes, ◌&&◌, ◌||◌, ◌==◌, nat_lt, nat_le, List, [], ◌∷◌, length, map, Option, Some, None, slice_get, option_map, option_and_then, option_to_list, is_some}
+use Rattle.std.specs.Prelude.{ℕ, Bool, true, false, not, cond, codes, ◌&&◌, ◌||◌, ◌==◌, nat_lt, nat_le, List, [], ◌∷◌, length, Option, Some, None, slice_get, option_map, option_and_then, option_to_list, is_some}
 use Rattle.std.specs.Str.{bytes_eq}
 use Rattle.fp_base.specs.Same.{same_bool}
 use Rattle.fp_tables.specs.Lists.{some_and}
 use Rattle.fp_tables.specs.Names.{is_name}
 use Rattle.fp_tables.specs.Positions.{port_of}
 use Rattle.fp_tables.specs.Components.{same_special}
-use Rattle.fp_tables.specs.Arguments.{Bindings, formals_bound, arguments_suit}
+use Rattle.fp_tables.specs.Arguments.{Scope, nothing_bound, with_bound, formals_bound, arguments_suit}
 use Rattle.fp_tables.specs.Acts.{is_placed, component_at, command_of, definition_at, has_role, machine_at, takes, takes_one, suit_in_turn, result_at}
 use Rattle.fp_tables.specs.Lookup.{Described, wire_from}
 use Rattle.fp_tables.specs.declared.kind.Kind.{Kind}
@@ -69,26 +69,31 @@ return_stands wanted [] = not wanted
 return_stands wanted (a ∷ []) = same_bool (is_return a) wanted
 return_stands wanted (a ∷ b ∷ rest) = not (is_return a) && return_stands wanted (b ∷ rest)
 
+-- an action's value, if it takes one, is bound to `value`
+abbrev pub value_bound : Option Kind → Scope
+value_bound None = nothing_bound
+value_bound (Some k) = with_bound (codes "value") k nothing_bound
+
 module _ (t : Described) where
   -- ---- a caller's actions: calls at general inputs, and commands
 
-  abbrev pub caller_calls : Bindings → Act → Bool
-  caller_calls bound a =
-      some_and (λ (p : Port). is_general_input p.role && nat_lt a.subject.number p.size && takes t bound p.formals a) (port_of t.model a.subject.instance a.subject.port)
+  abbrev pub caller_calls : Scope → Act → Bool
+  caller_calls scope a =
+      some_and (λ (p : Port). is_general_input p.role && nat_lt a.subject.number p.size && takes t scope p.formals a) (port_of t.model a.subject.instance a.subject.port)
 
-  abbrev pub caller_commands : Bindings → Act → Bool
-  caller_commands bound a = nat_le a.subject.number 0 && some_and (λ (c : Command). takes t bound c.formals a) (command_of t a.subject.instance a.name)
+  abbrev pub caller_commands : Scope → Act → Bool
+  caller_commands scope a = nat_le a.subject.number 0 && some_and (λ (c : Command). takes t scope c.formals a) (command_of t a.subject.instance a.name)
 
-  abbrev pub caller_act_suits : Bindings → Act → Bool
-  caller_act_suits bound a = is_placed t a.subject.instance && of_verb a.verb
+  abbrev pub caller_act_suits : Scope → Act → Bool
+  caller_act_suits scope a = is_placed t a.subject.instance && of_verb a.verb
     where
       of_verb : Verb → Bool
-      of_verb verb.Call = caller_calls bound a
-      of_verb verb.Command = caller_commands bound a
+      of_verb verb.Call = caller_calls scope a
+      of_verb verb.Command = caller_commands scope a
       of_verb _ = false
 
   abbrev pub caller_acts_suit : List Act → Bool
-  caller_acts_suit = suit_in_turn t caller_act_suits []
+  caller_acts_suit = suit_in_turn t caller_act_suits nothing_bound
 
   -- ---- a handler's actions
 
@@ -99,32 +104,32 @@ module _ (t : Described) where
   abbrev pub is_of_commands : End → Bool
   is_of_commands e = some_and (λ (d : PortDef). bytes_eq d.name (codes "Fw.Cmd")) (definition_at t e.instance e.port)
 
-  abbrev pub sends_command : Bindings → Act → Bool
-  sends_command bound a =
+  abbrev pub sends_command : Scope → Act → Bool
+  sends_command scope a =
       has_role t is_general_output a.subject && is_of_commands a.subject && leads_to (is_of_kind CmdRecv) a.subject
-      && some_and (λ (e : End). some_and (λ (c : Command). takes t bound c.formals a) (command_of t e.instance a.name)) (wire_from t a.subject)
+      && some_and (λ (e : End). some_and (λ (c : Command). takes t scope c.formals a) (command_of t e.instance a.name)) (wire_from t a.subject)
 
-  abbrev pub calls : Bindings → Act → Bool
-  calls bound a =
-      some_and (λ (p : Port). is_general_output p.role && takes t bound p.formals a) (port_of t.model a.subject.instance a.subject.port) && leads_to is_general_input a.subject
+  abbrev pub calls : Scope → Act → Bool
+  calls scope a =
+      some_and (λ (p : Port). is_general_output p.role && takes t scope p.formals a) (port_of t.model a.subject.instance a.subject.port) && leads_to is_general_input a.subject
 
-  abbrev pub emits : Bindings → Act → Bool
-  emits bound a = component_at t a.subject.instance (λ c. some_and (λ (e : Event). takes t bound e.formals a) (slice_get c.events a.name))
+  abbrev pub emits : Scope → Act → Bool
+  emits scope a = component_at t a.subject.instance (λ c. some_and (λ (e : Event). takes t scope e.formals a) (slice_get c.events a.name))
 
-  abbrev pub writes : Bindings → Act → Bool
-  writes bound a = component_at t a.subject.instance (λ c. some_and (λ (x : Channel). takes_one t bound x.kind a) (slice_get c.channels a.name))
+  abbrev pub writes : Scope → Act → Bool
+  writes scope a = component_at t a.subject.instance (λ c. some_and (λ (x : Channel). takes_one t scope x.kind a) (slice_get c.channels a.name))
 
   abbrev pub reads : Act → Bool
   reads a = component_at t a.subject.instance (λ c. is_some (slice_get c.params a.name)) && is_some a.bind
 
   -- a signal's value, or none
-  abbrev pub signals : Bindings → Act → Bool
-  signals bound a =
-      some_and (λ (m : Machine). some_and (λ (s : Named). arguments_suit t.model.types bound (option_to_list s.kind) a.with) (slice_get m.signals a.name))
+  abbrev pub signals : Scope → Act → Bool
+  signals scope a =
+      some_and (λ (m : Machine). some_and (λ (s : Named). arguments_suit t.model.types scope (option_to_list s.kind) a.with) (slice_get m.signals a.name))
       (machine_at t a.subject.instance a.subject.port)
 
-  abbrev pub posts : Bindings → Act → Bool
-  posts bound a = some_and (λ (p : Port). is_internal p.role && takes t bound p.formals a) (port_of t.model a.subject.instance a.subject.port)
+  abbrev pub posts : Scope → Act → Bool
+  posts scope a = some_and (λ (p : Port). is_internal p.role && takes t scope p.formals a) (port_of t.model a.subject.instance a.subject.port)
 
   abbrev pub dispatches : Act → Bool
   dispatches a = component_at t a.subject.instance (λ c. is_queued c.queueing)
@@ -138,35 +143,35 @@ module _ (t : Described) where
   returned_at i (spot.Port n) = result_at t i n
   returned_at i _ = None
 
-  abbrev pub returns : Spot → Bindings → Act → Bool
-  returns place bound a = some_and (λ k. takes_one t bound k a) (returned_at a.subject.instance place)
+  abbrev pub returns : Spot → Scope → Act → Bool
+  returns place scope a = some_and (λ k. takes_one t scope k a) (returned_at a.subject.instance place)
 
-  abbrev pub act_suits : ℕ → Spot → Bindings → Act → Bool
-  act_suits i place bound a = (a.subject.instance == i) && of_verb a.verb
+  abbrev pub act_suits : ℕ → Spot → Scope → Act → Bool
+  act_suits i place scope a = (a.subject.instance == i) && of_verb a.verb
     where
       of_verb : Verb → Bool
-      of_verb verb.Call = calls bound a
-      of_verb verb.Command = sends_command bound a
-      of_verb verb.Emit = emits bound a
-      of_verb verb.Write = writes bound a
+      of_verb verb.Call = calls scope a
+      of_verb verb.Command = sends_command scope a
+      of_verb verb.Emit = emits scope a
+      of_verb verb.Write = writes scope a
       of_verb verb.Read = reads a
-      of_verb verb.Signal = signals bound a
-      of_verb verb.Post = posts bound a
+      of_verb verb.Signal = signals scope a
+      of_verb verb.Post = posts scope a
       of_verb verb.Respond = responds place a
       of_verb verb.Dispatch = dispatches a
-      of_verb verb.Return = returns place bound a
+      of_verb verb.Return = returns place scope a
 
-  -- what is bound where a handler begins: formals, or `value` for an action that takes one
-  abbrev pub bound_at : ℕ → Spot → Option Bindings
+  -- what is bound where a handler begins
+  abbrev pub bound_at : ℕ → Spot → Option Scope
   bound_at i (spot.Port n) = option_and_then (λ (p : Port). cond (is_general_input p.role || is_internal p.role) (Some (formals_bound p.formals)) None) (port_of t.model i n)
   bound_at i (spot.Command n) = option_map (λ (c : Command). formals_bound c.formals) (command_of t i n)
   bound_at i (spot.Action running action) =
-      option_map (λ (x : Named). map (λ k. (codes "value", k)) (option_to_list x.kind)) (option_and_then (λ (m : Machine). slice_get m.actions action) (machine_at t i running))
+      option_map (λ (x : Named). value_bound x.kind) (option_and_then (λ (m : Machine). slice_get m.actions action) (machine_at t i running))
 
   abbrev pub handler_suits : Handler → Bool
   handler_suits h =
       is_placed t h.instance && return_stands (is_some (returned_at h.instance h.place)) h.acts
-      && some_and (λ bound. suit_in_turn t (act_suits h.instance h.place) bound h.acts) (bound_at h.instance h.place)
+      && some_and (λ scope. suit_in_turn t (act_suits h.instance h.place) scope h.acts) (bound_at h.instance h.place)
 
   abbrev pub answers_suit : Answers → Bool
   answers_suit a = is_placed t a.instance && some_and (λ (m : Machine). nat_lt a.guard (length m.guards)) (machine_at t a.instance a.running)

@@ -1,3 +1,4 @@
+mod arguments;
 mod bindings;
 mod components;
 mod formats;

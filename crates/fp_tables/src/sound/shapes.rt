@@ -74,7 +74,7 @@ fn direct<'a>(form: &'a Form) -> Shape<'a>
     }
 }
 
-fn form_at<'a>(types: &'a [TypeDef], at: u32) -> Option<&'a Form>
+pub fn form_at<'a>(types: &'a [TypeDef], at: u32) -> Option<&'a Form>
     ensures { option_copied result ≡ form_at types.now at }
 {
     let definition = types.get(at as usize)?;

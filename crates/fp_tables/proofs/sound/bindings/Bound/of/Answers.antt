@@ -1,10 +1,13 @@
-use Rattle.std.proofs.Common.{◌≡◌, ◌∙◌, ap, refl, sym, subst, List, ℕ, arith, Some, None, true, is_some, BTreeMap, nat_cmp}
+use Rattle.std.proofs.Common.{◌≡◌, ◌∙◌, take, ap, refl, sym, subst, List, ℕ, arith, Some, None, true, is_some, BTreeMap, nat_cmp}
 use Rattle.std.proofs.lemmas.Map.Text.{btree_map_updates_str}
 use Rattle.std.proofs.lemmas.Slice.Eq.{bytes_eq-Decides}
 use Rattle.std.specs.Cmp.Lexicographic.{slice_cmp}
 use Rattle.std.specs.Str.{bytes_eq}
 use Rattle.std.specs.BTreeMap.{get_by}
 use denote.Ref.{Bor}
+use Rattle.std.proofs.lemmas.List.{take_all}
+use Rattle.fp_tables.specs.Arguments.{formals_bound}
+use Rattle.fp_tables.specs.declared.kind.Formal.{Formal}
 use Rattle.fp_tables.proofs.Firsts.{filled, kept, none_of}
 use Rattle.fp_tables.proofs.Binding.{formal_bound}
 use Rattle.fp_tables.specs.declared.kind.Kind.{Kind}
@@ -33,3 +36,9 @@ loop-formal-preserved c = λ q.
           (λ h. subst (λ (b : List ℕ). is_some (get_by (λ (k : Bor (List ℕ)). slice_cmp nat_cmp b k.now) kinds) ≡ true) (same (ap (λ (b : List ℕ). bytes_eq b q) c.as_str-name.ensures ∙ h)) full)
           ∙ sym more
     ]
+
+pub returns : goal.returns
+returns c =
+    let formals = c.args.formals.now in
+    let all : take c.loop-formal.formal-index formals ≡ formals = take_all c.loop-formal.formal-index formals (omega arith) in
+    λ j q. (c.loop-formal.invariant q ∙ ap (λ (fs : List Formal). formals_bound fs q) all) j
