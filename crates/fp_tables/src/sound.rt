@@ -1,5 +1,7 @@
+mod acts;
 mod arguments;
 mod bindings;
+mod callers;
 mod components;
 mod formats;
 mod instances;
