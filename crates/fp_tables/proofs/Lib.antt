@@ -8,6 +8,7 @@ pub mod Differing
 pub mod Firsts
 pub mod Joining
 pub mod Repeating
+pub mod Returning
 pub mod Shaped
 pub mod Shaping
 pub mod Sized

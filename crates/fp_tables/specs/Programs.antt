@@ -63,6 +63,9 @@ is_return a = of_verb a.verb
     of_verb verb.Return = true
     of_verb _ = false
 
+abbrev pub has_identifier : Act → Bool
+has_identifier a = some_and is_name a.bind
+
 -- a return stands last where a result is wanted, and nowhere else
 abbrev pub return_stands : Bool → List Act → Bool
 return_stands wanted [] = not wanted
@@ -104,10 +107,14 @@ module _ (t : Described) where
   abbrev pub is_of_commands : End → Bool
   is_of_commands e = some_and (λ (d : PortDef). bytes_eq d.name (codes "Fw.Cmd")) (definition_at t e.instance e.port)
 
+  -- the command of the instance that the wire leads to
+  abbrev pub takes_sent : Scope → Act → Bool
+  takes_sent scope a = some_and (λ (e : End). some_and (λ (c : Command). takes t scope c.formals a) (command_of t e.instance a.name)) (wire_from t a.subject)
+
   abbrev pub sends_command : Scope → Act → Bool
   sends_command scope a =
       has_role t is_general_output a.subject && is_of_commands a.subject && leads_to (is_of_kind CmdRecv) a.subject
-      && some_and (λ (e : End). some_and (λ (c : Command). takes t scope c.formals a) (command_of t e.instance a.name)) (wire_from t a.subject)
+      && takes_sent scope a
 
   abbrev pub calls : Scope → Act → Bool
   calls scope a =
@@ -136,7 +143,7 @@ module _ (t : Described) where
 
   -- in a command's handler, at a wired resp port
   abbrev pub responds : Spot → Act → Bool
-  responds place a = is_command place && has_role t (is_of_kind CmdResp) a.subject && is_some (wire_from t a.subject) && some_and is_name a.bind
+  responds place a = is_command place && has_role t (is_of_kind CmdResp) a.subject && is_some (wire_from t a.subject) && has_identifier a
 
   -- what the port of a handler returns
   abbrev pub returned_at : ℕ → Spot → Option Kind
@@ -146,8 +153,8 @@ module _ (t : Described) where
   abbrev pub returns : Spot → Scope → Act → Bool
   returns place scope a = some_and (λ k. takes_one t scope k a) (returned_at a.subject.instance place)
 
-  abbrev pub act_suits : ℕ → Spot → Scope → Act → Bool
-  act_suits i place scope a = (a.subject.instance == i) && of_verb a.verb
+  abbrev pub verb_suits : Spot → Scope → Act → Bool
+  verb_suits place scope a = of_verb a.verb
     where
       of_verb : Verb → Bool
       of_verb verb.Call = calls scope a
@@ -161,12 +168,23 @@ module _ (t : Described) where
       of_verb verb.Dispatch = dispatches a
       of_verb verb.Return = returns place scope a
 
+  abbrev pub act_suits : ℕ → Spot → Scope → Act → Bool
+  act_suits i place scope a = (a.subject.instance == i) && verb_suits place scope a
+
   -- what is bound where a handler begins
+  abbrev pub port_bound : ℕ → ℕ → Option Scope
+  port_bound i n = option_and_then (λ (p : Port). cond (is_general_input p.role || is_internal p.role) (Some (formals_bound p.formals)) None) (port_of t.model i n)
+
+  abbrev pub command_bound : ℕ → ℕ → Option Scope
+  command_bound i n = option_map (λ (c : Command). formals_bound c.formals) (command_of t i n)
+
+  abbrev pub action_bound : ℕ → ℕ → ℕ → Option Scope
+  action_bound i running action = option_map (λ (x : Named). value_bound x.kind) (option_and_then (λ (m : Machine). slice_get m.actions action) (machine_at t i running))
+
   abbrev pub bound_at : ℕ → Spot → Option Scope
-  bound_at i (spot.Port n) = option_and_then (λ (p : Port). cond (is_general_input p.role || is_internal p.role) (Some (formals_bound p.formals)) None) (port_of t.model i n)
-  bound_at i (spot.Command n) = option_map (λ (c : Command). formals_bound c.formals) (command_of t i n)
-  bound_at i (spot.Action running action) =
-      option_map (λ (x : Named). value_bound x.kind) (option_and_then (λ (m : Machine). slice_get m.actions action) (machine_at t i running))
+  bound_at i (spot.Port n) = port_bound i n
+  bound_at i (spot.Command n) = command_bound i n
+  bound_at i (spot.Action running action) = action_bound i running action
 
   abbrev pub handler_suits : Handler → Bool
   handler_suits h =
