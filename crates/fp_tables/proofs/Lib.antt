@@ -7,6 +7,7 @@ pub mod Counting
 pub mod Differing
 pub mod Firsts
 pub mod Joining
+pub mod Programming
 pub mod Repeating
 pub mod Returning
 pub mod Shaped

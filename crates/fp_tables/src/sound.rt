@@ -13,6 +13,7 @@ mod names;
 mod naming;
 mod ports;
 mod positions;
+mod programs;
 mod queues;
 mod repeats;
 mod shapes;

@@ -13,13 +13,10 @@ use crate::tables::Tables;
 use fp_base::NoMemory;
 use std::alloc::Global;
 
-pub fn is_general_input(role: &Role) -> bool
+fn is_general_input(role: &Role) -> bool
     ensures { result ≡ is_general_input role.now }
 {
-    match role {
-        Role::Input(_) => true,
-        _ => false,
-    }
+    matches!(role, Role::Input(_))
 }
 
 fn caller_calls(tables: &Tables, bound: &Bound<'_>, act: &Act) -> bool

@@ -49,6 +49,13 @@ pub fn steps_are_in_range(program: &Program) -> bool
     1 <= program.steps && program.steps <= 20_000
 }
 
+/// Whether there are at most 32 callers.
+pub fn callers_are_few(program: &Program) -> bool
+    ensures { result ≡ nat_le (length program.now.callers) 32 }
+{
+    program.callers.len() <= 32
+}
+
 fn is_short_list(acts: &Row<Act>) -> bool
     ensures { result ≡ is_short_list acts.now }
 {

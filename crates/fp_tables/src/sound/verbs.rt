@@ -25,49 +25,25 @@ fn wire_from(tables: &Tables, end: End) -> Option<End>
 fn is_output_at(tables: &Tables, end: End) -> bool
     ensures { result ≡ has_role tables.now is_general_output end }
 {
-    match role_at(tables, end) {
-        Some(role) => match role {
-            Role::Output => true,
-            _ => false,
-        },
-        None => false,
-    }
+    matches!(role_at(tables, end), Some(Role::Output))
 }
 
 fn is_resp_at(tables: &Tables, end: End) -> bool
     ensures { result ≡ has_role tables.now (is_of_kind CmdResp) end }
 {
-    match role_at(tables, end) {
-        Some(role) => match role {
-            Role::Special(Special::CmdResp) => true,
-            _ => false,
-        },
-        None => false,
-    }
+    matches!(role_at(tables, end), Some(Role::Special(Special::CmdResp)))
 }
 
 fn is_recv_at(tables: &Tables, end: End) -> bool
     ensures { result ≡ has_role tables.now (is_of_kind CmdRecv) end }
 {
-    match role_at(tables, end) {
-        Some(role) => match role {
-            Role::Special(Special::CmdRecv) => true,
-            _ => false,
-        },
-        None => false,
-    }
+    matches!(role_at(tables, end), Some(Role::Special(Special::CmdRecv)))
 }
 
 fn is_input_at(tables: &Tables, end: End) -> bool
     ensures { result ≡ has_role tables.now is_general_input end }
 {
-    match role_at(tables, end) {
-        Some(role) => match role {
-            Role::Input(_) => true,
-            _ => false,
-        },
-        None => false,
-    }
+    matches!(role_at(tables, end), Some(Role::Input(_)))
 }
 
 fn leads_to_recv(tables: &Tables, end: End) -> bool
