@@ -22,3 +22,6 @@ mod topologies;
 mod types;
 mod values;
 mod verbs;
+
+#[cfg(test)]
+pub use lengths::lists_are_short;

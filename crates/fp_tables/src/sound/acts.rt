@@ -59,7 +59,11 @@ fn answered(tables: &Tables, act: &Act) -> Option<Kind>
     }
 }
 
-fn bind_to<'a>(bound: &mut Bound<'a>, name: &'a Option<Text>, kind: Option<Kind>) -> Result<(), NoMemory>
+fn bind_to<'a>(
+    bound: &mut Bound<'a>,
+    name: &'a Option<Text>,
+    kind: Option<Kind>,
+) -> Result<(), NoMemory>
     ensures { OnOk result (scope_of bound.new ≡ bound_to name.now kind (scope_of bound.old)) }
 {
     match name {

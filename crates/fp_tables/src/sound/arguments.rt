@@ -83,7 +83,12 @@ pub fn takes(types: &[TypeDef], bound: &Bound<'_>, formals: &[Formal], arguments
 }
 
 /// Whether there is one argument, of the type, where there is a type, and else none.
-pub fn takes_optional(types: &[TypeDef], bound: &Bound<'_>, kind: Option<Kind>, arguments: &[Arg]) -> bool
+pub fn takes_optional(
+    types: &[TypeDef],
+    bound: &Bound<'_>,
+    kind: Option<Kind>,
+    arguments: &[Arg],
+) -> bool
     ensures { result ≡ arguments_suit types.now (scope_of bound.now) (option_to_list kind) arguments.now }
 {
     match (kind, arguments) {

@@ -63,19 +63,32 @@ fn value_bound<'a>(alloc: Global, kind: Option<Kind>) -> Result<Bound<'a>, NoMem
     }
 }
 
-fn port_bound<'a>(alloc: Global, tables: &'a Tables, instance: u32, port: u32) -> Result<Option<Bound<'a>>, NoMemory>
+fn port_bound<'a>(
+    alloc: Global,
+    tables: &'a Tables,
+    instance: u32,
+    port: u32,
+) -> Result<Option<Bound<'a>>, NoMemory>
     ensures { IfOk result (λ found. option_map scope_of found ≡ port_bound tables.now instance port) }
 {
     match port_of(tables, instance, port) {
         Some(port) => match &port.role {
-            Role::Input(_) | Role::Internal(_) => Ok(Some(Bound::of(alloc, port.formals.as_slice())?)),
+            Role::Input(_) | Role::Internal(_) => Ok(Some(Bound::of(
+                alloc,
+                port.formals.as_slice(),
+            )?)),
             _ => Ok(None),
         },
         None => Ok(None),
     }
 }
 
-fn command_bound<'a>(alloc: Global, tables: &'a Tables, instance: u32, command: u32) -> Result<Option<Bound<'a>>, NoMemory>
+fn command_bound<'a>(
+    alloc: Global,
+    tables: &'a Tables,
+    instance: u32,
+    command: u32,
+) -> Result<Option<Bound<'a>>, NoMemory>
     ensures { IfOk result (λ found. option_map scope_of found ≡ command_bound tables.now instance command) }
 {
     match command_of(tables, instance, command) {
@@ -84,7 +97,13 @@ fn command_bound<'a>(alloc: Global, tables: &'a Tables, instance: u32, command: 
     }
 }
 
-fn action_bound<'a>(alloc: Global, tables: &'a Tables, instance: u32, running: u32, action: u32) -> Result<Option<Bound<'a>>, NoMemory>
+fn action_bound<'a>(
+    alloc: Global,
+    tables: &'a Tables,
+    instance: u32,
+    running: u32,
+    action: u32,
+) -> Result<Option<Bound<'a>>, NoMemory>
     ensures { IfOk result (λ found. option_map scope_of found ≡ action_bound tables.now instance running action) }
 {
     match machine_at(tables, instance, running) {
@@ -97,7 +116,12 @@ fn action_bound<'a>(alloc: Global, tables: &'a Tables, instance: u32, running: u
 }
 
 /// What is bound where a handler begins, or None where its place isn't one.
-fn bound_at<'a>(alloc: Global, tables: &'a Tables, instance: u32, place: Spot) -> Result<Option<Bound<'a>>, NoMemory>
+fn bound_at<'a>(
+    alloc: Global,
+    tables: &'a Tables,
+    instance: u32,
+    place: Spot,
+) -> Result<Option<Bound<'a>>, NoMemory>
     ensures { IfOk result (λ found. option_map scope_of found ≡ bound_at tables.now instance place) }
 {
     match place {
@@ -107,7 +131,11 @@ fn bound_at<'a>(alloc: Global, tables: &'a Tables, instance: u32, place: Spot) -
     }
 }
 
-fn acts_suit<'a>(tables: &'a Tables, handler: &'a Handler, bound: Bound<'a>) -> Result<bool, NoMemory>
+fn acts_suit<'a>(
+    tables: &'a Tables,
+    handler: &'a Handler,
+    bound: Bound<'a>,
+) -> Result<bool, NoMemory>
     ensures { IfOk result (λ suit. suit ≡ suit_in_turn tables.now (act_suits tables.now handler.now.instance handler.now.place) (scope_of bound.entry) handler.now.acts) }
 {
     let mut bound = bound;
@@ -134,9 +162,7 @@ fn handler_suits(alloc: Global, tables: &Tables, handler: &Handler) -> Result<bo
 {
     let wanted = returned_at(tables, handler.instance, handler.place).is_some();
     let suits = body_suits(alloc, tables, handler)?;
-    Ok(is_placed(tables, handler.instance)
-        & return_stands(wanted, handler.acts.as_slice())
-        & suits)
+    Ok(is_placed(tables, handler.instance) & return_stands(wanted, handler.acts.as_slice()) & suits)
 }
 
 /// Whether the actions of each handler suit.

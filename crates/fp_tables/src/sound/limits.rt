@@ -86,7 +86,5 @@ pub fn actions_are_few(program: &Program) -> bool
 pub fn answers_are_few(answers: &[Answers]) -> bool
     ensures { result ≡ list_all (λ (given : Answers). is_from_1_to 1024 (length given.given)) answers.now }
 {
-    answers
-        .iter()
-        .all(|answers| 1 <= answers.given.len() && answers.given.len() <= 1024)
+    answers.iter().all(|answers| 1 <= answers.given.len() && answers.given.len() <= 1024)
 }

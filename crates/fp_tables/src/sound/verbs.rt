@@ -99,7 +99,8 @@ fn calls(tables: &Tables, bound: &Bound<'_>, act: &Act) -> bool
 {
     match port_of(tables, act.subject.instance, act.subject.port) {
         Some(port) => match &port.role {
-            Role::Output => takes(tables, bound, &port.formals, act) && leads_to_input(tables, act.subject),
+            Role::Output => takes(tables, bound, &port.formals, act)
+                && leads_to_input(tables, act.subject),
             _ => false,
         },
         None => false,

@@ -6,5 +6,5 @@ use Rattle.fp_tables.proofs.sound.queues.places_are_few.Given as goal
 abbrev pub invariant-loop-instance : goal.invariant-loop-instance
 invariant-loop-instance l = record {
   so_far : l.total ≡ sum_by (queue_places l.tables) (take l.instance-index l.instances);
-  few : l.total ≤ 1000000
+  few : l.total ≤ 1000000;
 }
