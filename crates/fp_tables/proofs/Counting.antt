@@ -1,19 +1,16 @@
 -- Lemmas on priorities, and on the places of queues.
-use Rattle.std.proofs.Common.{◌≡◌, ℕ, ◌+◌, ◌<◌, ◌||◌, Bool, true, false, cond, List, [], ◌∷◌, map, length, Option, None, Some, is_some, option_map, refl, sym, ap, ◌∙◌, arith, ltb, suc}
-use Rattle.std.specs.Prelude.{ℤ, pos, negsuc, slice_get}
-use Rattle.std.specs.List.{list_any, position, position_or_len}
+use Rattle.std.proofs.Common.{◌≡◌, ℕ, ◌+◌, ◌||◌, Bool, true, false, cond, List, [], ◌∷◌, length, Option, None, Some, is_some, option_map, refl, ◌∙◌, arith, suc}
+use Rattle.std.specs.Prelude.{ℤ, pos, negsuc}
+use Rattle.std.specs.List.{list_any, position}
 use Rattle.std.specs.Set.{distinct_count, unique_keys, is_member}
 use Rattle.std.specs.Ordering.{int_cmp, eq_by_cmp}
 use Rattle.std.specs.BTreeSet.{BTreeSet, IsFromIterResult, btree_set_len}
 use Rattle.std.proofs.lemmas.Bool.Decides.{nat_tests}
 use Rattle.std.proofs.lemmas.Cmp.{int_cmp_total}
 use Rattle.std.proofs.lemmas.Map.Views.{btree_set_len-from_list}
-use Rattle.std.proofs.lemmas.Option.{slice_get-map}
 use Rattle.fp_base.specs.Same.{same_int}
 use Rattle.fp_tables.proofs.Firsts.{position_cons}
-use Rattle.fp_tables.specs.SoundPrograms.{priorities, count_different, queue_places}
-use Rattle.fp_tables.specs.declared.component.Component.{Component}
-use Rattle.fp_tables.specs.declared.topology.Instance.{Instance}
+use Rattle.fp_tables.specs.SoundPrograms.{count_different}
 
 same_ints : (x y : ℤ) → eq_by_cmp int_cmp x y ≡ same_int x y
 same_ints (pos m) (pos n) = grind (arith, nat_tests)

@@ -1,4 +1,4 @@
-use Rattle.std.proofs.Common.{◌∙◌, ap, sym, map, length}
+use Rattle.std.proofs.Common.{◌∙◌, ap, sym, length}
 use Rattle.std.specs.List.{list_all}
 use Rattle.fp_tables.specs.Lists.{apart}
 use Rattle.fp_tables.specs.Names.{is_name}

@@ -1,7 +1,4 @@
-use Rattle.std.proofs.Common.{◌∙◌, ap, subst, List}
-use Rattle.std.specs.Prelude.{ℤ}
-use Rattle.std.specs.Ordering.{int_cmp}
-use Rattle.std.specs.BTreeSet.{IsFromIterResult}
+use Rattle.std.proofs.Common.{◌∙◌, ap}
 use Rattle.fp_tables.proofs.Counting.{set_counted}
 use Rattle.fp_tables.specs.SoundPrograms.{count_different}
 use Rattle.fp_tables.proofs.sound.queues.count_priorities.Goals as goal
