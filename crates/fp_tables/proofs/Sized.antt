@@ -1,9 +1,8 @@
 -- The leaves and levels of arrays and structs, from their items.
-use Rattle.std.proofs.Common.{◌≡◌, ℕ, zero, suc, ◌+◌, List, [], ◌∷◌, max, refl, sym, ap, ◌∙◌, arith}
+use Rattle.std.proofs.Common.{◌≡◌, ℕ, suc, ◌+◌, List, [], ◌∷◌, max, refl, sym, ap, ◌∙◌, arith}
 use Rattle.std.specs.List.{fold, sum_by}
 use Rattle.std.proofs.lemmas.List.Sums.{sum_by-cons}
-use mathlib.Core.Former.{Count}
-use Rattle.fp_base.specs.declared.value.Value.{Value, Array', Struct', Row_of-Value, more_of-Value, end_of-Value, items-the_row-Value, items_hidden-the_row-Value-0}
+use Rattle.fp_base.specs.declared.value.Value.{Value, Row_of-Value, more_of-Value, end_of-Value, items-the_row-Value, items_hidden-the_row-Value-0}
 use Rattle.fp_base.specs.declared.value.Value.TheViews.{Array, Struct}
 use Rattle.fp_base.specs.declared.value.Value.TheBlock as block
 use Rattle.fp_base.specs.declared.value.Part.{Part}

@@ -1,11 +1,15 @@
 ghost use Rattle.std.specs.Prelude.{◌≡◌, IfOk};
-ghost use Rattle.std.specs.List.{list_all};
+ghost use Rattle.std.specs.List.{list_all, filter_map};
 ghost use Rattle.std.specs.Option.{option_copied};
 ghost use Rattle.fp_base.specs.Same.{same_list};
-ghost use Rattle.fp_tables.specs.Components.{same_kind, same_formal, definition, definition_of, has_its_formals, suits_its_role, waits_for_no_result};
+ghost use Rattle.fp_tables.specs.declared.component.Port.{Port};
+ghost use Rattle.fp_tables.specs.Components.{same_kind, same_formal, definition, definition_of, has_its_formals, suits_its_role, waits_for_no_result, special_in, special_ports_differ};
 
-use crate::component::{Port, Role, Special, Way};
+use crate::component::{Component, Port, Role, Special, Way};
 use crate::kind::{Formal, Kind, PortDef};
+use crate::sound::names::all_differ;
+use fp_base::NoMemory;
+use std::alloc::{AllocError, Global};
 
 /// Whether two types are the same as they are used.
 pub fn same_kind(left: Kind, right: Kind) -> bool
@@ -128,4 +132,30 @@ pub fn waiting_ports_have_no_result(definitions: &[PortDef], ports: &[Port]) -> 
     ports
         .iter()
         .all(|port| waits_for_no_result(definitions, port))
+}
+
+fn special_in(role: &Role) -> Option<Special>
+    ensures { result ≡ special_in role.now }
+{
+    match role {
+        Role::Special(special) => Some(*special),
+        _ => None,
+    }
+}
+
+fn specials_of(alloc: Global, ports: &[Port]) -> Result<Vec<Special>, AllocError>
+    ensures { IfOk result (λ specials. specials.items ≡ filter_map (λ (port : Port). special_in port.role) ports.now) }
+{
+    ports
+        .iter()
+        .filter_map(|port| special_in(&port.role))
+        .collect(alloc)
+}
+
+/// Whether no two special ports are of one kind.
+pub fn special_ports_differ(alloc: Global, component: &Component) -> Result<bool, NoMemory>
+    ensures { IfOk result (λ differ. differ ≡ special_ports_differ component.now) }
+{
+    let specials = specials_of(alloc, component.ports.as_slice())?;
+    all_differ(alloc, specials)
 }

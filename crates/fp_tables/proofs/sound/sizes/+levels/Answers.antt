@@ -1,4 +1,4 @@
-use Rattle.std.proofs.Common.{◌≡◌, max, ap, ◌∙◌, arith}
+use Rattle.std.proofs.Common.{max, ap, ◌∙◌, arith}
 use Rattle.std.specs.List.{fold}
 use Rattle.fp_base.specs.declared.value.Part.{Part}
 use Rattle.fp_tables.specs.Types.{levels}

@@ -1,4 +1,4 @@
-use Rattle.std.proofs.Common.{◌≡◌, ◌∙◌, ◌&&◌, Bool, false, true, ℕ, eqb, length, sym, ap, ap₂, List, refl, arith}
+use Rattle.std.proofs.Common.{◌≡◌, ◌∙◌, ◌&&◌, Bool, ℕ, eqb, length, sym, ap, ap₂, List, arith}
 use Rattle.std.proofs.lemmas.Bool.Decides.{nat_tests}
 use Rattle.std.specs.List.{list_all}
 use Rattle.fp_base.specs.declared.value.Value.{Value}
@@ -7,7 +7,6 @@ use Rattle.fp_tables.specs.Types.{Shape, has, shape}
 use Rattle.fp_tables.specs.Shapes.{meant, all_beside, part_has}
 use Rattle.fp_tables.specs.declared.sound.shapes.Shape.{Shape as Read}
 use Rattle.fp_tables.specs.declared.kind.TypeDef.{TypeDef}
-use Rattle.fp_tables.specs.declared.kind.Kind.{Kind}
 use Rattle.fp_tables.proofs.Shaped.{array_has, struct_has}
 use Rattle.fp_tables.proofs.sound.values.+has.Goals as goal
 
