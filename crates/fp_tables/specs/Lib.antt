@@ -1,4 +1,7 @@
 pub mod Behind
+pub mod Acts
+pub mod Arguments
+pub mod Bound
 pub mod Chains
 pub mod Components
 pub mod Formats
