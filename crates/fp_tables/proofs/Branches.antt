@@ -1,9 +1,9 @@
 -- What is behind a choice, from what is behind its branches.
-use Rattle.std.proofs.Common.{◌≡◌, ℕ, zero, suc, ◌<◌, ◌≤◌, Bool, true, false, cond, not, ◌&&◌, ◌||◌, max, min, leb, List, [], ◌∷◌, ◌++◌, Option, None, Some, option_map, slice_get, is_none, is_some, refl, sym, ap, ap₂, subst, ◌∙◌, arith}
+use Rattle.std.proofs.Common.{◌≡◌, ℕ, zero, suc, ◌<◌, ◌≤◌, Bool, true, false, ◌&&◌, ◌||◌, max, min, leb, List, [], ◌∷◌, ◌++◌, Option, None, Some, option_map, slice_get, refl, sym, ap, ap₂, subst, ◌∙◌, arith}
 use Rattle.std.proofs.lemmas.Bool.Decides.{nat_tests}
 use Rattle.fp_tables.specs.Machines.{node_at, either_branch, reached_at, reached, begins_choices, guard_is_given, actions_are_given, choice_is_given, behind_is_given}
 use Rattle.fp_tables.specs.Wanted.{meets}
-use Rattle.fp_tables.specs.Behind.{join_spans, span, IsBehind, nothing_behind, found_at, choice_at, is_open, open_target, open_branch, either, found_behind, found_count, AreBehind}
+use Rattle.fp_tables.specs.Behind.{join_spans, span, IsBehind, nothing_behind, found_at, open_target, open_branch, either, found_behind, found_count, AreBehind}
 use Rattle.fp_tables.specs.declared.kind.Kind.{Kind}
 use Rattle.fp_tables.specs.declared.kind.TypeDef.{TypeDef}
 use Rattle.fp_tables.specs.declared.machine.Step.{Step}
@@ -12,7 +12,6 @@ use Rattle.fp_tables.specs.declared.machine.Node.{Node}
 use Rattle.fp_tables.specs.declared.machine.Node.TheVariants as node
 use Rattle.fp_tables.specs.declared.machine.Vertex.{Vertex}
 use Rattle.fp_tables.specs.declared.machine.Machine.{Machine}
-use Rattle.fp_tables.specs.declared.sound.wanted.Wanted.{Wanted}
 use Rattle.fp_tables.specs.declared.sound.wanted.Wanted.TheVariants.{Nothing}
 use Rattle.fp_tables.specs.declared.sound.choices.Behind.{Behind}
 

@@ -1,13 +1,11 @@
 -- Steps of going through choices.
-use Rattle.std.proofs.Common.{◌≡◌, ◌≢◌, ℕ, zero, suc, ◌+◌, ◌-◌, ◌*◌, ◌<◌, ◌≤◌, Bool, true, false, cond, not, ◌&&◌, leb, List, [], ◌∷◌, ◌++◌, length, set, Option, None, Some, is_none, is_some, ◌⊎◌, inl, inr, eqb, refl, sym, ap, subst, ◌∙◌, arith, length-set}
+use Rattle.std.proofs.Common.{◌≡◌, ◌≢◌, ℕ, suc, ◌+◌, ◌-◌, ◌*◌, ◌<◌, ◌≤◌, Bool, true, false, cond, not, ◌&&◌, leb, List, [], ◌∷◌, ◌++◌, length, set, Option, None, Some, is_none, is_some, ◌⊎◌, inl, inr, eqb, refl, sym, ap, subst, ◌∙◌, arith, length-set}
 use Rattle.std.proofs.lemmas.Bool.Decides.{nat_tests}
-use Rattle.fp_tables.specs.Lists.{all_from}
 use Rattle.fp_tables.specs.Machines.{node_at, begins_choices, either_branch, has_no_ring}
 use Rattle.fp_tables.specs.Behind.{found_at, found_count, choice_at, is_open, open_target, open_branch, either, found_behind, IsBehind, AreBehind, AllBehind, is_branch, IsPath, Begins}
 use Rattle.fp_tables.specs.declared.kind.TypeDef.{TypeDef}
 use Rattle.fp_tables.specs.declared.machine.Node.{Node}
 use Rattle.fp_tables.specs.declared.machine.Node.TheVariants as node
-use Rattle.fp_tables.specs.declared.machine.Step.{Step}
 use Rattle.fp_tables.specs.declared.machine.Vertex.{Vertex}
 use Rattle.fp_tables.specs.declared.machine.Machine.{Machine}
 use Rattle.fp_tables.specs.declared.sound.choices.Behind.{Behind}

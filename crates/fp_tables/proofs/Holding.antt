@@ -1,5 +1,5 @@
 -- The states in which vertices stand.
-use Rattle.std.proofs.Common.{◌≡◌, ℕ, suc, Bool, true, ◌||◌, eqb, List, [], ◌∷◌, map, Option, None, Some, refl, sym, ap, ap₂, ◌∙◌, arith}
+use Rattle.std.proofs.Common.{◌≡◌, ℕ, suc, Bool, true, ◌||◌, eqb, List, [], ◌∷◌, map, Option, None, Some, refl, ap, ap₂, ◌∙◌, arith}
 use Rattle.std.specs.List.{list_any}
 use Rattle.std.specs.Option.{option_cmp}
 use Rattle.std.specs.Ordering.{eq_by_cmp, nat_cmp}

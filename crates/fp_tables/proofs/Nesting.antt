@@ -1,5 +1,5 @@
 -- Steps from a vertex to the state round it.
-use Rattle.std.proofs.Common.{◌≡◌, ◌≢◌, ℕ, zero, suc, ◌+◌, ◌-◌, ◌<◌, Bool, false, ◌||◌, ◌==◌, List, Option, option_and_then, Some, slice_get, refl, ap, sym, ◌∙◌, arith, eqb, sub-one}
+use Rattle.std.proofs.Common.{◌≡◌, ◌≢◌, ℕ, zero, suc, ◌+◌, ◌-◌, ◌<◌, false, ◌||◌, List, Option, option_and_then, Some, slice_get, refl, ap, sym, ◌∙◌, arith, eqb, sub-one}
 use Rattle.std.proofs.lemmas.Bool.Decides.{nat_tests}
 use Rattle.fp_tables.specs.Lists.{if_some, some_and}
 use Rattle.fp_tables.specs.Positions.{is_inside}

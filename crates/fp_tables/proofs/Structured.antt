@@ -1,5 +1,5 @@
 -- The groups of tests hold where a model's structure is sound.
-use Rattle.std.proofs.Common.{◌≡◌, ◌↔◌, ℕ, zero, suc, ◌<◌, ◌≤◌, ◌^◌, leb, Bool, true, false, ◌&&◌, ◌||◌, List, [], ◌∷◌, map, get_or, length, IsTrue, Option, None, Some, refl, sym, ap, ap₂, ◌∙◌, arith}
+use Rattle.std.proofs.Common.{◌≡◌, ℕ, ◌<◌, ◌≤◌, ◌^◌, leb, Bool, true, false, ◌&&◌, ◌||◌, List, [], ◌∷◌, map, get_or, length, Option, None, Some, refl, sym, ap, ap₂, ◌∙◌, arith}
 use Rattle.std.specs.List.{list_all}
 use Rattle.std.proofs.lemmas.Bool.Decides.{nat_tests}
 use Rattle.fp_tables.specs.Positions.{positions_lie, are_in_preorder}
@@ -10,13 +10,12 @@ use Rattle.fp_tables.specs.Parts.{all_hold, all_pass}
 use Rattle.fp_tables.specs.Sound.{IsSound, IsSoundFor}
 use Rattle.fp_tables.specs.SoundParts.{HasSoundParts}
 use Rattle.fp_tables.specs.SoundStructure.{HasSoundStructure, tests_of_outlines, tests_of_bodies, where_a_body, is_sound_machine, IsSoundBeside}
-use Rattle.fp_tables.specs.declared.kind.TypeDef.{TypeDef}
 use Rattle.fp_tables.specs.declared.machine.Vertex.{Vertex}
 use Rattle.fp_tables.specs.declared.machine.Machine.{Machine}
 use Rattle.fp_tables.specs.declared.model.Model.{Model}
 use Rattle.fp_tables.proofs.Alls.{both}
 use Rattle.fp_tables.proofs.Joined.{same_first, none}
-use Rattle.fp_tables.proofs.Parted.{held, by_test, each, all_and}
+use Rattle.fp_tables.proofs.Parted.{by_test, each, all_and}
 
 -- ---- one machine
 

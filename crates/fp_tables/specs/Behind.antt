@@ -7,12 +7,10 @@ use Rattle.fp_tables.specs.Machines.{node_at, reached, begins_choices, behind_is
 use Rattle.fp_tables.specs.Wanted.{meets}
 use Rattle.fp_tables.specs.declared.kind.Kind.{Kind}
 use Rattle.fp_tables.specs.declared.kind.TypeDef.{TypeDef}
-use Rattle.fp_tables.specs.declared.machine.Step.{Step}
 use Rattle.fp_tables.specs.declared.machine.Node.{Node}
 use Rattle.fp_tables.specs.declared.machine.Node.TheVariants as node
 use Rattle.fp_tables.specs.declared.machine.Vertex.{Vertex}
 use Rattle.fp_tables.specs.declared.machine.Machine.{Machine}
-use Rattle.fp_tables.specs.declared.sound.wanted.Wanted.{Wanted}
 use Rattle.fp_tables.specs.declared.sound.wanted.Wanted.TheVariants.{Nothing}
 use Rattle.fp_tables.specs.declared.sound.choices.Behind.{Behind}
 

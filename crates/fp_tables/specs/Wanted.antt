@@ -1,5 +1,5 @@
 -- What value actions and guards want.
-use Rattle.std.specs.Prelude.{ℕ, Bool, true, false, cond, List, Option, None, Some, option_map, option_and_then, slice_get}
+use Rattle.std.specs.Prelude.{Bool, true, false, cond, List, Option, None, Some, option_map, option_and_then, slice_get}
 use Rattle.fp_tables.specs.Lists.{some_and}
 use Rattle.fp_tables.specs.Components.{same_kind}
 use Rattle.fp_tables.specs.Machines.{target}

@@ -44,7 +44,13 @@ pub fn text(alloc: Global, text: &str) -> Result<Text, NoMemory> {
     Text::from_str(alloc, text)
 }
 
-pub fn port(alloc: Global, name: &str, role: Role, size: u32, of: Option<u32>) -> Result<Row<Port>, NoMemory> {
+pub fn port(
+    alloc: Global,
+    name: &str,
+    role: Role,
+    size: u32,
+    of: Option<u32>,
+) -> Result<Row<Port>, NoMemory> {
     let mut ports = Row::new(alloc);
     ports.push(Port {
         name: text(alloc, name)?,
@@ -72,7 +78,12 @@ pub fn channels(alloc: Global, id: Option<u32>) -> Result<Row<Channel>, NoMemory
     Ok(channels)
 }
 
-pub fn component(alloc: Global, name: &str, ports: Row<Port>, channels: Row<Channel>) -> Result<Component, NoMemory> {
+pub fn component(
+    alloc: Global,
+    name: &str,
+    ports: Row<Port>,
+    channels: Row<Channel>,
+) -> Result<Component, NoMemory> {
     Ok(Component {
         name: text(alloc, name)?,
         queueing: Queueing::Passive,
@@ -100,7 +111,13 @@ fn components(alloc: Global, plan: &Plan) -> Result<Row<Component>, NoMemory> {
     Ok(components)
 }
 
-pub fn instance(alloc: Global, name: &str, component: u32, base: u32, plan: &Plan) -> Result<Instance, NoMemory> {
+pub fn instance(
+    alloc: Global,
+    name: &str,
+    component: u32,
+    base: u32,
+    plan: &Plan,
+) -> Result<Instance, NoMemory> {
     Ok(Instance {
         name: text(alloc, name)?,
         component,
@@ -115,12 +132,26 @@ pub fn instance(alloc: Global, name: &str, component: u32, base: u32, plan: &Pla
 fn wires(alloc: Global, plan: &Plan) -> Result<Row<Wire>, NoMemory> {
     let mut wires = Row::new(alloc);
     for (from, to) in &plan.wires {
-        let output = End { instance: 0, port: 0, number: *from };
-        let input = End { instance: 1, port: 0, number: *to };
+        let output = End {
+            instance: 0,
+            port: 0,
+            number: *from,
+        };
+        let input = End {
+            instance: 1,
+            port: 0,
+            number: *to,
+        };
         let wire = if plan.swapped {
-            Wire { from: input, to: output }
+            Wire {
+                from: input,
+                to: output,
+            }
         } else {
-            Wire { from: output, to: input }
+            Wire {
+                from: output,
+                to: input,
+            }
         };
         wires.push(wire)?;
     }

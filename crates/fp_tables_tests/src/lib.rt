@@ -3,7 +3,6 @@
 
 pub mod choosing;
 pub mod joined;
-pub mod wide;
-
 #[cfg(test)]
 mod tests;
+pub mod wide;

@@ -5,7 +5,11 @@ use fp_tables::{Kind, Tables};
 use std::alloc::Global;
 use std::test::Fail;
 
-fn joined_is_sound(alloc: Global, plan: joined::Plan, topology: Option<u32>) -> Result<bool, NoMemory> {
+fn joined_is_sound(
+    alloc: Global,
+    plan: joined::Plan,
+    topology: Option<u32>,
+) -> Result<bool, NoMemory> {
     let model = joined(alloc, &plan)?;
     model.is_sound(alloc, topology)
 }
@@ -19,7 +23,17 @@ fn choosing_is_sound(alloc: Global, plan: choosing::Plan) -> Result<bool, NoMemo
 fn sound_models(rt: HostRuntime) -> Result<(), Fail> {
     let alloc = rt.alloc();
     assert!(rt; joined_is_sound(alloc, JOINED, Some(0))?);
-    assert!(rt; joined_is_sound(alloc, joined::Plan { component: 0, channel: Some(0), ..JOINED }, None)?);
+    assert!(rt;
+        joined_is_sound(
+            alloc,
+            joined::Plan {
+                component: 0,
+                channel: Some(0),
+                ..JOINED
+            },
+            None
+        )?
+    );
     assert!(rt; choosing_is_sound(alloc, CHOOSING)?);
     Ok(())
 }
@@ -33,11 +47,28 @@ fn no_topology(rt: HostRuntime) -> Result<(), Fail> {
 #[test]
 fn unsound_instances(rt: HostRuntime) -> Result<(), Fail> {
     let plans = [
-        joined::Plan { name: "a", ..JOINED },
-        joined::Plan { component: 2, ..JOINED },
-        joined::Plan { component: 0, channel: Some(0), base: 0, ..JOINED },
-        joined::Plan { queue: Some(1), ..JOINED },
-        joined::Plan { cpu: Some(65_536), ..JOINED },
+        joined::Plan {
+            name: "a",
+            ..JOINED
+        },
+        joined::Plan {
+            component: 2,
+            ..JOINED
+        },
+        joined::Plan {
+            component: 0,
+            channel: Some(0),
+            base: 0,
+            ..JOINED
+        },
+        joined::Plan {
+            queue: Some(1),
+            ..JOINED
+        },
+        joined::Plan {
+            cpu: Some(65_536),
+            ..JOINED
+        },
         joined::Plan { item: 1, ..JOINED },
     ];
     for plan in &plans {
@@ -50,11 +81,26 @@ fn unsound_instances(rt: HostRuntime) -> Result<(), Fail> {
 fn unsound_topologies(rt: HostRuntime) -> Result<(), Fail> {
     let plans = [
         joined::Plan { size: 2, ..JOINED },
-        joined::Plan { definition: 1, ..JOINED },
-        joined::Plan { internal: true, ..JOINED },
-        joined::Plan { members: [0, 0], ..JOINED },
-        joined::Plan { wires: [(0, 0), (0, 1), (2, 0)], ..JOINED },
-        joined::Plan { swapped: true, ..JOINED },
+        joined::Plan {
+            definition: 1,
+            ..JOINED
+        },
+        joined::Plan {
+            internal: true,
+            ..JOINED
+        },
+        joined::Plan {
+            members: [0, 0],
+            ..JOINED
+        },
+        joined::Plan {
+            wires: [(0, 0), (0, 1), (2, 0)],
+            ..JOINED
+        },
+        joined::Plan {
+            swapped: true,
+            ..JOINED
+        },
     ];
     for plan in &plans {
         assert!(rt; !joined_is_sound(rt.alloc(), *plan, Some(0))?);
@@ -65,13 +111,34 @@ fn unsound_topologies(rt: HostRuntime) -> Result<(), Fail> {
 #[test]
 fn unsound_vertices(rt: HostRuntime) -> Result<(), Fail> {
     let plans = [
-        choosing::Plan { initial: None, ..CHOOSING },
-        choosing::Plan { outer_initial: None, ..CHOOSING },
-        choosing::Plan { outer_initial: Some(2), ..CHOOSING },
-        choosing::Plan { parent: 2, ..CHOOSING },
-        choosing::Plan { yes: Some(2), ..CHOOSING },
-        choosing::Plan { no: None, ..CHOOSING },
-        choosing::Plan { yes: Some(3), ..CHOOSING },
+        choosing::Plan {
+            initial: None,
+            ..CHOOSING
+        },
+        choosing::Plan {
+            outer_initial: None,
+            ..CHOOSING
+        },
+        choosing::Plan {
+            outer_initial: Some(2),
+            ..CHOOSING
+        },
+        choosing::Plan {
+            parent: 2,
+            ..CHOOSING
+        },
+        choosing::Plan {
+            yes: Some(2),
+            ..CHOOSING
+        },
+        choosing::Plan {
+            no: None,
+            ..CHOOSING
+        },
+        choosing::Plan {
+            yes: Some(3),
+            ..CHOOSING
+        },
     ];
     for plan in &plans {
         assert!(rt; !choosing_is_sound(rt.alloc(), *plan)?);
@@ -82,11 +149,26 @@ fn unsound_vertices(rt: HostRuntime) -> Result<(), Fail> {
 #[test]
 fn unsound_names_and_values(rt: HostRuntime) -> Result<(), Fail> {
     let plans = [
-        choosing::Plan { second_name: "A", ..CHOOSING },
-        choosing::Plan { second_signal: "s", ..CHOOSING },
-        choosing::Plan { other: 0, ..CHOOSING },
-        choosing::Plan { value: None, ..CHOOSING },
-        choosing::Plan { value: Some(Kind::U16), ..CHOOSING },
+        choosing::Plan {
+            second_name: "A",
+            ..CHOOSING
+        },
+        choosing::Plan {
+            second_signal: "s",
+            ..CHOOSING
+        },
+        choosing::Plan {
+            other: 0,
+            ..CHOOSING
+        },
+        choosing::Plan {
+            value: None,
+            ..CHOOSING
+        },
+        choosing::Plan {
+            value: Some(Kind::U16),
+            ..CHOOSING
+        },
     ];
     for plan in &plans {
         assert!(rt; !choosing_is_sound(rt.alloc(), *plan)?);

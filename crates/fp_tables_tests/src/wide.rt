@@ -1,4 +1,4 @@
-use crate::joined::{channels, component, instance, port, text, JOINED};
+use crate::joined::{JOINED, channels, component, instance, port, text};
 use fp_base::{NoMemory, Row};
 use fp_tables::{End, Instance, Item, Model, Port, PortDef, Role, Topology, Way, Wire};
 use std::alloc::Global;
@@ -29,8 +29,16 @@ pub fn wires(alloc: Global) -> Result<Row<Wire>, NoMemory> {
     for number in 0..WIRES {
         for from in 0..INSTANCES {
             wires.push(Wire {
-                from: End { instance: from, port: 0, number },
-                to: End { instance: (from + 1) % INSTANCES, port: 1, number },
+                from: End {
+                    instance: from,
+                    port: 0,
+                    number,
+                },
+                to: End {
+                    instance: (from + 1) % INSTANCES,
+                    port: 1,
+                    number,
+                },
             })?;
         }
     }

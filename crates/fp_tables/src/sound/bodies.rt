@@ -58,7 +58,11 @@ fn machine_is_sound(alloc: Global, types: &[TypeDef], machine: &Machine) -> Resu
 }
 
 /// Whether each machine is sound.
-pub fn machines_are_sound(alloc: Global, types: &[TypeDef], machines: &[Machine]) -> Result<bool, NoMemory>
+pub fn machines_are_sound(
+    alloc: Global,
+    types: &[TypeDef],
+    machines: &[Machine],
+) -> Result<bool, NoMemory>
     ensures { IfOk result (λ sound. sound ≡ list_all (is_sound_machine types.now) machines.now) }
 {
     for machine in machines {

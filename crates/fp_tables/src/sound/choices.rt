@@ -6,7 +6,7 @@ ghost use Rattle.fp_tables.specs.declared.kind.Kind.{Kind};
 
 use crate::kind::TypeDef;
 use crate::machine::{Machine, Node, Step, Vertex};
-use crate::sound::wanted::{both_wanted, wanted_by_actions, wanted_by_guard, Wanted};
+use crate::sound::wanted::{Wanted, both_wanted, wanted_by_actions, wanted_by_guard};
 use fp_base::NoMemory;
 use std::alloc::Global;
 
@@ -48,7 +48,12 @@ fn is_open(vertices: &[Vertex], found: &[Option<Behind>], vertex: usize) -> bool
     ensures { result ≡ is_open vertices.now found.now vertex }
 {
     match vertices.get(vertex) {
-        Some(Vertex { node: Node::Choice { .. }, .. }) => found_at(found, vertex).is_none(),
+        Some(
+            Vertex {
+                node: Node::Choice { .. },
+                ..
+            },
+        ) => found_at(found, vertex).is_none(),
         _ => false,
     }
 }
@@ -67,7 +72,12 @@ fn open_branch(vertices: &[Vertex], found: &[Option<Behind>], choice: usize) -> 
     ensures { result ≡ open_branch vertices.now found.now choice }
 {
     match vertices.get(choice) {
-        Some(Vertex { node: Node::Choice { yes, no, .. }, .. }) => {
+        Some(
+            Vertex {
+                node: Node::Choice { yes, no, .. },
+                ..
+            },
+        ) => {
             match open_target(vertices, found, yes.target) {
                 Some(next) => Some(next),
                 None => open_target(vertices, found, no.target),
@@ -84,12 +94,22 @@ pub fn found_behind(vertices: &[Vertex], found: &[Option<Behind>], target: Optio
     let Some(vertex) = target else { return NOTHING };
     let at = vertex as usize;
     match vertices.get(at) {
-        Some(Vertex { node: Node::State { .. }, .. }) => Behind {
+        Some(
+            Vertex {
+                node: Node::State { .. },
+                ..
+            },
+        ) => Behind {
             choices: 0,
             states: Some((at, at)),
             wanted: Wanted::Nothing,
         },
-        Some(Vertex { node: Node::Choice { .. }, .. }) => match found_at(found, at) {
+        Some(
+            Vertex {
+                node: Node::Choice { .. },
+                ..
+            },
+        ) => match found_at(found, at) {
             Some(behind) => behind,
             None => NOTHING,
         },
@@ -98,7 +118,15 @@ pub fn found_behind(vertices: &[Vertex], found: &[Option<Behind>], target: Optio
 }
 
 /// What is behind a choice, from what is behind its branches.
-fn around(types: &[TypeDef], machine: &Machine, guard: u32, yes: &Step, no: &Step, met: &Behind, unmet: &Behind) -> Behind
+fn around(
+    types: &[TypeDef],
+    machine: &Machine,
+    guard: u32,
+    yes: &Step,
+    no: &Step,
+    met: &Behind,
+    unmet: &Behind,
+) -> Behind
     requires { max met.now.choices unmet.now.choices < 2 ^ 32 }
     ensures choices { result.choices ≡ suc (max met.now.choices unmet.now.choices) }
     ensures states { result.states ≡ join_spans met.now.states unmet.now.states }
@@ -116,7 +144,12 @@ fn around(types: &[TypeDef], machine: &Machine, guard: u32, yes: &Step, no: &Ste
 }
 
 /// What is behind a choice, from what was found behind its branches.
-fn behind_choice(types: &[TypeDef], machine: &Machine, found: &[Option<Behind>], choice: usize) -> Behind
+fn behind_choice(
+    types: &[TypeDef],
+    machine: &Machine,
+    found: &[Option<Behind>],
+    choice: usize,
+) -> Behind
     requires known { AreBehind types.now machine.now found.now }
     requires is_choice { choice_at machine.now.vertices choice ≡ true }
     requires closed { open_branch machine.now.vertices found.now choice ≡ None }
@@ -125,7 +158,12 @@ fn behind_choice(types: &[TypeDef], machine: &Machine, found: &[Option<Behind>],
 {
     let vertices = machine.vertices.as_slice();
     match machine.vertices.get(choice) {
-        Some(Vertex { node: Node::Choice { guard, yes, no }, .. }) => {
+        Some(
+            Vertex {
+                node: Node::Choice { guard, yes, no },
+                ..
+            },
+        ) => {
             let met = found_behind(vertices, found, yes.target);
             let unmet = found_behind(vertices, found, no.target);
             around(types, machine, *guard, yes, no, &met, &unmet)
@@ -135,7 +173,13 @@ fn behind_choice(types: &[TypeDef], machine: &Machine, found: &[Option<Behind>],
 }
 
 /// Finds what is behind a choice and behind those that it leads to, unless they make a ring.
-fn settle(alloc: Global, types: &[TypeDef], machine: &Machine, found: Vec<Option<Behind>>, start: usize) -> Result<Option<Vec<Option<Behind>>>, NoMemory>
+fn settle(
+    alloc: Global,
+    types: &[TypeDef],
+    machine: &Machine,
+    found: Vec<Option<Behind>>,
+    start: usize,
+) -> Result<Option<Vec<Option<Behind>>>, NoMemory>
     requires known { AreBehind types.now machine.now found.items }
     requires open { is_open machine.now.vertices found.items start ≡ true }
     ensures { IfOk result (λ settled. MatchOption settled (has_no_ring machine.now.vertices ≡ false) (λ after. Settles types.now machine.now start found.items after.items)) }
@@ -169,7 +213,11 @@ fn nothing_found(alloc: Global, size: usize) -> Result<Vec<Option<Behind>>, NoMe
 }
 
 /// What is behind each choice, unless choices make a ring.
-pub fn behind_choices(alloc: Global, types: &[TypeDef], machine: &Machine) -> Result<Option<Vec<Option<Behind>>>, NoMemory>
+pub fn behind_choices(
+    alloc: Global,
+    types: &[TypeDef],
+    machine: &Machine,
+) -> Result<Option<Vec<Option<Behind>>>, NoMemory>
     requires { length machine.now.vertices < 2 ^ 32 }
     ensures { IfOk result (λ found. MatchOption found (has_no_ring machine.now.vertices ≡ false) (λ found. AllBehind types.now machine.now found.items)) }
 {

@@ -90,7 +90,10 @@ pub fn siblings_differ(alloc: Global, vertices: &[Vertex]) -> Result<bool, NoMem
     names::all_differ(alloc, keys)
 }
 
-fn family_names<'a>(alloc: Global, vertices: &'a [Vertex]) -> Result<Vec<(Option<u32>, &'a str)>, NoMemory>
+fn family_names<'a>(
+    alloc: Global,
+    vertices: &'a [Vertex],
+) -> Result<Vec<(Option<u32>, &'a str)>, NoMemory>
     ensures { IfOk result (λ keys. map family_name_of keys.items ≡ map family_name vertices.now) }
 {
     let mut keys = Vec::with_capacity(alloc, vertices.len())?;

@@ -104,9 +104,7 @@ fn components_lie(model: &Model, components: &[Component]) -> bool
     let types = model.types.len();
     let ports = model.ports.len();
     let machines = model.machines.len();
-    components
-        .iter()
-        .all(|component| component_lies(component, types, ports, machines))
+    components.iter().all(|component| component_lies(component, types, ports, machines))
 }
 
 fn machines_lie(model: &Model, machines: &[Machine]) -> bool
@@ -120,9 +118,7 @@ fn machines_lie(model: &Model, machines: &[Machine]) -> bool
 fn instances_lie(model: &Model, instances: &[Instance]) -> bool
     ensures { result ≡ list_all (λ (instance : Instance). nat_lt instance.component (length model.now.components)) instances.now }
 {
-    instances
-        .iter()
-        .all(|instance| (instance.component as usize) < model.components.len())
+    instances.iter().all(|instance| (instance.component as usize) < model.components.len())
 }
 
 fn topologies_lie(model: &Model, topologies: &[Topology]) -> bool

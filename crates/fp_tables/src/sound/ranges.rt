@@ -65,7 +65,12 @@ fn range_of(model: &Model, tops: &[Option<u32>], instance: &Instance) -> Option<
     }
 }
 
-fn ranges_of(alloc: Global, model: &Model, tops: &[Option<u32>], instances: &[Instance]) -> Result<Vec<(u32, u32)>, NoMemory>
+fn ranges_of(
+    alloc: Global,
+    model: &Model,
+    tops: &[Option<u32>],
+    instances: &[Instance],
+) -> Result<Vec<(u32, u32)>, NoMemory>
     requires { tops.now ≡ map top_of model.now.components }
     ensures { IfOk result (λ ranges. map ends_of ranges.items ≡ filter_map (range_of model.now) instances.now) }
 {
@@ -101,7 +106,11 @@ fn begins_within(base: u32, last: Option<u64>) -> bool
 }
 
 /// Whether no two instances have one id.
-pub fn ranges_are_apart(alloc: Global, model: &Model, tops: &[Option<u32>]) -> Result<bool, NoMemory>
+pub fn ranges_are_apart(
+    alloc: Global,
+    model: &Model,
+    tops: &[Option<u32>],
+) -> Result<bool, NoMemory>
     requires { tops.now ≡ map top_of model.now.components }
     ensures { IfOk result (λ apart. apart ≡ ranges_are_apart model.now) }
 {

@@ -85,7 +85,10 @@ fn begins_where(held: bool, node: &Node) -> bool
     ensures { result ≡ begins_where held node.now }
 {
     match node {
-        Node::State { initial: Some(_), .. } => held,
+        Node::State {
+            initial: Some(_),
+            ..
+        } => held,
         Node::State { initial: None, .. } => !held,
         Node::Choice { .. } => true,
     }

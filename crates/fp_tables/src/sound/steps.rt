@@ -10,7 +10,7 @@ ghost use Rattle.fp_tables.specs.declared.machine.Step.{Step};
 
 use crate::kind::{Kind, TypeDef};
 use crate::machine::{Machine, Node, On, Step, Vertex};
-use crate::sound::choices::{found_behind, Behind};
+use crate::sound::choices::{Behind, found_behind};
 use crate::sound::states::is_inside;
 use crate::sound::wanted::{meets, wanted_by_actions, wanted_by_guard};
 
@@ -25,7 +25,12 @@ fn span_is_inside(vertices: &[Vertex], state: usize, states: Option<(usize, usiz
     }
 }
 
-fn initial_stays_inside(vertices: &[Vertex], found: &[Option<Behind>], state: usize, initial: &Option<Step>) -> bool
+fn initial_stays_inside(
+    vertices: &[Vertex],
+    found: &[Option<Behind>],
+    state: usize,
+    initial: &Option<Step>,
+) -> bool
     requires ordered { are_in_preorder vertices.now ≡ true }
     requires states { FindsStates vertices.now found.now }
     ensures { result ≡ if_some (λ (step : Step). list_all (λ vertex. is_inside vertices.now (length vertices.now) vertex state) (reached vertices.now (suc (length vertices.now)) step.target)) initial.now }
@@ -64,13 +69,23 @@ pub fn initials_stay_inside(vertices: &[Vertex], found: &[Option<Behind>]) -> bo
     true
 }
 
-fn actions_are_given(types: &[TypeDef], machine: &Machine, given: Option<Kind>, actions: &[u32]) -> bool
+fn actions_are_given(
+    types: &[TypeDef],
+    machine: &Machine,
+    given: Option<Kind>,
+    actions: &[u32],
+) -> bool
     ensures { result ≡ actions_are_given types.now machine.now given actions.now }
 {
     meets(types, given, wanted_by_actions(types, machine, actions))
 }
 
-fn guard_is_given(types: &[TypeDef], machine: &Machine, given: Option<Kind>, guard: Option<u32>) -> bool
+fn guard_is_given(
+    types: &[TypeDef],
+    machine: &Machine,
+    given: Option<Kind>,
+    guard: Option<u32>,
+) -> bool
     ensures { result ≡ if_some (guard_is_given types.now machine.now given) guard }
 {
     match guard {
@@ -79,7 +94,13 @@ fn guard_is_given(types: &[TypeDef], machine: &Machine, given: Option<Kind>, gua
     }
 }
 
-fn step_is_given(types: &[TypeDef], machine: &Machine, found: &[Option<Behind>], given: Option<Kind>, step: &Step) -> bool
+fn step_is_given(
+    types: &[TypeDef],
+    machine: &Machine,
+    found: &[Option<Behind>],
+    given: Option<Kind>,
+    step: &Step,
+) -> bool
     requires { FindsWanted types.now machine.now found.now }
     ensures { result ≡ step_is_given types.now machine.now given step.now }
 {
@@ -88,7 +109,12 @@ fn step_is_given(types: &[TypeDef], machine: &Machine, found: &[Option<Behind>],
         && meets(types, given, behind.wanted)
 }
 
-fn initial_is_given(types: &[TypeDef], machine: &Machine, found: &[Option<Behind>], initial: &Option<Step>) -> bool
+fn initial_is_given(
+    types: &[TypeDef],
+    machine: &Machine,
+    found: &[Option<Behind>],
+    initial: &Option<Step>,
+) -> bool
     requires { FindsWanted types.now machine.now found.now }
     ensures { result ≡ if_some (step_is_given types.now machine.now None) initial.now }
 {
@@ -117,7 +143,12 @@ fn on_is_given(types: &[TypeDef], machine: &Machine, found: &[Option<Behind>], o
         && step_is_given(types, machine, found, given, &on.step)
 }
 
-fn transitions_are_given(types: &[TypeDef], machine: &Machine, found: &[Option<Behind>], transitions: &[On]) -> bool
+fn transitions_are_given(
+    types: &[TypeDef],
+    machine: &Machine,
+    found: &[Option<Behind>],
+    transitions: &[On],
+) -> bool
     requires { FindsWanted types.now machine.now found.now }
     ensures { result ≡ list_all (on_is_given types.now machine.now) transitions.now }
 {
@@ -129,12 +160,22 @@ fn transitions_are_given(types: &[TypeDef], machine: &Machine, found: &[Option<B
     true
 }
 
-fn vertex_is_given(types: &[TypeDef], machine: &Machine, found: &[Option<Behind>], vertex: &Vertex) -> bool
+fn vertex_is_given(
+    types: &[TypeDef],
+    machine: &Machine,
+    found: &[Option<Behind>],
+    vertex: &Vertex,
+) -> bool
     requires { FindsWanted types.now machine.now found.now }
     ensures { result ≡ vertex_is_given types.now machine.now vertex.now }
 {
     match &vertex.node {
-        Node::State { initial, entry, exit, on } => {
+        Node::State {
+            initial,
+            entry,
+            exit,
+            on,
+        } => {
             initial_is_given(types, machine, found, initial)
                 && actions_are_given(types, machine, None, entry.as_slice())
                 && actions_are_given(types, machine, None, exit.as_slice())
@@ -144,7 +185,12 @@ fn vertex_is_given(types: &[TypeDef], machine: &Machine, found: &[Option<Behind>
     }
 }
 
-fn vertices_are_given(types: &[TypeDef], machine: &Machine, found: &[Option<Behind>], vertices: &[Vertex]) -> bool
+fn vertices_are_given(
+    types: &[TypeDef],
+    machine: &Machine,
+    found: &[Option<Behind>],
+    vertices: &[Vertex],
+) -> bool
     requires { FindsWanted types.now machine.now found.now }
     ensures { result ≡ list_all (vertex_is_given types.now machine.now) vertices.now }
 {

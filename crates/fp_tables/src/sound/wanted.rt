@@ -89,7 +89,12 @@ fn wanted_by(types: &[TypeDef], named: Option<&Named>) -> Wanted
     ensures { result ≡ wanted_by types.now (option_copied named.entry) }
 {
     match named {
-        Some(Named { kind: Some(kind), .. }) => Wanted::One(target(types, kind)),
+        Some(
+            Named {
+                kind: Some(kind),
+                ..
+            },
+        ) => Wanted::One(target(types, kind)),
         Some(Named { kind: None, .. }) => Wanted::Nothing,
         None => Wanted::Never,
     }

@@ -1,6 +1,6 @@
-use Rattle.std.proofs.Common.{◌≡◌, ◌&&◌, Bool, true, false, IsTrue, refl}
+use Rattle.std.proofs.Common.{◌&&◌, Bool, true, false, IsTrue, refl}
 use Rattle.fp_tables.specs.SoundParts.{HasSoundParts}
-use Rattle.fp_tables.specs.SoundStructure.{HasSoundStructure, IsSoundBeside}
+use Rattle.fp_tables.specs.SoundStructure.{HasSoundStructure}
 use Rattle.fp_tables.proofs.Structured.{joined_sound, sound_parts, sound_structure, sound_for, sound_model, sound_beside}
 use Rattle.fp_tables.proofs.model.Model.is_sound.Goals as goal
 

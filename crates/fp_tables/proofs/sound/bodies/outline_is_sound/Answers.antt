@@ -1,7 +1,6 @@
-use Rattle.std.proofs.Common.{[], ◌∷◌, ap, ◌∙◌, List}
+use Rattle.std.proofs.Common.{[], ◌∷◌, ap, ◌∙◌}
 use Rattle.fp_tables.specs.Machines.{siblings_differ}
 use Rattle.fp_tables.specs.Positions.{are_in_preorder}
-use Rattle.fp_tables.specs.declared.machine.Vertex.{Vertex}
 use Rattle.fp_tables.proofs.Joined.{same_first, none, results}
 use Rattle.fp_tables.proofs.sound.bodies.outline_is_sound.Goals as goal
 

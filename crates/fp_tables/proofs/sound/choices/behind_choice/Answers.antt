@@ -11,9 +11,9 @@ around-requires c =
     let found = c.args.found.now in
     let is : x.field-0.now.node ≡ node.Choice x.guard x.yes x.no = cc in
     let k =
-        has_branches c.args.types.now c.args.machine.now found c.args.choice x.guard x.yes x.no c.found_behind-met.result c.found_behind-unmet.result x.field-0.now c.requires.known x.ensures.value is
-        c.requires.closed (c.found_behind-met.ensures ∙ ap (λ vs. found_behind vs found x.yes.target) c.as_slice-vertices.ensures)
-        (c.found_behind-unmet.ensures ∙ ap (λ vs. found_behind vs found x.no.target) c.as_slice-vertices.ensures)
+    has_branches c.args.types.now c.args.machine.now found c.args.choice x.guard x.yes x.no c.found_behind-met.result c.found_behind-unmet.result x.field-0.now c.requires.known x.ensures.value is
+    c.requires.closed (c.found_behind-met.ensures ∙ ap (λ vs. found_behind vs found x.yes.target) c.as_slice-vertices.ensures)
+    (c.found_behind-unmet.ensures ∙ ap (λ vs. found_behind vs found x.no.target) c.as_slice-vertices.ensures)
     in
     let within = count_within found in
     omega (arith, k.left_bound, k.right_bound, within, c.requires.known.one_each, c.requires.known.few)
@@ -26,9 +26,9 @@ returns-in-Some-Choice-clause-behind c =
     let r = c.found_behind-unmet.result in
     let is : x.field-0.now.node ≡ node.Choice x.guard x.yes x.no = cc in
     let k =
-        has_branches c.args.types.now c.args.machine.now found c.args.choice x.guard x.yes x.no l r x.field-0.now c.requires.known x.ensures.value is c.requires.closed
-        (c.found_behind-met.ensures ∙ ap (λ vs. found_behind vs found x.yes.target) c.as_slice-vertices.ensures)
-        (c.found_behind-unmet.ensures ∙ ap (λ vs. found_behind vs found x.no.target) c.as_slice-vertices.ensures)
+    has_branches c.args.types.now c.args.machine.now found c.args.choice x.guard x.yes x.no l r x.field-0.now c.requires.known x.ensures.value is c.requires.closed
+    (c.found_behind-met.ensures ∙ ap (λ vs. found_behind vs found x.yes.target) c.as_slice-vertices.ensures)
+    (c.found_behind-unmet.ensures ∙ ap (λ vs. found_behind vs found x.no.target) c.as_slice-vertices.ensures)
     in
     choice_behind c.args.types.now c.args.machine.now c.args.choice x.guard x.yes x.no k.at l r c.around.result k.left k.right c.around.ensures.choices c.around.ensures.states c.around.ensures.wanted
 
@@ -38,8 +38,8 @@ returns-in-Some-Choice-clause-bounded c =
     let found = c.args.found.now in
     let is : x.field-0.now.node ≡ node.Choice x.guard x.yes x.no = cc in
     let k =
-        has_branches c.args.types.now c.args.machine.now found c.args.choice x.guard x.yes x.no c.found_behind-met.result c.found_behind-unmet.result x.field-0.now c.requires.known x.ensures.value is
-        c.requires.closed (c.found_behind-met.ensures ∙ ap (λ vs. found_behind vs found x.yes.target) c.as_slice-vertices.ensures)
-        (c.found_behind-unmet.ensures ∙ ap (λ vs. found_behind vs found x.no.target) c.as_slice-vertices.ensures)
+    has_branches c.args.types.now c.args.machine.now found c.args.choice x.guard x.yes x.no c.found_behind-met.result c.found_behind-unmet.result x.field-0.now c.requires.known x.ensures.value is
+    c.requires.closed (c.found_behind-met.ensures ∙ ap (λ vs. found_behind vs found x.yes.target) c.as_slice-vertices.ensures)
+    (c.found_behind-unmet.ensures ∙ ap (λ vs. found_behind vs found x.no.target) c.as_slice-vertices.ensures)
     in
     omega (arith, k.left_bound, k.right_bound, c.around.ensures.choices)

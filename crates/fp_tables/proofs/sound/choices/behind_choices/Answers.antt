@@ -1,4 +1,4 @@
-use Rattle.std.proofs.Common.{ℕ, length, ap, arith, List}
+use Rattle.std.proofs.Common.{length, ap, arith, List}
 use Rattle.fp_tables.specs.declared.machine.Vertex.{Vertex}
 use Rattle.fp_tables.proofs.Going.{all_closed, all_behind}
 use Rattle.fp_tables.proofs.sound.choices.behind_choices.Goals as goal

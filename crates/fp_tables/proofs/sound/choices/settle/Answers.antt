@@ -1,5 +1,5 @@
-use Rattle.std.proofs.Common.{◌≡◌, ℕ, Bool, true, suc, ◌+◌, ◌<◌, ◌≤◌, List, [], ◌∷◌, ◌++◌, length, length-append, length-set, set, Option, None, Some, refl, is_none, subst, sym, ap, ap₂, ◌∙◌, arith}
-use Rattle.fp_tables.specs.Behind.{found_at, found_count, choice_at, is_open, open_branch, IsPath, Begins}
+use Rattle.std.proofs.Common.{◌≡◌, ℕ, true, ◌+◌, ◌<◌, ◌≤◌, List, [], ◌∷◌, ◌++◌, length, length-append, length-set, set, Option, None, Some, refl, is_none, subst, sym, ap, ap₂, ◌∙◌, arith}
+use Rattle.fp_tables.specs.Behind.{found_at, found_count, choice_at, open_branch, IsPath, Begins}
 use Rattle.fp_tables.specs.declared.sound.choices.Behind.{Behind}
 use Rattle.fp_tables.specs.declared.machine.Vertex.{Vertex}
 use Rattle.fp_tables.proofs.Alls.{both}

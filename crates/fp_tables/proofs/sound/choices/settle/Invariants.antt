@@ -1,4 +1,4 @@
-use Rattle.std.proofs.Common.{◌≡◌, ℕ, suc, ◌+◌, ◌-◌, ◌*◌, ◌≤◌, true, length, is_some}
+use Rattle.std.proofs.Common.{◌≡◌, ℕ, ◌+◌, ◌-◌, ◌*◌, ◌≤◌, true, length, is_some}
 use Rattle.fp_tables.specs.Behind.{found_at, found_count, AreBehind, IsPath, Begins}
 use Rattle.fp_tables.proofs.sound.choices.settle.Given as goal
 

@@ -1,4 +1,4 @@
-use Rattle.std.proofs.Common.{◌∙◌, ap, sym, arith}
+use Rattle.std.proofs.Common.{◌∙◌, ap, sym}
 use Rattle.fp_tables.specs.Lists.{if_some}
 use Rattle.fp_tables.specs.Machines.{is_nested_by}
 use Rattle.fp_tables.proofs.Nesting.{nested_by_none, nested_step}

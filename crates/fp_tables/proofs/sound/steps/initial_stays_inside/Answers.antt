@@ -10,5 +10,5 @@ returns-in-Some c =
     let vs = c.args.vertices.now in
     let found = ap (λ (b : Behind). b.states) c.found_behind-behind.ensures ∙ sym (c.requires.states c.in-Some.step.target) in
     rw c.in-Some.is (
-      c.span_is_inside.ensures ∙ ap (span_is_inside vs c.args.state) found ∙ sym (span_in vs c.requires.ordered c.args.state (reached vs (suc (length vs)) c.in-Some.step.target))
+    c.span_is_inside.ensures ∙ ap (span_is_inside vs c.args.state) found ∙ sym (span_in vs c.requires.ordered c.args.state (reached vs (suc (length vs)) c.in-Some.step.target))
     )

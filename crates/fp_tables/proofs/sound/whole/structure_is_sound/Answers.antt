@@ -23,7 +23,7 @@ returns c =
     let m = c.args.model.now in
     let numbers = c.all_numbers_are_in_range-numbers.ensures ∙ ap (λ (xs : List Instance). list_all (numbers_are_in_range m) xs) (c.as_slice-4).ensures in
     let machines =
-        c.in_ok-machines.ensures ∙ ap₂ (λ (types : List TypeDef) (xs : List Machine). list_all (is_sound_machine types) xs) (c.as_slice-5).ensures (c.as_slice-6).ensures
+    c.in_ok-machines.ensures ∙ ap₂ (λ (types : List TypeDef) (xs : List Machine). list_all (is_sound_machine types) xs) (c.as_slice-5).ensures (c.as_slice-6).ensures
     in (
       λ h.
           let k = split _ _ _ _ h in
