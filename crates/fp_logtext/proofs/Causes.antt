@@ -1,5 +1,5 @@
 -- Which frames leave, are done, and read.
-use Rattle.std.proofs.Common.{◌≡◌, ℕ, ◌⊎◌, inl, inr, Bool, true, false, cond, List, [], ◌∷◌, Option, Some, None, option_map, unwrap_or, refl, sym, ap, ◌∙◌, subst}
+use Rattle.std.proofs.Common.{◌≡◌, ℕ, ◌⊎◌, inl, inr, Bool, true, false, cond, List, [], ◌∷◌, Option, Some, None, option_map, unwrap_or, refl, subst}
 use Rattle.fp_base.specs.declared.value.Value.{Value}
 use Rattle.fp_tables.specs.Lookup.{Described, wire_from}
 use Rattle.fp_tables.specs.declared.component.Special.TheVariants as special
@@ -10,11 +10,11 @@ use Rattle.fp_tables.specs.declared.program.Program.{Program}
 use Rattle.fp_tables.specs.declared.program.Verb.{Verb}
 use Rattle.fp_tables.specs.declared.program.Verb.TheVariants as verb
 use Rattle.fp_events.specs.Actor.{Bindings, Action, act, send, advance, Doing, Opened, own, arrived, taken, Frame, Thread}
-use Rattle.fp_events.specs.Due.{first_action, values, first_value, sent_from, along, at_port, asks_out, ends_with, through, asks_in, asks, due_in, due_of, due}
+use Rattle.fp_events.specs.Due.{first_action, values, first_value, sent_from, along, at_port, asks_out, ends_with, through, asks_in, due_in, due_of, due}
 use Rattle.fp_events.specs.Lookup.{special_wire, home}
 use Rattle.fp_events.specs.declared.event.Point.{Point}
-use Rattle.fp_events.specs.declared.event.Point.TheVariants.{Port, Command as OfCommand, Post, Signal}
-use Rattle.fp_events.specs.declared.event.Origin.TheVariants.{Caller, Own, Wire}
+use Rattle.fp_events.specs.declared.event.Point.TheVariants.{Command as OfCommand}
+use Rattle.fp_events.specs.declared.event.Origin.TheVariants.{Wire}
 use Rattle.fp_events.specs.declared.event.Ask.{Ask}
 use Rattle.fp_events.specs.declared.event.Ask.TheVariants as ask
 use Rattle.fp_events.proofs.StepLaws.{some_is}
@@ -74,7 +74,7 @@ module _ (t : Described) (program : Program) where
 
   in_caused : (o : Opened) (i : ℕ) (b : Bindings) (v : Verb) (subject : End) (name : ℕ) (with : List Arg) (given : Option (List ℕ))
       → CauseDue o i (Some (act (record { verb = v; subject = subject; name = name; with = with; bind = given }), b))
-          (asks_in t program o i (record { verb = v; subject = subject; name = name; with = with; bind = given }) (values b with) v)
+      (asks_in t program o i (record { verb = v; subject = subject; name = name; with = with; bind = given }) (values b with) v)
   in_caused o i b verb.Call subject name with given = along_caused o i _ (record { instance = i; port = subject.port; number = subject.number }) (at_port t program) (values b with)
   in_caused o i b verb.Command subject name with given = along_caused o i _ (record { instance = i; port = subject.port; number = subject.number }) (λ to. OfCommand name) (values b with)
   in_caused o i b verb.Respond subject name with given = sent_caused o i _ (special_wire t i special.CmdResp) (unwrap_or given [])

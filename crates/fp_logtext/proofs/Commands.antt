@@ -1,10 +1,9 @@
 -- The points of sets and saves are set and save commands.
-use Rattle.std.proofs.Common.{◌≡◌, ℕ, Bool, true, false, ◌&&◌, List, [], ◌∷◌, length, map, Option, Some, None, option_map, option_and_then, is_some, refl, sym, ap, ◌∙◌, subst, slice_get, nat_lt}
-use Rattle.std.specs.List.{list_all}
+use Rattle.std.proofs.Common.{◌≡◌, ℕ, true, length, Option, Some, None, option_map, is_some, refl, sym, ap, ◌∙◌, subst, slice_get, nat_lt}
 use Rattle.fp_tables.proofs.Alls.{both, all_get}
 use Rattle.fp_tables.specs.Components.{set_parameter, saved_parameter}
 use Rattle.fp_tables.specs.Lookup.{Described, component_of}
-use Rattle.fp_tables.specs.Positions.{command_lies, formals_lie, part_lies}
+use Rattle.fp_tables.specs.Positions.{command_lies, part_lies}
 use Rattle.fp_tables.specs.Sound.{IsSound}
 use Rattle.fp_tables.specs.declared.component.Command.{Command}
 use Rattle.fp_tables.specs.declared.component.Component.{Component}
@@ -17,7 +16,6 @@ use Rattle.fp_tables.specs.declared.component.Role.{Role}
 use Rattle.fp_tables.specs.declared.component.Role.TheVariants as role
 use Rattle.fp_tables.specs.declared.component.Way.{Way}
 use Rattle.fp_tables.specs.declared.component.Way.TheVariants.{Later, Sync, Guarded}
-use Rattle.fp_tables.specs.declared.program.Program.{Program}
 use Rattle.fp_events.specs.Answers.{arrival_in, suits, same_arrival, answers}
 use Rattle.fp_base.specs.Same.{same_option}
 use Rattle.fp_events.specs.Lookup.{component}

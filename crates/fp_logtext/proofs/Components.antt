@@ -1,23 +1,13 @@
 -- The parts of an instance, and what is sound of them.
-use Rattle.std.proofs.Common.{◌≡◌, ℕ, Bool, true, false, ◌&&◌, List, [], ◌∷◌, length, Option, Some, None, option_map, option_and_then, is_some, unwrap_or, refl, sym, ap, ◌∙◌, subst, slice_get, nat_lt}
+use Rattle.std.proofs.Common.{◌≡◌, ℕ, Bool, true, [], length, Option, Some, None, option_map, option_and_then, is_some, unwrap_or, refl, ap, slice_get, nat_lt}
 use Rattle.std.specs.List.{list_all}
 use Rattle.fp_tables.proofs.Alls.{both, all_get}
 use Rattle.fp_tables.specs.Components as components
 use Rattle.fp_tables.specs.Lookup.{Described, component_of, placed}
-use Rattle.fp_tables.specs.Names.{is_name}
-use Rattle.fp_tables.specs.Positions.{positions_lie, component_lies, port_lies, command_lies, event_lies, channel_lies, formals_lie, kind_lies, part_lies, numbers_lie, topology_lies, link_lies, wire_lies, form_lies, port_def_lies, machine_lies}
-use Rattle.fp_tables.specs.Sound.{IsSound, IsSoundAt, IsSoundFor, component_has_names, form_has_names, formals_have_names, machine_has_names}
-use Rattle.fp_tables.specs.declared.component.Port.{Port}
-use Rattle.fp_tables.specs.declared.component.Command.{Command}
+use Rattle.fp_tables.specs.Positions.{component_lies, command_lies, topology_lies}
+use Rattle.fp_tables.specs.Sound.{IsSound, IsSoundAt, IsSoundFor, component_has_names}
 use Rattle.fp_tables.specs.declared.component.Component.{Component}
-use Rattle.fp_tables.specs.declared.component.Event.{Event}
-use Rattle.fp_tables.specs.declared.component.Channel.{Channel}
-use Rattle.fp_tables.specs.declared.component.Param.{Param}
 use Rattle.fp_tables.specs.declared.component.Running.{Running}
-use Rattle.fp_tables.specs.declared.component.Part.{Part}
-use Rattle.fp_tables.specs.declared.machine.Machine.{Machine}
-use Rattle.fp_tables.specs.declared.kind.TypeDef.{TypeDef}
-use Rattle.fp_tables.specs.declared.kind.PortDef.{PortDef}
 use Rattle.fp_tables.specs.declared.topology.Instance.{Instance}
 use Rattle.fp_tables.specs.declared.topology.Topology.{Topology}
 use Rattle.fp_tables.specs.declared.model.Model.{Model}

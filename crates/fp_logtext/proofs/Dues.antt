@@ -1,11 +1,11 @@
 -- What is due of an actor whose frames are good.
-use Rattle.std.proofs.Common.{◌≡◌, ℕ, zero, suc, arith, Bool, true, false, cond, not, ◌&&◌, List, [], ◌∷◌, get_or, Option, Some, None, option_map, option_and_then, unwrap_or, is_some, refl, sym, ap, ◌∙◌, subst, slice_get, ◌<◌, length}
-use Rattle.std.specs.List.{list_all, position}
+use Rattle.std.proofs.Common.{◌≡◌, ℕ, zero, suc, arith, Bool, true, false, cond, not, List, [], ◌∷◌, Option, Some, None, option_map, unwrap_or, refl, sym, ap, ◌∙◌, subst, slice_get, ◌<◌, length}
+use Rattle.std.specs.List.{position}
 use Rattle.std.proofs.lemmas.List.Quantifiers.{position-Some}
 use Rattle.fp_base.specs.declared.value.Value.{Value}
 use Rattle.fp_tables.proofs.Alls.{both}
 use Rattle.fp_tables.specs.Lists.{some_and}
-use Rattle.fp_tables.specs.Lookup.{Described, component_of, wire_from}
+use Rattle.fp_tables.specs.Lookup.{Described, wire_from}
 use Rattle.fp_tables.specs.Names.{is_name}
 use Rattle.fp_tables.specs.Positions.{port_of}
 use Rattle.fp_tables.specs.declared.component.Port.{Port as PortOf}
@@ -20,19 +20,18 @@ use Rattle.fp_tables.specs.declared.program.Program.{Program}
 use Rattle.fp_tables.specs.declared.program.Verb.{Verb}
 use Rattle.fp_tables.specs.declared.program.Verb.TheVariants as verb
 use Rattle.fp_events.specs.Actor.{Bindings, Action, act, send, advance, Doing, Opened, own, arrived, taken, Frame, Thread}
-use Rattle.fp_events.specs.Due.{first_action, values, sent_from, along, at_port, asks_out, ends_with, through, asks_in, asks, due_in, due_of, due}
+use Rattle.fp_events.specs.Due.{first_action, values, sent_from, along, at_port, asks_out, ends_with, through, asks_in, due_in, due_of, due}
 use Rattle.fp_events.specs.Ends.{is_own}
-use Rattle.fp_events.specs.Lookup.{component, special_wire, is_special as is_special_of, same_special, home}
+use Rattle.fp_events.specs.Lookup.{component, special_wire, is_special as is_special_of, home}
 use Rattle.fp_events.specs.declared.event.Point.{Point}
-use Rattle.fp_events.specs.declared.event.Point.TheVariants.{Port, Command as OfCommand, Post, Signal}
-use Rattle.fp_events.specs.declared.event.Origin.{Origin}
-use Rattle.fp_events.specs.declared.event.Origin.TheVariants.{Caller, Own, Wire}
+use Rattle.fp_events.specs.declared.event.Point.TheVariants.{Command as OfCommand}
+use Rattle.fp_events.specs.declared.event.Origin.TheVariants.{Wire}
 use Rattle.fp_events.specs.declared.event.Arrival.{Arrival}
 use Rattle.fp_events.specs.declared.event.Ask.{Ask}
 use Rattle.fp_events.specs.declared.event.Ask.TheVariants as ask
 use Rattle.fp_events.proofs.StepLaws.{mapped_some, then_some, some_is}
 use Rattle.fp_logtext.specs.Fitting.{is_special, is_special_end, note_fits}
-use Rattle.fp_logtext.proofs.Lists.{join_true, slice_get-get_or, some_of}
+use Rattle.fp_logtext.proofs.Lists.{join_true, slice_get-get_or}
 use Rattle.fp_logtext.proofs.Components.{port_in}
 use Rattle.fp_logtext.proofs.Frames.{act_is_good, action_is_good, frame_is_good, frames_are_good, first_passes}
 

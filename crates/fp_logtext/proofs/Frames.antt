@@ -1,13 +1,12 @@
 -- What the actions that are left in an actor's frames can ask.
-use Rattle.std.proofs.Common.{◌≡◌, ℕ, Bool, true, false, cond, not, ◌&&◌, ◌==◌, List, [], ◌∷◌, ◌++◌, length, map, get_or, filter, find, flat_map, zip, Option, Some, None, option_map, option_and_then, unwrap_or, is_some, is_none, refl, sym, ap, ◌∙◌, subst, slice_get, arith, codes}
+use Rattle.std.proofs.Common.{◌≡◌, ℕ, Bool, true, false, not, ◌&&◌, ◌==◌, List, [], ◌∷◌, ◌++◌, find, Option, Some, None, option_map, unwrap_or, refl, sym, ap, ◌∙◌, subst}
 use Rattle.std.specs.List.{list_all}
-use Rattle.std.proofs.lemmas.List.Folds.{list_all-append, list_all-map}
-use Rattle.std.proofs.lemmas.List.Quantifiers.{position-Some}
+use Rattle.std.proofs.lemmas.List.Folds.{list_all-append}
 use Rattle.fp_base.specs.declared.value.Value.{Value}
 use Rattle.fp_base.proofs.Sameness.{nat_same}
-use Rattle.fp_tables.proofs.Alls.{both, all_get}
+use Rattle.fp_tables.proofs.Alls.{both}
 use Rattle.fp_tables.specs.Lists.{some_and}
-use Rattle.fp_tables.specs.Lookup.{Described, component_of}
+use Rattle.fp_tables.specs.Lookup.{Described}
 use Rattle.fp_tables.specs.Names.{is_name}
 use Rattle.fp_tables.specs.Positions.{port_of}
 use Rattle.fp_tables.specs.Programs as programs
@@ -15,7 +14,6 @@ use Rattle.fp_tables.specs.SoundPrograms.{IsSoundProgram}
 use Rattle.fp_tables.specs.declared.component.Port.{Port as PortOf}
 use Rattle.fp_tables.specs.declared.component.Role.{Role}
 use Rattle.fp_tables.specs.declared.component.Role.TheVariants as role
-use Rattle.fp_tables.specs.declared.component.Special.{Special}
 use Rattle.fp_tables.specs.declared.topology.End.{End}
 use Rattle.fp_tables.specs.declared.program.Act.{Act}
 use Rattle.fp_tables.specs.declared.program.Arg.{Arg}
@@ -24,14 +22,14 @@ use Rattle.fp_tables.specs.declared.program.Program.{Program}
 use Rattle.fp_tables.specs.declared.program.Spot.{Spot}
 use Rattle.fp_tables.specs.declared.program.Verb.{Verb}
 use Rattle.fp_tables.specs.declared.program.Verb.TheVariants as verb
-use Rattle.fp_events.specs.Actor.{Bindings, Action, act, send, advance, Doing, Opened, own, arrived, taken, Frame}
-use Rattle.fp_events.specs.Follows.{without_first, without_first_in, bind, in_frame}
+use Rattle.fp_events.specs.Actor.{Bindings, Action, act, send, advance, Doing, Frame}
+use Rattle.fp_events.specs.Follows.{without_first, without_first_in, bind}
 use Rattle.fp_events.specs.Ends.{is_own}
 use Rattle.fp_events.specs.Due.{first_action, first_in}
 use Rattle.fp_events.specs.Lookup.{handler, same_spot}
 use Rattle.fp_events.proofs.StepLaws.{some_is}
 use Rattle.fp_logtext.specs.Fitting.{is_special, is_special_end}
-use Rattle.fp_logtext.proofs.Lists.{join_true, find_passes, some_and_of, all_implied}
+use Rattle.fp_logtext.proofs.Lists.{join_true, find_passes, some_and_of}
 
 module _ (t : Described) where
   -- of a handler's actions those along a wire begin at a general port, and a response has a name

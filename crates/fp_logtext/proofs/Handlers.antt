@@ -1,10 +1,9 @@
 -- What a frame that opens does.
-use Rattle.std.proofs.Common.{◌≡◌, ℕ, ◌⊎◌, inl, inr, Bool, true, false, cond, ◌&&◌, ◌||◌, ◌==◌, List, [], ◌∷◌, ◌++◌, map, zip, find, Option, Some, None, option_map, option_and_then, unwrap_or, refl, sym, ap, ◌∙◌, subst, slice_get, nat_lt}
+use Rattle.std.proofs.Common.{◌≡◌, ℕ, ◌⊎◌, inl, inr, Bool, true, false, cond, ◌&&◌, ◌||◌, ◌==◌, List, [], ◌∷◌, ◌++◌, map, zip, find, Option, Some, None, option_map, unwrap_or, refl, sym, ap, ◌∙◌, subst, nat_lt}
 use Rattle.std.specs.List.{list_all}
 use Rattle.fp_base.specs.declared.value.Value.{Value}
 use Rattle.fp_base.proofs.Sameness.{nat_same}
 use Rattle.fp_tables.proofs.Alls.{both}
-use Rattle.fp_tables.specs.Lists.{some_and}
 use Rattle.fp_tables.specs.Lookup.{Described}
 use Rattle.fp_tables.specs.Positions.{port_of}
 use Rattle.fp_tables.specs.Programs as programs
@@ -21,12 +20,12 @@ use Rattle.fp_tables.specs.declared.program.Spot.TheVariants as spot
 use Rattle.fp_events.specs.Actor.{Bindings, act, Doing}
 use Rattle.fp_events.specs.Fits.{kinds, port_at, place_kinds}
 use Rattle.fp_events.specs.Follows.{handling, performed}
-use Rattle.fp_events.specs.Lookup.{component, names, handler, same_spot}
+use Rattle.fp_events.specs.Lookup.{names, handler, same_spot}
 use Rattle.fp_events.specs.declared.event.Point.{Point}
 use Rattle.fp_events.specs.declared.event.Point.TheVariants.{Port, Command as OfCommand, Post, Signal}
 use Rattle.fp_events.proofs.StepLaws.{then_some, some_is}
 use Rattle.fp_logtext.specs.Fitting.{suit_point, result_of_point}
-use Rattle.fp_logtext.proofs.Lists.{join_true, find_passes, some_and_of}
+use Rattle.fp_logtext.proofs.Lists.{find_passes, some_and_of}
 use Rattle.fp_logtext.proofs.Components.{port_in}
 use Rattle.fp_logtext.proofs.Typed.{returns_nothing, Match, DoingTyped, DoingsTyped, acts_typed, acts_silent}
 
@@ -59,7 +58,7 @@ module _ (t : Described) (program : Program) (good : IsSoundProgram t program) w
             s.0,
             ap (λ (n : ℕ). programs.bound_at t n place) (sym at) ∙ ap (programs.bound_at t h.instance) (sym here) ∙ s.1,
             ap (λ (l : List Act). programs.acts_suit t i place s.0 l) acts ∙ ap (λ (n : ℕ). programs.acts_suit t n place s.0 h.acts) (sym at)
-            ∙ ap (λ (q : Spot). programs.acts_suit t h.instance q s.0 h.acts) (sym here) ∙ s.2,
+                ∙ ap (λ (q : Spot). programs.acts_suit t h.instance q s.0 h.acts) (sym here) ∙ s.2,
           )
 
   -- at a place without a result
@@ -92,7 +91,7 @@ module _ (t : Described) (program : Program) (good : IsSoundProgram t program) w
       let fits : have_kinds t.model.types (kinds t program q.0.formals) vs ≡ true = ap (λ (js : List Kind). have_kinds t.model.types js vs) of_kinds ∙ ks.2 in
       let matches : Match t (zip (names q.0.formals) vs) (programs.formals_bound q.0.formals) = formals_match q.0.formals vs fits in
       let at : Match t (handling t program i (Port n number) vs).bound (programs.formals_bound q.0.formals) =
-          subst (λ (o : Option PortOf). Match t (zip (unwrap_or (option_map (λ (p : PortOf). names p.formals) o) []) vs) (programs.formals_bound q.0.formals)) (sym q.1) matches in
+      subst (λ (o : Option PortOf). Match t (zip (unwrap_or (option_map (λ (p : PortOf). names p.formals) o) []) vs) (programs.formals_bound q.0.formals)) (sym q.1) matches in
       subst (λ (k : programs.Bindings). Match t (handling t program i (Port n number) vs).bound k) (ap (λ (p : PortOf). programs.formals_bound p.formals) same ∙ bound) at
 
   -- a place that isn't an internal port

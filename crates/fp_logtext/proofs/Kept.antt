@@ -1,7 +1,7 @@
 -- Entries leave frames good that are.
-use Rattle.std.proofs.Common.{◌≡◌, ℕ, Bool, true, false, cond, not, ◌&&◌, List, [], ◌∷◌, ◌++◌, map, Option, Some, None, option_map, option_and_then, unwrap_or, is_some, refl, sym, ap, ◌∙◌, subst, slice_get, flat_map}
+use Rattle.std.proofs.Common.{◌≡◌, ℕ, Bool, true, false, cond, List, [], ◌∷◌, ◌++◌, map, Option, Some, None, option_map, option_and_then, unwrap_or, is_some, refl, sym, ap, ◌∙◌, subst, slice_get}
 use Rattle.std.specs.List.{list_all}
-use Rattle.std.proofs.lemmas.List.Folds.{list_all-append, list_all-map}
+use Rattle.std.proofs.lemmas.List.Folds.{list_all-map}
 use Rattle.fp_base.specs.declared.value.Value.{Value}
 use Rattle.fp_tables.proofs.Alls.{both, all_get}
 use Rattle.fp_tables.specs.Lookup.{Described, component_of}
@@ -13,7 +13,6 @@ use Rattle.fp_tables.specs.declared.component.Command.{Command}
 use Rattle.fp_tables.specs.declared.component.Component.{Component}
 use Rattle.fp_tables.specs.declared.component.Event.{Event}
 use Rattle.fp_tables.specs.declared.component.Param.{Param}
-use Rattle.fp_tables.specs.declared.component.Part.{Part}
 use Rattle.fp_tables.specs.declared.component.Part.TheVariants as part
 use Rattle.fp_tables.specs.declared.component.Special.{Special}
 use Rattle.fp_tables.specs.declared.component.Special.TheVariants as special
@@ -22,11 +21,11 @@ use Rattle.fp_tables.specs.declared.program.Caller.{Caller}
 use Rattle.fp_tables.specs.declared.program.Program.{Program}
 use Rattle.fp_tables.specs.declared.program.Spot.{Spot}
 use Rattle.fp_tables.specs.declared.program.Spot.TheVariants as spot
-use Rattle.fp_events.specs.Actor.{Bindings, Action, act, send, advance, Doing, Opened, own, arrived, taken, Frame, Thread, first_frames, opened_actor}
-use Rattle.fp_events.specs.Due.{first_action, ends_with, through, sent_from, along, asks_out, asks_in, asks, due_in, due_of, due}
+use Rattle.fp_events.specs.Actor.{Action, act, send, Doing, Opened, arrived, Frame, Thread, opened_actor}
+use Rattle.fp_events.specs.Due.{first_action}
 use Rattle.fp_events.specs.Ends.{is_own}
 use Rattle.fp_events.specs.Fits.{what_fits, saved_kind, value_fits, arrival_fits}
-use Rattle.fp_events.specs.Follows.{without_first, bind, in_frame, doing, replaced, removed, bound_below, closed, name_for, value_in, ok_note, acts_at, handling, returned, opened, sends, parameter_of, parameter_name, performed, sent_as, bound_name, framed, follows}
+use Rattle.fp_events.specs.Follows.{without_first, bind, in_frame, replaced, removed, bound_below, closed, value_in, ok_note, acts_at, handling, returned, opened, sends, parameter_of, parameter_name, performed, sent_as, bound_name, follows}
 use Rattle.fp_events.specs.Lookup.{component, special_wire, handler}
 use Rattle.fp_events.specs.Manners.{Manner, by, sets, saves, manner}
 use Rattle.fp_events.proofs.StepLaws.{then_some}
@@ -39,9 +38,9 @@ use Rattle.fp_events.specs.declared.event.What.{What}
 use Rattle.fp_events.specs.declared.event.What.TheVariants as what
 use Rattle.fp_logtext.proofs.Lists.{join_true, some_of}
 use Rattle.fp_logtext.proofs.Components.{command_in, event_in, channel_in, param_in, names_at}
-use Rattle.fp_logtext.proofs.Commands.{Implied, implied, of_save, saves_part}
+use Rattle.fp_logtext.proofs.Commands.{implied, of_save, saves_part}
 use Rattle.fp_logtext.proofs.AtHome.{InnermostAt}
-use Rattle.fp_logtext.proofs.Frames.{act_is_good, action_is_good, frame_is_good, frames_are_good, handler_good, without_first_passes, bind_passes, more_pass}
+use Rattle.fp_logtext.proofs.Frames.{action_is_good, frame_is_good, frames_are_good, handler_good, without_first_passes, bind_passes, more_pass}
 
 module _ (t : Described) (program : Program) (sound : IsSound t.model) (good : IsSoundProgram t program) where
   acts_good : (i : ℕ) (place : Spot) → list_all (action_is_good t false i) (acts_at t program i place) ≡ true

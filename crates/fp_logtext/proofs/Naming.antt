@@ -1,12 +1,12 @@
 -- Where an entry fits, its positions name something and its values have the kinds of their places.
-use Rattle.std.proofs.Common.{◌≡◌, ℕ, Bool, true, false, cond, ◌&&◌, List, [], ◌∷◌, length, map, Option, Some, None, option_map, option_and_then, unwrap_or, is_some, refl, sym, ap, ◌∙◌, subst, slice_get, nat_lt}
+use Rattle.std.proofs.Common.{◌≡◌, ℕ, Bool, true, false, cond, List, length, Option, Some, None, option_map, option_and_then, unwrap_or, is_some, refl, sym, ap, ◌∙◌, slice_get, nat_lt}
 use Rattle.std.specs.List.{list_all}
 use Rattle.fp_base.specs.declared.value.Value.{Value}
-use Rattle.fp_tables.proofs.Alls.{both, all_get}
+use Rattle.fp_tables.proofs.Alls.{both}
 use Rattle.fp_tables.specs.Lists.{some_and}
-use Rattle.fp_tables.specs.Lookup.{Described, component_of}
+use Rattle.fp_tables.specs.Lookup.{Described}
 use Rattle.fp_tables.specs.Positions.{port_of}
-use Rattle.fp_tables.specs.Types.{has_kind, have_kinds}
+use Rattle.fp_tables.specs.Types.{have_kinds}
 use Rattle.fp_tables.specs.declared.kind.Kind.{Kind}
 use Rattle.fp_tables.specs.declared.component.Channel.{Channel}
 use Rattle.fp_tables.specs.declared.component.Command.{Command}
@@ -25,9 +25,9 @@ use Rattle.fp_events.specs.declared.event.Origin.TheVariants.{Caller, Own, Wire}
 use Rattle.fp_events.specs.declared.event.Arrival.{Arrival}
 use Rattle.fp_events.specs.declared.event.What.{What}
 use Rattle.fp_events.specs.declared.event.What.TheVariants as what
-use Rattle.fp_events.proofs.StepLaws.{mapped_some, then_some, some_is}
-use Rattle.fp_logtext.specs.Names.{action_of, vertex_of, signal_of, machine_at, signal_name, port_name, command_name}
-use Rattle.fp_logtext.specs.Named.{port_is_named, point_is_named, origin_is_named, arrival_is_named, going_is_named, what_is_named}
+use Rattle.fp_events.proofs.StepLaws.{mapped_some, then_some}
+use Rattle.fp_logtext.specs.Names.{action_of, vertex_of, signal_of, machine_at, signal_name}
+use Rattle.fp_logtext.specs.Named.{point_is_named, origin_is_named, arrival_is_named, going_is_named, what_is_named}
 use Rattle.fp_logtext.specs.Fitting.{is_of, suit_point, values_fit}
 use Rattle.fp_logtext.proofs.Lists.{join_true, get_below, some_of, some_and_of, all_implied, mapped_test, some_mapped, some_and_at}
 use Rattle.fp_logtext.proofs.Components.{port_in, command_in, event_in, channel_in, param_in, machine_in}

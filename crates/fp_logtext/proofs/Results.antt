@@ -1,54 +1,44 @@
 -- What the places of a sound model return, and what their handlers do.
-use Rattle.std.proofs.Common.{◌≡◌, ℕ, zero, suc, ◌⊎◌, inl, inr, Bool, true, false, cond, not, ◌&&◌, ◌||◌, ◌==◌, List, [], ◌∷◌, ◌++◌, length, map, zip, find, Option, Some, None, option_map, option_and_then, unwrap_or, is_some, is_none, refl, sym, ap, ◌∙◌, subst, slice_get, nat_lt, pos}
+use Rattle.std.proofs.Common.{◌≡◌, ℕ, Bool, true, ◌&&◌, ◌==◌, [], length, find, Option, Some, None, option_map, option_and_then, unwrap_or, is_none, refl, sym, ap, ◌∙◌, slice_get, pos}
 use Rattle.std.specs.List.{list_all}
 use Rattle.fp_base.specs.Same.{same_option}
-use Rattle.fp_base.specs.declared.value.Value.{Value, Int}
+use Rattle.fp_base.specs.declared.value.Value.{Int}
 use Rattle.fp_base.proofs.Sameness.{nat_same, option_same}
 use Rattle.fp_tables.proofs.Alls.{both, all_get}
 use Rattle.fp_tables.specs.Components as components
 use Rattle.fp_tables.specs.Instances as instances
-use Rattle.fp_tables.specs.Lists.{if_some, some_and}
-use Rattle.fp_tables.specs.Lookup.{Described, component_of, wire_from, wires, same_end}
-use Rattle.fp_tables.specs.Positions.{port_of, port_def_lies, formals_lie, kind_lies}
+use Rattle.fp_tables.specs.Lists.{if_some}
+use Rattle.fp_tables.specs.Lookup.{Described, component_of, wire_from, same_end}
+use Rattle.fp_tables.specs.Positions.{port_of, port_def_lies, kind_lies}
 use Rattle.fp_tables.specs.Programs as programs
-use Rattle.fp_tables.specs.Sound.{IsSound, IsSoundWith, IsSoundAt, IsSoundFor, each_port}
-use Rattle.fp_tables.specs.SoundPrograms.{IsSoundProgram}
-use Rattle.fp_tables.specs.Types.{Shape, of_form, form_at, shape, has, has_kind, have_kinds, type_has_values}
-use Rattle.fp_tables.specs.declared.kind.Formal.{Formal}
+use Rattle.fp_tables.specs.Sound.{IsSoundWith, IsSoundAt, IsSoundFor, each_port}
+use Rattle.fp_tables.specs.Types.{Shape, form_at, shape, has, has_kind, type_has_values}
 use Rattle.fp_tables.specs.declared.kind.Kind.{Kind}
 use Rattle.fp_tables.specs.declared.kind.Kind.TheVariants as kind
 use Rattle.fp_tables.specs.declared.kind.PortDef.{PortDef}
 use Rattle.fp_tables.specs.declared.kind.TypeDef.{TypeDef}
 use Rattle.fp_tables.specs.declared.component.Component.{Component}
-use Rattle.fp_tables.specs.declared.component.Command.{Command}
 use Rattle.fp_tables.specs.declared.component.Full.{Full}
 use Rattle.fp_tables.specs.declared.component.Port.{Port as PortOf}
 use Rattle.fp_tables.specs.declared.component.Role.{Role}
 use Rattle.fp_tables.specs.declared.component.Role.TheVariants as role
 use Rattle.fp_tables.specs.declared.component.Way.{Way}
-use Rattle.fp_tables.specs.declared.component.Way.TheVariants.{Later, Sync, Guarded}
+use Rattle.fp_tables.specs.declared.component.Way.TheVariants.{Later}
 use Rattle.fp_tables.specs.declared.topology.End.{End}
 use Rattle.fp_tables.specs.declared.topology.Topology.{Topology}
 use Rattle.fp_tables.specs.declared.topology.Wire.{Wire}
 use Rattle.fp_tables.specs.declared.model.Model.{Model}
-use Rattle.fp_tables.specs.declared.program.Act.{Act}
-use Rattle.fp_tables.specs.declared.program.Handler.{Handler}
 use Rattle.fp_tables.specs.declared.program.Program.{Program}
-use Rattle.fp_tables.specs.declared.program.Spot.{Spot}
-use Rattle.fp_tables.specs.declared.program.Spot.TheVariants as spot
-use Rattle.fp_events.specs.Actor.{Bindings, Action, act, send, advance, Doing}
-use Rattle.fp_events.specs.Fits.{kinds, port_at, place_kinds}
-use Rattle.fp_events.specs.Follows.{handling, performed, returned}
-use Rattle.fp_events.specs.Lookup.{component, default_of, result_of, names, handler, same_spot}
-use Rattle.fp_events.specs.Manners.{Manner, by, sets, saves, manner, input_manner, internal_manner}
+use Rattle.fp_events.specs.Follows.{returned}
+use Rattle.fp_events.specs.Lookup.{component, default_of}
+use Rattle.fp_events.specs.Manners.{by, manner, input_manner, internal_manner}
 use Rattle.fp_events.specs.declared.event.Point.{Point}
 use Rattle.fp_events.specs.declared.event.Point.TheVariants.{Port, Command as OfCommand, Post, Signal}
 use Rattle.fp_events.proofs.StepLaws.{then_some, mapped_some, some_is}
-use Rattle.fp_logtext.specs.Fitting.{suit_point, result_of_point}
-use Rattle.fp_logtext.proofs.Lists.{join_true, find_passes, some_of, some_and_of, get_below}
+use Rattle.fp_logtext.specs.Fitting.{result_of_point}
+use Rattle.fp_logtext.proofs.Lists.{find_passes, some_of, some_and_of, get_below}
 use Rattle.fp_logtext.proofs.Components.{port_in, of_component}
 use Rattle.fp_logtext.proofs.Aliases.{shape_of_form}
-use Rattle.fp_logtext.proofs.Typed.{returns_nothing, Match, Typed, DoingTyped, acts_typed, acts_silent}
 
 port_sound : (m : Model) (test : PortOf → Bool) (i k : ℕ) (p : PortOf) → each_port test m ≡ true → port_of m i k ≡ Some p → test p ≡ true
 port_sound m test i k p h e =
@@ -86,7 +76,7 @@ module _ (t : Described) (sound : IsSoundFor t.model (Some t.topology)) where
       let is : p.0.role ≡ role.Input (Later priority policy) = input_way p.0.role (Later priority policy) p.2 in
       let waits : components.waits_for_no_result t.model.ports p.0 ≡ true = port_sound t.model (components.waits_for_no_result t.model.ports) i k p.0 sound.0.waiting_ports_have_no_result found in
       let none : if_some (λ (d : PortDef). is_none d.result) (components.definition t.model.ports p.0) ≡ true =
-          ap (λ (r : Role). components.waits_for_no_result t.model.ports (record p.0 { role = r })) (sym is) ∙ waits in
+      ap (λ (r : Role). components.waits_for_no_result t.model.ports (record p.0 { role = r })) (sym is) ∙ waits in
       ap (λ (o : Option PortOf). option_and_then (λ (d : PortDef). d.result) (option_and_then (slice_get t.model.ports) (option_and_then (λ (x : PortOf). x.of) o))) found
       ∙ no_result (components.definition t.model.ports p.0) none
   later_returns_nothing i (OfCommand k) priority policy h = refl

@@ -1,7 +1,6 @@
 -- A returned value has the kind that the frame returns which it closes.
-use Rattle.std.proofs.Common.{◌≡◌, ℕ, ℤ, ◌⊎◌, inl, inr, Bool, true, false, cond, ◌&&◌, List, [], ◌∷◌, ◌++◌, drop, map, Option, Some, None, option_map, option_and_then, unwrap_or, is_some, refl, sym, ap, ◌∙◌, subst, slice_get}
+use Rattle.std.proofs.Common.{◌≡◌, ℕ, ℤ, ◌⊎◌, inl, inr, Bool, true, false, cond, List, [], ◌∷◌, ◌++◌, drop, Option, Some, None, option_map, option_and_then, unwrap_or, is_some, refl, sym, ap, ◌∙◌, subst, slice_get}
 use Rattle.std.specs.List.{list_all}
-use Rattle.fp_base.specs.Same.{same, same_option}
 use Rattle.fp_base.specs.declared.value.Value.{Value}
 use Rattle.fp_base.proofs.Sameness.{nat_same}
 use Rattle.fp_system.specs.Run.{Run, World, ActorStep, opening}
@@ -28,10 +27,10 @@ use Rattle.fp_tables.specs.declared.program.Caller.{Caller}
 use Rattle.fp_tables.specs.declared.program.Program.{Program}
 use Rattle.fp_tables.specs.declared.program.Verb.{Verb}
 use Rattle.fp_tables.specs.declared.program.Verb.TheVariants as verb
-use Rattle.fp_events.specs.Actor.{ActorState, Bindings, Action, act, send, advance, Doing, Opened, own, arrived, taken, Frame, Thread, opened_actor}
+use Rattle.fp_events.specs.Actor.{ActorState, Bindings, Action, act, send, Doing, Opened, own, arrived, taken, Frame, Thread, opened_actor}
 use Rattle.fp_events.specs.Answers.{arrival_in, suits, answers}
-use Rattle.fp_events.specs.Due.{first_action, first_in, asks, asks_in, due_in, due_of, due, values, first_value}
-use Rattle.fp_events.specs.Fits.{arrival_fits, value_fits, what_fits, fits}
+use Rattle.fp_events.specs.Due.{first_action, first_in, asks, due_in, due_of, values, first_value}
+use Rattle.fp_events.specs.Fits.{value_fits, what_fits}
 use Rattle.fp_events.specs.Follows.{without_first, without_first_in, bind, in_frame, doing, removed, bound_below, closed, as_name, name_for, value_in, ok_note, handling, returned, opened, sends, parameter_name, performed, sent_as, bound_name, follows}
 use Rattle.fp_events.specs.Instance.{InstanceState}
 use Rattle.fp_events.specs.Lookup.{component, default_of, special_wire}
@@ -50,11 +49,10 @@ use Rattle.fp_events.specs.declared.event.What.TheVariants as what
 use Rattle.fp_events.proofs.SameArrival.{value_option_same}
 use Rattle.fp_events.proofs.StepLaws.{some_is, taken as taken_step, core_laws}
 use Rattle.fp_logtext.specs.Fitting.{suit_point, result_of_point, results_after, results_from, returns_fit}
-use Rattle.fp_logtext.proofs.Lists.{join_true}
 use Rattle.fp_logtext.proofs.Components.{param_in}
 use Rattle.fp_logtext.proofs.Commands.{answered_arrival, set_manner, save_manner, implied, IsImplied, of_set, of_save}
 use Rattle.fp_logtext.proofs.Naming.{fit_values}
-use Rattle.fp_logtext.proofs.Typed.{returns_nothing, bound_as, Match, Typed, ActTyped, DoingTyped, DoingsTyped, without_first_typed, bind_typed, unbound_typed, Returns, first_returns}
+use Rattle.fp_logtext.proofs.Typed.{returns_nothing, bound_as, Typed, DoingTyped, DoingsTyped, without_first_typed, bind_typed, Returns, first_returns}
 use Rattle.fp_logtext.proofs.Results.{later_returns_nothing, post_is_later, default_is, default_of_result}
 use Rattle.fp_logtext.proofs.Handlers.{IsOutside, handling_typed, performed_typed}
 use Rattle.fp_logtext.proofs.Stack.{bound_none, Returning, StackTyped, in_frame_typed, Binds, removed_typed, opened_typed, BindsBy, asks_bind}
@@ -316,8 +314,8 @@ module _ (t : Described) (program : Program) (sound : IsSoundFor t.model (Some t
           let b = c.1 in
           let known = fit_kind i param v fit in
           let kind : option_map (λ (p : Param). p.kind) (option_and_then (λ (c : Component). slice_get c.params x.name) (component_of t.model f.instance)) ≡ Some known.0 =
-              ap (λ (n : ℕ). option_map (λ (p : Param). p.kind) (option_and_then (λ (c : Component). slice_get c.params x.name) (component_of t.model n))) (sym c.4)
-              ∙ ap (λ (n : ℕ). option_map (λ (p : Param). p.kind) (option_and_then (λ (c : Component). slice_get c.params n) (component_of t.model i))) (sym c.5) ∙ known.1 in
+          ap (λ (n : ℕ). option_map (λ (p : Param). p.kind) (option_and_then (λ (c : Component). slice_get c.params x.name) (component_of t.model n))) (sym c.4)
+          ∙ ap (λ (n : ℕ). option_map (λ (p : Param). p.kind) (option_and_then (λ (c : Component). slice_get c.params n) (component_of t.model i))) (sym c.5) ∙ known.1 in
           subst (λ (o : Option (Action × Bindings)). DoingsTyped t f.instance k [] (bind (bound_name t program o) v (without_first f.doing))) (sym c.2)
           (doings_read f.instance k known.0 v x b f.doing c.2 c.3 (verb_binds f.instance x known.0 c.3 kind) known.2 held)
 
@@ -363,9 +361,10 @@ module _ (t : Described) (program : Program) (sound : IsSoundFor t.model (Some t
   leaving (arrived default name) i j ds fs ks v c h =
       let same : default ≡ c.0 = opened_default (arrived default name) (arrived c.0 c.1) c.2 in
       let left : LeftBy default (first_action ds) v = subst (λ (d : Option Value). LeftBy d (first_action ds) v) (sym same) c.3 in
-      let l = leaves_with i default ds h.0 v h.3 left in
-      (subst (λ (l : List (Option Kind)). StackTyped t (bound_below (arrived default name) v fs) (drop 1 l) []) (sym h.2) (below default name h.0 v fs h.1 l h.4),
-      subst (λ (l : List (Option Kind)). returns_fit t l (what.Leave v) ≡ true) (sym h.2) (fits_top h.0 h.1 v l))
+      let l = leaves_with i default ds h.0 v h.3 left in (
+        subst (λ (l : List (Option Kind)). StackTyped t (bound_below (arrived default name) v fs) (drop 1 l) []) (sym h.2) (below default name h.0 v fs h.1 l h.4),
+        subst (λ (l : List (Option Kind)). returns_fit t l (what.Leave v) ≡ true) (sym h.2) (fits_top h.0 h.1 v l),
+      )
     where
       default_in : Opened → Option Value
       default_in (arrived d n) = d
@@ -506,6 +505,6 @@ module _ (t : Described) (program : Program) (sound : IsSoundFor t.model (Some t
           let fit = fits_what t program sound good a k.asked.0 e.what k.fit in
           let next = follows_typed a k.asked.0 x.thread ks e.stamp e.actor e.what k.asked.1 (due_frames t program a x.thread k.asked k.due) k.answer fit holds in
           let here : StackTyped t (follows t program k.asked.0 x.thread e.what).frames (results_after t ks e) [] =
-              subst (λ (n : ℕ). StackTyped t (follows t program k.asked.0 x.thread e.what).frames (results_after t ks (record { stamp = e.stamp; actor = e.actor; instance = n; what = e.what })) []) (sym k.instance) next in
+          subst (λ (n : ℕ). StackTyped t (follows t program k.asked.0 x.thread e.what).frames (results_after t ks (record { stamp = e.stamp; actor = e.actor; instance = n; what = e.what })) []) (sym k.instance) next in
           let there : StackTyped t z.thread.frames (results_after t ks e) [] = subst (λ (y : Thread). StackTyped t y.frames (results_after t ks e) []) (sym k.thread) here in
           subst (λ (l : List (Option Kind)). StackTyped t z.thread.frames l []) (sym (results_from-more [] es e)) there

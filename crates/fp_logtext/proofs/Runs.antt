@@ -1,5 +1,5 @@
 -- What each entry of a run of sound tables and program shows.
-use Rattle.std.proofs.Common.{◌≡◌, ℕ, Bool, true, false, ◌&&◌, nat_lt, nat_le, List, [], ◌∷◌, ◌++◌, length, map, Option, Some, None, option_map, option_and_then, is_some, refl, sym, ap, ◌∙◌, subst, slice_get, arith}
+use Rattle.std.proofs.Common.{◌≡◌, ℕ, Bool, true, ◌&&◌, nat_lt, nat_le, List, [], ◌∷◌, ◌++◌, length, Option, Some, None, option_map, is_some, refl, sym, ap, ◌∙◌, slice_get, arith}
 use Rattle.std.proofs.lemmas.Bool.Decides.{nat_tests}
 use Rattle.std.specs.List.{list_all}
 use Rattle.fp_base.specs.declared.value.Value.{Value}
@@ -20,15 +20,14 @@ use Rattle.fp_tables.specs.declared.component.Part.{Part}
 use Rattle.fp_tables.specs.declared.component.Part.TheVariants as part
 use Rattle.fp_tables.specs.declared.program.Program.{Program}
 use Rattle.fp_events.specs.Actor.{ActorState}
-use Rattle.fp_events.specs.Answers.{arrival_in, suits, answers}
+use Rattle.fp_events.specs.Answers.{arrival_in, answers}
 use Rattle.fp_events.specs.Due.{due}
 use Rattle.fp_events.specs.Fits.{actor_count, is_placed, kinds, place_kinds, what_fits, fits}
 use Rattle.fp_events.specs.Instance.{InstanceState}
 use Rattle.fp_events.specs.Lookup.{component}
-use Rattle.fp_events.specs.Manners.{sets, saves, manner}
+use Rattle.fp_events.specs.Manners.{saves, manner}
 use Rattle.fp_events.specs.Step.{core}
 use Rattle.fp_events.specs.declared.event.Point.{Point}
-use Rattle.fp_events.specs.declared.event.Point.TheVariants.{Port, Command as OfCommand, Post, Signal}
 use Rattle.fp_events.specs.declared.event.Arrival.{Arrival}
 use Rattle.fp_events.specs.declared.event.Ask.{Ask}
 use Rattle.fp_events.specs.declared.event.Ask.TheVariants as ask

@@ -1,13 +1,11 @@
 -- The frames of an actor, with what each returns.
-use Rattle.std.proofs.Common.{◌≡◌, ℕ, ◌⊎◌, inl, inr, Bool, true, false, cond, ◌&&◌, List, [], ◌∷◌, ◌++◌, map, Option, Some, None, option_map, option_and_then, unwrap_or, is_some, refl, sym, ap, ◌∙◌, subst, slice_get}
-use Rattle.std.specs.List.{list_all}
+use Rattle.std.proofs.Common.{◌≡◌, ℕ, true, List, [], ◌∷◌, Option, Some, None, option_map, unwrap_or, refl, ap, ◌∙◌, subst}
 use Rattle.fp_base.specs.declared.value.Value.{Value}
 use Rattle.fp_tables.specs.Lookup.{Described, wire_from}
 use Rattle.fp_tables.specs.Programs as programs
 use Rattle.fp_tables.specs.Sound.{IsSoundFor}
 use Rattle.fp_tables.specs.Types.{has_kind}
 use Rattle.fp_tables.specs.declared.kind.Kind.{Kind}
-use Rattle.fp_tables.specs.declared.component.Special.{Special}
 use Rattle.fp_tables.specs.declared.component.Special.TheVariants as special
 use Rattle.fp_tables.specs.declared.topology.End.{End}
 use Rattle.fp_tables.specs.declared.program.Act.{Act}
@@ -15,19 +13,17 @@ use Rattle.fp_tables.specs.declared.program.Arg.{Arg}
 use Rattle.fp_tables.specs.declared.program.Program.{Program}
 use Rattle.fp_tables.specs.declared.program.Verb.{Verb}
 use Rattle.fp_tables.specs.declared.program.Verb.TheVariants as verb
-use Rattle.fp_events.specs.Actor.{Bindings, Action, act, send, advance, Doing, Opened, own, arrived, taken, Frame, Thread}
-use Rattle.fp_events.specs.Due.{first_action, values, sent_from, along, at_port, asks_in}
-use Rattle.fp_events.specs.Follows.{without_first, bind, in_frame, doing, removed, as_name, name_for, opened}
-use Rattle.fp_events.specs.Lookup.{component, default_of, special_wire}
-use Rattle.fp_events.specs.declared.event.Point.{Point}
-use Rattle.fp_events.specs.declared.event.Point.TheVariants.{Port, Command as OfCommand, Post, Signal}
-use Rattle.fp_events.specs.declared.event.Origin.TheVariants.{Caller, Own, Wire}
-use Rattle.fp_events.specs.declared.event.Arrival.{Arrival}
+use Rattle.fp_events.specs.Actor.{Bindings, act, Doing, Opened, own, arrived, taken, Frame}
+use Rattle.fp_events.specs.Due.{first_action, sent_from, along, at_port, asks_in}
+use Rattle.fp_events.specs.Follows.{without_first, in_frame, doing, removed, as_name, name_for, opened}
+use Rattle.fp_events.specs.Lookup.{default_of, special_wire}
+use Rattle.fp_events.specs.declared.event.Point.TheVariants.{Command as OfCommand}
+use Rattle.fp_events.specs.declared.event.Origin.TheVariants.{Wire}
 use Rattle.fp_events.specs.declared.event.Ask.{Ask}
 use Rattle.fp_events.specs.declared.event.Ask.TheVariants as ask
-use Rattle.fp_events.proofs.StepLaws.{mapped_some, some_is}
+use Rattle.fp_events.proofs.StepLaws.{some_is}
 use Rattle.fp_logtext.specs.Fitting.{result_of_point}
-use Rattle.fp_logtext.proofs.Typed.{bound_as, DoingTyped, DoingsTyped, without_first_typed, bind_typed, unbound_typed}
+use Rattle.fp_logtext.proofs.Typed.{bound_as, DoingsTyped, without_first_typed}
 use Rattle.fp_logtext.proofs.Results.{wire_results}
 
 -- what a frame binds in the one below it, when it returns this
@@ -131,7 +127,7 @@ module _ (t : Described) where
 
     call_binds : (i : ℕ) (vs : List Value) (subject : End) (name : ℕ) (with : List Arg) (given : Option (List ℕ))
         → BindsDue i (record { verb = verb.Call; subject = subject; name = name; with = with; bind = given })
-            (along t program (record { instance = i; port = subject.port; number = subject.number }) (at_port t program) vs)
+        (along t program (record { instance = i; port = subject.port; number = subject.number }) (at_port t program) vs)
     call_binds i vs subject name with given = go (wire_from t from) refl
       where
         from : End
@@ -139,18 +135,18 @@ module _ (t : Described) where
 
         go : (o : Option End) → wire_from t from ≡ o
             → BindsDue i (record { verb = verb.Call; subject = subject; name = name; with = with; bind = given })
-                (option_map (λ (to : End). (to.instance, ask.Arrive (record { point = at_port t program to; origin = Wire from None; with = vs }))) o)
+            (option_map (λ (to : End). (to.instance, ask.Arrive (record { point = at_port t program to; origin = Wire from None; with = vs }))) o)
         go None is = binds_none i _
         go (Some to) is = binds_some i _ _ (binds_call i subject name with given ∙ ap (bound_as given) (wire_results t sound from to is))
 
     command_binds : (i : ℕ) (vs : List Value) (subject : End) (name : ℕ) (with : List Arg) (given : Option (List ℕ))
         → BindsDue i (record { verb = verb.Command; subject = subject; name = name; with = with; bind = given })
-            (along t program (record { instance = i; port = subject.port; number = subject.number }) (λ to. OfCommand name) vs)
+        (along t program (record { instance = i; port = subject.port; number = subject.number }) (λ to. OfCommand name) vs)
     command_binds i vs subject name with given = go (wire_from t (record { instance = i; port = subject.port; number = subject.number }))
       where
         go : (o : Option End)
             → BindsDue i (record { verb = verb.Command; subject = subject; name = name; with = with; bind = given })
-                (option_map (λ (to : End). (to.instance, ask.Arrive (record { point = OfCommand name; origin = Wire (record { instance = i; port = subject.port; number = subject.number }) None; with = vs }))) o)
+            (option_map (λ (to : End). (to.instance, ask.Arrive (record { point = OfCommand name; origin = Wire (record { instance = i; port = subject.port; number = subject.number }) None; with = vs }))) o)
         go None = binds_none i _
         go (Some to) = binds_some i _ _ refl
 
@@ -161,7 +157,7 @@ module _ (t : Described) where
 
     asks_bound : (default : Option Value) (called : Option (List ℕ)) (i : ℕ) (vs : List Value) (v : Verb) (subject : End) (name : ℕ) (with : List Arg) (given : Option (List ℕ))
         → BindsDue i (record { verb = v; subject = subject; name = name; with = with; bind = given })
-            (asks_in t program (arrived default called) i (record { verb = v; subject = subject; name = name; with = with; bind = given }) vs v)
+        (asks_in t program (arrived default called) i (record { verb = v; subject = subject; name = name; with = with; bind = given }) vs v)
     asks_bound default called i vs verb.Call subject name with given = call_binds i vs subject name with given
     asks_bound default called i vs verb.Command subject name with given = command_binds i vs subject name with given
     asks_bound default called i vs verb.Respond subject name with given = respond_binds i subject name with given (special_wire t i special.CmdResp)

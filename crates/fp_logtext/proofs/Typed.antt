@@ -1,17 +1,15 @@
 -- What is left in a frame, with the kinds of what is bound and of what it returns.
-use Rattle.std.proofs.Common.{◌≡◌, ℕ, zero, suc, ◌⊎◌, inl, inr, Bool, true, false, cond, not, ◌&&◌, ◌||◌, ◌==◌, List, [], ◌∷◌, ◌++◌, length, map, zip, find, Option, Some, None, option_map, option_and_then, unwrap_or, is_some, is_none, refl, sym, ap, ◌∙◌, subst, slice_get}
+use Rattle.std.proofs.Common.{◌≡◌, ℕ, ◌⊎◌, inl, inr, Bool, true, false, cond, ◌&&◌, ◌==◌, List, [], ◌∷◌, ◌++◌, map, find, Option, Some, None, is_some, refl, sym, ap, ◌∙◌, subst}
 use Rattle.std.specs.List.{list_all}
 use Rattle.std.specs.Str.{bytes_eq}
 use Rattle.fp_base.specs.Same.{same_text}
-use Rattle.fp_base.specs.declared.value.Value.{Value, Opaque}
-use Rattle.fp_base.proofs.Sameness.{nat_same, text_same}
+use Rattle.fp_base.specs.declared.value.Value.{Value}
 use Rattle.fp_tables.proofs.Alls.{both}
 use Rattle.fp_tables.specs.Lists.{some_and}
-use Rattle.fp_tables.specs.Lookup.{Described, component_of}
+use Rattle.fp_tables.specs.Lookup.{Described}
 use Rattle.fp_tables.specs.Programs as programs
 use Rattle.fp_tables.specs.Machines.{target}
-use Rattle.fp_tables.specs.Types.{has_kind, have_kinds, Leads}
-use Rattle.fp_tables.specs.declared.kind.Formal.{Formal}
+use Rattle.fp_tables.specs.Types.{has_kind, Leads}
 use Rattle.fp_tables.specs.declared.kind.Kind.{Kind}
 use Rattle.fp_tables.specs.declared.topology.End.{End}
 use Rattle.fp_tables.specs.declared.program.Act.{Act}
