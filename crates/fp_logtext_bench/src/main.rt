@@ -55,7 +55,9 @@ fn measure(rt: &HostRuntime, alloc: Global) -> io::Result<()> {
     let block = held(Row::from_slice(alloc, log.as_slice()))?;
     let moving = start.elapsed(rt)?.as_micros();
     let length = log.len();
-    println!(rt; "{length} bytes: printed in {printing} us, copied byte by byte in {copying} us, as a block in {moving} us")?;
+    println!(rt;
+        "{length} bytes: printed in {printing} us, copied byte by byte in {copying} us, as a block in {moving} us"
+    )?;
     println!(rt;
         "printing / copying byte by byte in percent: {}; alike: {}",
         printing * 100 / copying.max(1),
