@@ -16,7 +16,7 @@ use Rattle.fp_grammar.specs.Grammar.{Grammar, Language, Nonterminal, Spells, aft
 use Rattle.fp_grammar.specs.Grammar.Grammar.{token, one_of, seq, map, alt, optional, many, alternating, chain, ref}
 use Rattle.fp_grammar.specs.Seal.{seal}
 use Rattle.fp_parse_defs.specs.Kinds.{kind, k_name, k_number, k_float, k_string, k_true, k_false, k_open, k_close, k_open_bracket, k_close_bracket, k_open_brace, k_close_brace, k_times, k_over, k_plus, k_minus, k_dot, k_equals}
-use Rattle.fp_parse_defs.specs.Words.{between, at, name, literal, named, plus_minus, times_over, nesting}
+use Rattle.fp_parse_defs.specs.Words.{between, bare, at, name, literal, named, plus_minus, times_over, nesting}
 use Rattle.fp_parse_defs.specs.Lists.{joined, some_of, commas}
 
 -- what expressions begin with
@@ -26,7 +26,7 @@ begins = k_number ∷ k_float ∷ k_string ∷ k_true ∷ k_false ∷ k_name ∷
 -- one more level round both
 abbrev pub combined : Measured → Operator × Measured → Measured
 combined left p = record {
-  expr = record { form = form.Binary p.0 left.expr p.1.expr; at = between left.expr.at p.1.expr.at; note = [] };
+  expr = bare (form.Binary p.0 left.expr p.1.expr) (between left.expr.at p.1.expr.at);
   height = max left.height p.1.height + 1;
 }
 
@@ -47,9 +47,14 @@ factor_body nested = alt literal (alt named (ref (record { spells = nested; prod
 abbrev pub factor_of : Language Token Measured → Grammar Token Measured
 factor_of nested = seal kind (factor_body nested) begins (k_dot ∷ [])
 
+-- some depth is left
+abbrev pub is_left : ℕ → Bool
+is_left zero = false
+is_left (suc depth) = true
+
 -- an operand behind an operator, for which one depth less is left
 abbrev pub operand_of : ℕ → Language Token Measured → List ℕ → Grammar Token Measured
-operand_of depth language extends = ref (record { spells = language; productive = ltb 0 depth; first = begins; extends = extends })
+operand_of depth language extends = ref (record { spells = language; productive = is_left depth; first = begins; extends = extends })
 
 -- Term = Factor (('*' | '/') Factor)*
 abbrev pub term_body : ℕ → Level → Grammar Token Measured
@@ -66,14 +71,14 @@ abbrev pub expr_of : ℕ → Level → Grammar Token Measured
 expr_of depth level = seal kind (expr_body depth level) begins (k_dot ∷ k_times ∷ k_over ∷ k_plus ∷ k_minus ∷ [])
 
 abbrev pub made_minus : Span × Measured → Measured
-made_minus p = record { expr = record { form = form.Minus p.1.expr; at = between p.0 p.1.expr.at; note = [] }; height = p.1.height + 1 }
+made_minus p = record { expr = bare (form.Minus p.1.expr) (between p.0 p.1.expr.at); height = p.1.height + 1 }
 
 -- '-' Factor
 abbrev pub negated_of : Grammar Token Measured → Grammar Token Measured
 negated_of factor = map made_minus (seq (at k_minus) factor)
 
 abbrev pub made_group : Span × (Measured × Span) → Measured
-made_group p = record { expr = record { form = p.1.0.expr.form; at = between p.0 p.1.1; note = [] }; height = p.1.0.height + 1 }
+made_group p = record { expr = bare p.1.0.expr.form (between p.0 p.1.1); height = p.1.0.height + 1 }
 
 -- '(' Expr ')'
 abbrev pub group_of : Grammar Token Measured → Grammar Token Measured
@@ -90,18 +95,18 @@ abbrev pub items_of : Grammar Token Measured → Grammar Token Items
 items_of expr = some_of commas with_item no_items expr
 
 abbrev pub made_array : Span × (Items × Span) → Measured
-made_array p = record { expr = record { form = form.Array p.1.0.row; at = between p.0 p.1.1; note = [] }; height = p.1.0.height + 1 }
+made_array p = record { expr = bare (form.Array p.1.0.row) (between p.0 p.1.1); height = p.1.0.height + 1 }
 
 -- '[' Expr+, ']'
 abbrev pub array_of : Grammar Token Measured → Grammar Token Measured
 array_of expr = map made_array (seq (at k_open_bracket) (seq (items_of expr) (at k_close_bracket)))
 
-abbrev pub made_setting : Name × Measured → Setting
-made_setting p = record { name = p.0; value = p.1 }
+abbrev pub made_setting : Name × (Span × Measured) → Setting
+made_setting p = record { name = p.0; value = p.1.1 }
 
 -- name '=' Expr
 abbrev pub setting_of : Grammar Token Measured → Grammar Token Setting
-setting_of expr = map made_setting (seq name (after k_equals expr))
+setting_of expr = map made_setting (seq name (seq (at k_equals) expr))
 
 abbrev pub with_member : Members → Setting → List (List ℕ) → Members
 with_member members s lines = record {
@@ -125,7 +130,7 @@ abbrev pub members_of : Grammar Token Measured → Grammar Token Members
 members_of expr = map or_no_members (optional (some_members_of expr))
 
 abbrev pub made_struct : Span × (Members × Span) → Measured
-made_struct p = record { expr = record { form = form.Struct p.1.0.row; at = between p.0 p.1.1; note = [] }; height = p.1.0.height + 1 }
+made_struct p = record { expr = bare (form.Struct p.1.0.row) (between p.0 p.1.1); height = p.1.0.height + 1 }
 
 -- '{' (name '=' Expr)*, '}'
 abbrev pub struct_of : Grammar Token Measured → Grammar Token Measured
@@ -144,6 +149,10 @@ level (suc depth) = record {
   term = Spells kind (term_of depth (level depth));
 }
 
+-- what nests, with this much depth left
+abbrev pub nested : ℕ → Grammar Token Measured
+nested depth = ref (record { spells = (level depth).nested; productive = false; first = nesting; extends = k_dot ∷ [] })
+
 -- these with this much depth left
 abbrev pub factor : ℕ → Grammar Token Measured
 factor depth = factor_of (level depth).nested
@@ -156,3 +165,31 @@ expr depth = expr_of depth (level depth)
 
 abbrev pub inside : ℕ → Grammar Token Measured
 inside depth = inside_of (factor depth) (expr depth)
+
+abbrev pub negated : ℕ → Grammar Token Measured
+negated depth = negated_of (factor depth)
+
+abbrev pub group : ℕ → Grammar Token Measured
+group depth = group_of (expr depth)
+
+abbrev pub array : ℕ → Grammar Token Measured
+array depth = array_of (expr depth)
+
+abbrev pub structure : ℕ → Grammar Token Measured
+structure depth = struct_of (expr depth)
+
+abbrev pub items : ℕ → Grammar Token Items
+items depth = items_of (expr depth)
+
+abbrev pub setting : ℕ → Grammar Token Setting
+setting depth = setting_of (expr depth)
+
+abbrev pub some_members : ℕ → Grammar Token Members
+some_members depth = some_members_of (expr depth)
+
+abbrev pub members : ℕ → Grammar Token Members
+members depth = members_of (expr depth)
+
+-- Expr, of which at most so much nests
+abbrev pub expression : ℕ → Grammar Token Expr
+expression depth = map (λ m. m.expr) (expr depth)

@@ -2,3 +2,4 @@ pub mod Kinds
 pub mod Words
 pub mod Lists
 pub mod Language
+pub mod Reading

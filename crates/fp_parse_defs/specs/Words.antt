@@ -6,6 +6,7 @@ use Rattle.fp_lexer.specs.declared.token.Word.TheVariants as word
 use Rattle.fp_lexer.specs.declared.token.Token.{Token}
 use Rattle.fp_tree.specs.declared.name.Name.{Name}
 use Rattle.fp_tree.specs.declared.name.Qual.{Qual}
+use Rattle.fp_tree.specs.declared.expression.Expr.{Expr}
 use Rattle.fp_tree.specs.declared.expression.Form.{Form}
 use Rattle.fp_tree.specs.declared.expression.Form.TheVariants as form
 use Rattle.fp_tree.specs.declared.expression.Operator.{Operator}
@@ -42,9 +43,13 @@ longer q n = record { names = q.names ++ n ∷ []; at = between q.at n.at }
 abbrev pub qual : Grammar Token Qual
 qual = chain (map one_name name) (after k_dot name) (λ _. true) longer
 
--- an expression without annotation, with nothing inside it
+-- an expression without annotation
+abbrev pub bare : Form → Span → Expr
+bare f at = record { form = f; at = at; note = [] }
+
+-- one with nothing inside it
 abbrev pub leaf : Form → Span → Measured
-leaf f at = record { expr = record { form = f; at = at; note = [] }; height = 0 }
+leaf f at = record { expr = bare f at; height = 0 }
 
 -- number | float | Str | 'true' | 'false'
 abbrev pub literal_form : Word → Form

@@ -1,6 +1,13 @@
-//! The parsers of expressions and of definitions.
+//! The parser of expressions.
 #![tactic(auto)]
 
+mod build;
+mod expression;
 mod measured;
 mod notes;
+mod reading;
+#[cfg(test)]
+mod tests;
 mod words;
+
+pub use reading::{one_expr, parse_expr};

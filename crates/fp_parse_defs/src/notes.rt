@@ -33,7 +33,11 @@ fn after_line(tokens: &[Token], at: usize) -> Option<&Text>
 }
 
 /// Reads annotations of what follows.
-pub fn before_lines(alloc: Global, tokens: &[Token], from: usize) -> Result<(Row<Text>, usize), Halt>
+pub fn before_lines(
+    alloc: Global,
+    tokens: &[Token],
+    from: usize,
+) -> Result<(Row<Text>, usize), Halt>
     ensures { Parses kind L.before_lines tokens.now from result }
 {
     let mut lines = Row::new(alloc);
@@ -64,6 +68,15 @@ pub fn after_lines(alloc: Global, tokens: &[Token], from: usize) -> Result<(Row<
             }
         }
     }
+}
+
+/// The lines of both.
+pub fn appended(lines: Row<Text>, more: Row<Text>) -> Result<Row<Text>, NoMemory>
+    ensures { IfOk result (λ all. all ≡ lines ++ more) }
+{
+    let mut all = lines;
+    all.append(more)?;
+    Ok(all)
 }
 
 /// The lines with a newline between each two.

@@ -4,11 +4,12 @@ ghost use Rattle.fp_parse_defs.specs.Kinds.{kind, word_kind, k_mark, k_name};
 ghost use Rattle.fp_parse_defs.specs.Words as W;
 ghost use Rattle.fp_parse_defs.specs.Lists as L;
 
+use crate::build::bare;
 use crate::measured::Measured;
-use fp_base::{NoMemory, Row, Span, Text};
+use fp_base::{NoMemory, Row, Span};
 use fp_grammar::Halt;
 use fp_lexer::{Token, Word};
-use fp_tree::{Expr, Form, Name, Operator, Qual};
+use fp_tree::{Form, Name, Operator, Qual};
 use std::alloc::Global;
 
 // Places in the lexer's tables of marks and of reserved words.
@@ -24,11 +25,23 @@ pub const OPEN_BRACE: u8 = 4;
 
 pub const CLOSE_BRACE: u8 = 5;
 
+const TIMES: u8 = 6;
+
+const OVER: u8 = 7;
+
+const PLUS: u8 = 8;
+
 pub const MINUS: u8 = 9;
+
+const COMMA: u8 = 11;
 
 pub const DOT: u8 = 12;
 
 pub const EQUALS: u8 = 15;
+
+const FALSE: u8 = 34;
+
+const TRUE: u8 = 102;
 
 fn is_mark(word: &Word, mark: u8) -> bool
     ensures { MatchBool result (word_kind word.now ≡ k_mark mark) (word_kind word.now ≡ k_mark mark → ⊥) }
@@ -100,7 +113,10 @@ pub fn nested_at(tokens: &[Token], at: usize) -> bool
 {
     match tokens.get(at) {
         Some(token) => match &token.what {
-            Word::Mark(mark) => *mark == MINUS || *mark == OPEN || *mark == OPEN_BRACKET || *mark == OPEN_BRACE,
+            Word::Mark(mark) => *mark == MINUS
+                || *mark == OPEN
+                || *mark == OPEN_BRACKET
+                || *mark == OPEN_BRACE,
             _ => false,
         },
         None => false,
@@ -114,7 +130,7 @@ pub fn comma_at(tokens: &[Token], at: usize) -> bool
     match tokens.get(at) {
         Some(token) => match &token.what {
             Word::Newline => true,
-            Word::Mark(mark) => *mark == 11,
+            Word::Mark(mark) => *mark == COMMA,
             _ => false,
         },
         None => false,
@@ -127,8 +143,8 @@ pub fn plus_minus_at(tokens: &[Token], at: usize) -> Option<Operator>
 {
     match tokens.get(at) {
         Some(token) => match &token.what {
-            Word::Mark(8) => Some(Operator::Add),
-            Word::Mark(9) => Some(Operator::Subtract),
+            Word::Mark(PLUS) => Some(Operator::Add),
+            Word::Mark(MINUS) => Some(Operator::Subtract),
             _ => None,
         },
         None => None,
@@ -141,8 +157,8 @@ pub fn times_over_at(tokens: &[Token], at: usize) -> Option<Operator>
 {
     match tokens.get(at) {
         Some(token) => match &token.what {
-            Word::Mark(6) => Some(Operator::Multiply),
-            Word::Mark(7) => Some(Operator::Divide),
+            Word::Mark(TIMES) => Some(Operator::Multiply),
+            Word::Mark(OVER) => Some(Operator::Divide),
             _ => None,
         },
         None => None,
@@ -153,11 +169,8 @@ pub fn times_over_at(tokens: &[Token], at: usize) -> Option<Operator>
 fn leaf(alloc: Global, form: Form, at: Span) -> Measured
     ensures { result ≡ W.leaf form at }
 {
-    let note = Text::new(alloc);
-    Measured {
-        expr: Expr { form, at, note },
-        height: 0,
-    }
+    let expr = bare(alloc, form, at);
+    Measured { expr, height: 0 }
 }
 
 /// Reads a number, a float, a string or a truth value.
@@ -171,8 +184,8 @@ pub fn literal(alloc: Global, tokens: &[Token], from: usize) -> Result<(Measured
         Word::Number(value) => Form::Number(*value),
         Word::Float => Form::Float,
         Word::Str(text) => Form::Text(text.copy(alloc)?),
-        Word::Reserved(34) => Form::Truth(false),
-        Word::Reserved(102) => Form::Truth(true),
+        Word::Reserved(FALSE) => Form::Truth(false),
+        Word::Reserved(TRUE) => Form::Truth(true),
         _ => return Err(Halt::Unexpected(from)),
     };
     Ok((leaf(alloc, form, token.at), from + 1))
