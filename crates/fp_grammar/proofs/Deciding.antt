@@ -1,10 +1,10 @@
 -- At each position of each token list a grammar has an answer: it accepts a node, or it refuses a token.
-use Rattle.std.proofs.Common.{◌≡◌, ℕ, zero, suc, ◌+◌, ◌<◌, Bool, true, false, not, Option, Some, None, List, [], ◌∷◌, ◌++◌, ◌⊎◌, drop, length, refl, sym, ◌∙◌, ap, subst, inl, inr, arith, length-append, length-drop}
+use Rattle.std.proofs.Common.{◌≡◌, ℕ, zero, suc, ◌+◌, ◌<◌, Bool, true, false, not, ◌&&◌, Option, Some, None, List, [], ◌∷◌, ◌++◌, ◌⊎◌, drop, length, refl, sym, ◌∙◌, ap, subst, inl, inr, arith, length-append, length-drop}
 use Rattle.std.specs.Prelude.{slice_get}
 use Rattle.std.proofs.lemmas.Option.{slice_get_within}
 use Rattle.fp_grammar.specs.Grammar.{Grammar, Spells, Among}
-use Rattle.fp_grammar.specs.Grammar.Grammar.{token, seq, map, with_tokens, alt, optional, many, separated, separated_tail, ref}
-use Rattle.fp_grammar.specs.Sets.{is_ll1, nullable, first, member}
+use Rattle.fp_grammar.specs.Grammar.Grammar.{token, one_of, seq, map, with_tokens, alt, optional, many, alternating, chain, separated, separated_tail, ref}
+use Rattle.fp_grammar.specs.Sets.{is_ll1, nullable, first, extends, disjoint, member}
 use Rattle.fp_grammar.specs.Promises.{RefsGood, Fits}
 use Rattle.fp_grammar.specs.Decided.{Answer, RefsDecided}
 use Rattle.fp_grammar.specs.Decided.Answer.{accepted, refused}
@@ -12,8 +12,10 @@ use Rattle.fp_grammar.specs.Parses.{Accepts, Refuses, NextAmong}
 use Rattle.fp_grammar.proofs.Lists.{and-left, and-right, not-true, member-true, Among-from_member}
 use Rattle.fp_grammar.proofs.Fits.{good_of}
 use Rattle.fp_grammar.proofs.Walk.{Reached, Absent, begin, next, done, stop, first_refused}
-use Rattle.fp_grammar.proofs.Steps.{absent, map_accepts, map_refuses, with_tokens_accepts, with_tokens_refuses, alt_first_accepts, alt_first_refuses, alt_second_accepts, alt_second_refuses, optional_absent, optional_accepts, optional_refuses, token_accepts, token_refuses}
+use Rattle.fp_grammar.proofs.Steps.{absent, map_accepts, map_refuses, with_tokens_accepts, with_tokens_refuses, alt_first_accepts, alt_first_refuses, alt_second_accepts, alt_second_refuses, optional_absent, optional_accepts, optional_refuses, token_accepts, token_refuses, one_of_accepts, one_of_refuses}
 use Rattle.fp_grammar.proofs.ListSteps.{many_next, many_absent, many_refuses, separated_next, separated_absent, separated_refuses, tail_next, tail_absent}
+use Rattle.fp_grammar.proofs.TurnSteps.{turn_next, turn_absent, turn_refuses, turned_fits}
+use Rattle.fp_grammar.proofs.ChainSteps.{Building, chain_begin, chain_first_refused, chain_next, chain_done, chain_full, chain_stop}
 use Rattle.fp_grammar.proofs.Choices.{absent_beside, absent_unless}
 
 same_number : (n m : ℕ) → (n ≡ m) ⊎ (n ≡ m → ⊥)
@@ -37,6 +39,13 @@ module _ {T : Type 0} {kind : T → ℕ} where
       elim (same_number (kind t) k) [
         | inl f ↦ accepted t (from + 1) (token_accepts k t tokens from e f)
         | inr f ↦ refused from (token_refuses k tokens from (λ s g h. let i : s ≡ t = cc in f (ap kind (sym i) ∙ h)))
+      ]
+
+  one_of_answer : (ks : List ℕ) (tokens : List T) (from : ℕ) → Answer kind (one_of ks) tokens from
+  one_of_answer ks tokens from =
+      elim (next_among kind ks tokens from) [
+        | inl n ↦ accepted n.0 (from + 1) (one_of_accepts ks n.0 tokens from n.1 n.2)
+        | inr n ↦ refused from (one_of_refuses ks tokens from (λ t e m. n (t, e, m, slice_get_within tokens from t (sym e))))
       ]
 
   -- what isn't nullable takes tokens
@@ -105,6 +114,43 @@ module _ {T : Type 0} {kind : T → ℕ} where
   many_from zero a tokens from mid k fits f l r = absurd (omega (arith, l))
   many_from (suc fuel) a tokens from mid k fits f l r = many_step a tokens from mid k fits r (λ k' to e r'. many_from fuel a tokens from to k' fits f (omega (arith, e, l)) r') (f mid)
 
+  -- more of the one and the other, with as many steps at most as tokens are left
+  turn_step : {A X : Type 0} {g : Grammar T X} (a b : Grammar T A) (tokens : List T) (from mid : ℕ) (k : List A → X) → Fits kind (alternating a b) → Reached kind g (alternating a b) k tokens from mid → ((k' : List A → X) (to : ℕ) → length (drop to tokens) < length (drop mid tokens) → Reached kind g (alternating b a) k' tokens from to → Answer kind g tokens from) → Answer kind a tokens mid → Answer kind g tokens from
+  turn_step a b tokens from mid k fits r more (accepted x to p) =
+      let e1 = and-right (is_ll1 a) _ fits.ll1 in
+      let e2 = and-right (is_ll1 b) _ e1 in
+      more (λ xs. k (x ∷ xs)) to (reads (and-left (is_ll1 a) _ fits.ll1) (and-left (not (nullable a)) _ e2) fits.refs.0 p) (turn_next r p)
+  turn_step a b tokens from mid k fits r more (refused to p) =
+      elim (same_number mid to) [
+        | inl f ↦ accepted (k []) mid (done r (turn_absent fits (absent (subst (λ n. Refuses kind a tokens mid n) (sym f) p))))
+        | inr f ↦ refused to (stop r (turn_refuses fits f p))
+      ]
+
+  turns_from : {A X : Type 0} {g : Grammar T X} (fuel : ℕ) (a b : Grammar T A) (tokens : List T) (from mid : ℕ) (k : List A → X) → Fits kind (alternating a b) → ((at : ℕ) → Answer kind a tokens at) → ((at : ℕ) → Answer kind b tokens at) → length (drop mid tokens) < fuel → Reached kind g (alternating a b) k tokens from mid → Answer kind g tokens from
+  turns_from zero a b tokens from mid k fits f h l r = absurd (omega (arith, l))
+  turns_from (suc fuel) a b tokens from mid k fits f h l r = turn_step a b tokens from mid k fits r (λ k' to e r'. turns_from fuel b a tokens from to k' (turned_fits a b fits) h f (omega (arith, e, l)) r') (f mid)
+
+  chain_step : {X Y : Type 0} (a : Grammar T X) (b : Grammar T Y) (allows : X → Bool) (build : X → Y → X) (tokens : List T) (from mid : ℕ) (sum : X) (ok : Bool) → ok ≡ allows sum → Fits kind (many b) → Building kind a b allows build tokens from sum mid → ((sum : X) (to : ℕ) → length (drop to tokens) < length (drop mid tokens) → Building kind a b allows build tokens from sum to → Answer kind (chain a b allows build) tokens from) → Answer kind b tokens mid → Answer kind (chain a b allows build) tokens from
+  chain_step a b allows build tokens from mid sum false e fits r more p = accepted sum mid (chain_full r (sym e))
+  chain_step a b allows build tokens from mid sum true e fits r more (accepted z to p) =
+      let f = and-right (is_ll1 b) _ fits.ll1 in
+      more (build sum z) to (reads (and-left (is_ll1 b) _ fits.ll1) (and-left (not (nullable b)) _ f) fits.refs p) (chain_next r (sym e) p)
+  chain_step a b allows build tokens from mid sum true e fits r more (refused to p) =
+      elim (same_number mid to) [
+        | inl f ↦ accepted sum mid (chain_done r (absent (subst (λ n. Refuses kind b tokens mid n) (sym f) p)))
+        | inr f ↦ refused to (chain_stop r (sym e) f p)
+      ]
+
+  chain_from : {X Y : Type 0} (fuel : ℕ) (a : Grammar T X) (b : Grammar T Y) (allows : X → Bool) (build : X → Y → X) (tokens : List T) (from mid : ℕ) (sum : X) → Fits kind (many b) → ((at : ℕ) → Answer kind b tokens at) → length (drop mid tokens) < fuel → Building kind a b allows build tokens from sum mid → Answer kind (chain a b allows build) tokens from
+  chain_from zero a b allows build tokens from mid sum fits f l r = absurd (omega (arith, l))
+  chain_from (suc fuel) a b allows build tokens from mid sum fits f l r = chain_step a b allows build tokens from mid sum (allows sum) refl fits r (λ sum' to e r'. chain_from fuel a b allows build tokens from to sum' fits f (omega (arith, e, l)) r') (f mid)
+
+  chain_answer : {X Y : Type 0} (a : Grammar T X) (b : Grammar T Y) (allows : X → Bool) (build : X → Y → X) (tokens : List T) (from : ℕ) → Fits kind (chain a b allows build) → Answer kind a tokens from → ((at : ℕ) → Answer kind b tokens at) → Answer kind (chain a b allows build) tokens from
+  chain_answer a b allows build tokens from fits (accepted x mid p) f =
+      let r = chain_begin fits p in
+      chain_from (length (drop mid tokens) + 1) a b allows build tokens from mid x r.reached.fits f (omega arith) r
+  chain_answer a b allows build tokens from fits (refused to p) f = refused to (chain_first_refused fits p)
+
   -- after an element: a separator and more, or the end
   tail_step : {A X : Type 0} {g : Grammar T X} (a : Grammar T A) (seps : List ℕ) (tokens : List T) (from mid : ℕ) (k : List A → X) → Reached kind g (separated_tail a seps) k tokens from mid → (Reached kind g (separated a seps) k tokens from (mid + 1) → Answer kind g tokens from) → Answer kind g tokens from
   tail_step a seps tokens from mid k r more =
@@ -130,6 +176,7 @@ module _ {T : Type 0} {kind : T → ℕ} where
 
   pub answer_of : {X : Type 0} (g : Grammar T X) → is_ll1 g ≡ true → RefsGood kind g → RefsDecided kind g → (tokens : List T) (from : ℕ) → Answer kind g tokens from
   answer_of (token k) ll1 refs d tokens from = token_answer_at k tokens from (slice_get tokens from) refl
+  answer_of (one_of ks) ll1 refs d tokens from = one_of_answer ks tokens from
   answer_of (seq a b) ll1 refs d tokens from =
       let fits : Fits kind (seq a b) = record { ll1 = ll1; some = d.0; refs = refs } in
       seq_answer a b tokens from fits (answer_of a (and-left (is_ll1 a) _ ll1) refs.0 d.1 tokens from) (λ mid. answer_of b (and-left (is_ll1 b) _ (and-right (is_ll1 a) _ ll1)) refs.1 d.2 tokens mid)
@@ -141,6 +188,13 @@ module _ {T : Type 0} {kind : T → ℕ} where
   answer_of (many a) ll1 refs d tokens from =
       let fits : Fits kind (many a) = record { ll1 = ll1; some = refl; refs = refs } in
       many_from (length (drop from tokens) + 1) a tokens from from (λ xs. xs) fits (λ at. answer_of a (and-left (is_ll1 a) _ ll1) refs d tokens at) (omega arith) (begin tokens from fits)
+  answer_of (alternating a b) ll1 refs d tokens from =
+      let fits : Fits kind (alternating a b) = record { ll1 = ll1; some = refl; refs = refs } in
+      turns_from (length (drop from tokens) + 1) a b tokens from from (λ xs. xs) fits (λ at. answer_of a (and-left (is_ll1 a) _ ll1) refs.0 d.0 tokens at) (λ at. answer_of b (and-left (is_ll1 b) _ (and-right (is_ll1 a) _ ll1)) refs.1 d.1 tokens at) (omega arith) (begin tokens from fits)
+  answer_of (chain a b allows build) ll1 refs d tokens from =
+      let fits : Fits kind (chain a b allows build) = record { ll1 = ll1; some = d.0; refs = refs } in
+      let e1 = and-left (is_ll1 b && (not (nullable b) && disjoint (extends b) (first b))) _ (and-right (is_ll1 a) _ ll1) in
+      chain_answer a b allows build tokens from fits (answer_of a (and-left (is_ll1 a) _ ll1) refs.0 d.1 tokens from) (λ at. answer_of b (and-left (is_ll1 b) _ e1) refs.1 d.2 tokens at)
   answer_of (separated a seps) ll1 refs d tokens from =
       let fits : Fits kind (separated a seps) = record { ll1 = ll1; some = refl; refs = refs } in
       separated_from (length (drop from tokens) + 1) a seps tokens from from (λ xs. xs) fits (λ at. answer_of a (and-left (is_ll1 a) _ ll1) refs d tokens at) (omega arith) (begin tokens from fits)

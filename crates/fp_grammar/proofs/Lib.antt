@@ -3,10 +3,14 @@ pub mod Tokens
 pub mod Good
 pub mod Cutting
 pub mod GoodLists
+pub mod GoodTurns
+pub mod GoodChain
 pub mod Fits
 pub mod Walk
 pub mod Steps
 pub mod ListSteps
+pub mod TurnSteps
+pub mod ChainSteps
 pub mod Choices
 pub mod Sealed
 pub mod Answering

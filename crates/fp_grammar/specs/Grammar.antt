@@ -1,6 +1,6 @@
 -- Grammars as data, each with the type of the nodes that it spells, and their languages: which token lists spell which nodes.
 -- T is the type of the tokens. A grammar tells tokens apart by their kinds, which are numbers.
-use Rattle.std.specs.Prelude.{◌≡◌, ℕ, Bool, List, [], ◌∷◌, ◌++◌, Option, Some, None, ◌⊎◌}
+use Rattle.std.specs.Prelude.{◌≡◌, ℕ, Bool, true, ◌&&◌, List, [], ◌∷◌, ◌++◌, Option, Some, None, ◌⊎◌}
 
 -- a language: which token lists spell which nodes
 abbrev pub Language : Type 0 → Type 0 → Type 1
@@ -17,6 +17,8 @@ pub record Nonterminal (T X : Type 0) : Type 1 where
 pub data Grammar (T : Type 0) : Type 0 → Type 1 where
   -- one token of this kind, which is the node
   token : ℕ → Grammar T T
+  -- one token of one of these kinds, which is the node
+  one_of : List ℕ → Grammar T T
   -- the one, and then the other
   seq : {X Y : Type 0} → Grammar T X → Grammar T Y → Grammar T (X × Y)
   -- what a node is made of
@@ -28,6 +30,10 @@ pub data Grammar (T : Type 0) : Type 0 → Type 1 where
   optional : {X : Type 0} → Grammar T X → Grammar T (Option X)
   -- any number, one after another
   many : {X : Type 0} → Grammar T X → Grammar T (List X)
+  -- any number of the one and of the other, by turns
+  alternating : {X : Type 0} → Grammar T X → Grammar T X → Grammar T (List X)
+  -- one, and any number of others, each of which is built onto what stands before it, while that allows it
+  chain : {X Y : Type 0} → Grammar T X → Grammar T Y → (X → Bool) → (X → Y → X) → Grammar T X
   -- any number, between tokens of these kinds, one of which may stand at the end
   separated : {X : Type 0} → Grammar T X → List ℕ → Grammar T (List X)
   -- what follows an element of such a list
@@ -42,6 +48,10 @@ Among k (j ∷ js) = (k ≡ j) ⊎ Among k js
 -- one token of this kind
 abbrev pub SpellsToken : {T : Type 0} → (T → ℕ) → ℕ → Language T T
 SpellsToken kind k w t = (w ≡ t ∷ []) × (kind t ≡ k)
+
+-- one token of one of these kinds
+abbrev pub SpellsOneOf : {T : Type 0} → (T → ℕ) → List ℕ → Language T T
+SpellsOneOf kind ks w t = (w ≡ t ∷ []) × Among (kind t) ks
 
 -- the list is cut in two, a spelling of each
 abbrev pub SpellsSeq : {T X Y : Type 0} → Language T X → Language T Y → Language T (X × Y)
@@ -65,6 +75,25 @@ abbrev pub SpellsMany : {T X : Type 0} → Language T X → Language T (List X)
 SpellsMany a w [] = w ≡ []
 SpellsMany {T = T} a w (x ∷ xs) = (u v : List T) × (w ≡ u ++ v) × a u x × SpellsMany a v xs
 
+-- the list is cut into spellings of the one and of the other by turns
+abbrev pub SpellsAlternating : {T X : Type 0} → Language T X → Language T X → Language T (List X)
+SpellsAlternating a b w [] = w ≡ []
+SpellsAlternating {T = T} a b w (x ∷ xs) = (u v : List T) × (w ≡ u ++ v) × a u x × SpellsAlternating b a v xs
+
+-- what comes of x when each of the list is built onto what stands before it
+abbrev pub built : {X Y : Type 0} → (X → Y → X) → X → List Y → X
+built build x [] = x
+built build x (y ∷ ys) = built build (build x y) ys
+
+-- whether what stands before it allows each
+abbrev pub allowed : {X Y : Type 0} → (X → Bool) → (X → Y → X) → X → List Y → Bool
+allowed allows build x [] = true
+allowed allows build x (y ∷ ys) = allows x && allowed allows build (build x y) ys
+
+-- a spelling of the one, and then spellings of others, each allowed by what stands before it
+abbrev pub SpellsChain : {T X Y : Type 0} → Language T X → Language T Y → (X → Bool) → (X → Y → X) → Language T X
+SpellsChain {X = X} {Y = Y} a b allows build w x = (p : X × List Y) × (x ≡ built build p.0 p.1) × (allowed allows build p.0 p.1 ≡ true) × SpellsSeq a (SpellsMany b) w p
+
 -- an element, and then nothing, or a separator and more of the list
 abbrev pub SpellsSeparated : {T X : Type 0} → (T → ℕ) → Language T X → List ℕ → Language T (List X)
 SpellsSeparated kind a seps w [] = w ≡ []
@@ -78,12 +107,15 @@ SpellsTail {T = T} kind a seps v xs = ((v ≡ []) × (xs ≡ [])) ⊎ ((t : T) �
 -- the language of a grammar, where kind gives the kinds of the tokens
 abbrev pub Spells : {T X : Type 0} → (T → ℕ) → Grammar T X → Language T X
 Spells kind (token k) w t = SpellsToken kind k w t
+Spells kind (one_of ks) w t = SpellsOneOf kind ks w t
 Spells kind (seq a b) w p = SpellsSeq (Spells kind a) (Spells kind b) w p
 Spells kind (map f a) w y = SpellsMap f (Spells kind a) w y
 Spells kind (with_tokens a) w p = SpellsWithTokens (Spells kind a) w p
 Spells kind (alt a b) w x = Spells kind a w x ⊎ Spells kind b w x
 Spells kind (optional a) w x = SpellsOptional (Spells kind a) w x
 Spells kind (many a) w xs = SpellsMany (Spells kind a) w xs
+Spells kind (alternating a b) w xs = SpellsAlternating (Spells kind a) (Spells kind b) w xs
+Spells kind (chain a b allows build) w x = SpellsChain (Spells kind a) (Spells kind b) allows build w x
 Spells kind (separated a seps) w xs = SpellsSeparated kind (Spells kind a) seps w xs
 Spells kind (separated_tail a seps) w xs = SpellsTail kind (Spells kind a) seps w xs
 Spells kind (ref n) w x = n.spells w x

@@ -1,7 +1,7 @@
 -- What the sets of a grammar promise of its language.
 use Rattle.std.specs.Prelude.{◌≡◌, ℕ, Bool, true, false, List, [], ◌∷◌, ◌++◌}
 use Rattle.fp_grammar.specs.Grammar.{Language, Grammar, Among}
-use Rattle.fp_grammar.specs.Grammar.Grammar.{token, seq, map, with_tokens, alt, optional, many, separated, separated_tail, ref}
+use Rattle.fp_grammar.specs.Grammar.Grammar.{token, one_of, seq, map, with_tokens, alt, optional, many, alternating, chain, separated, separated_tail, ref}
 use Rattle.fp_grammar.specs.Sets.{is_ll1, productive}
 
 -- the sets hold what they are to hold, and a token list spells at most one node
@@ -19,12 +19,15 @@ pub record HasEachKind {T : Type 0} (kind : T → ℕ) : Type 0 where
 -- there are tokens of each kind, and each nonterminal keeps what its sets promise
 abbrev pub RefsGood : {T X : Type 0} → (T → ℕ) → Grammar T X → Type 0
 RefsGood kind (token k) = HasEachKind kind
+RefsGood kind (one_of ks) = HasEachKind kind
 RefsGood kind (seq a b) = RefsGood kind a × RefsGood kind b
 RefsGood kind (map f a) = RefsGood kind a
 RefsGood kind (with_tokens a) = RefsGood kind a
 RefsGood kind (alt a b) = RefsGood kind a × RefsGood kind b
 RefsGood kind (optional a) = RefsGood kind a
 RefsGood kind (many a) = RefsGood kind a
+RefsGood kind (alternating a b) = RefsGood kind a × RefsGood kind b
+RefsGood kind (chain a b allows build) = RefsGood kind a × RefsGood kind b
 RefsGood kind (separated a seps) = RefsGood kind a
 RefsGood kind (separated_tail a seps) = RefsGood kind a
 RefsGood kind (ref n) = IsGood kind n.spells false n.productive n.first n.extends

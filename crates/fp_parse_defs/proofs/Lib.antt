@@ -1,0 +1,4 @@
+mod WordsFit
+mod Levels
+mod Parts
+mod ReadingLemmas

@@ -1,0 +1,5 @@
+pub mod Kinds
+pub mod Words
+pub mod Lists
+pub mod Language
+pub mod Reading

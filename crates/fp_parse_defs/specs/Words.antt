@@ -1,0 +1,85 @@
+-- What single tokens spell: names, literals, operators and the places of marks.
+use Rattle.std.specs.Prelude.{ℕ, List, [], ◌∷◌, ◌++◌, true, cond, ◌==◌}
+use Rattle.fp_base.specs.declared.place.Span.{Span}
+use Rattle.fp_lexer.specs.declared.token.Word.{Word}
+use Rattle.fp_lexer.specs.declared.token.Word.TheVariants as word
+use Rattle.fp_lexer.specs.declared.token.Token.{Token}
+use Rattle.fp_tree.specs.declared.name.Name.{Name}
+use Rattle.fp_tree.specs.declared.name.Qual.{Qual}
+use Rattle.fp_tree.specs.declared.expression.Expr.{Expr}
+use Rattle.fp_tree.specs.declared.expression.Form.{Form}
+use Rattle.fp_tree.specs.declared.expression.Form.TheVariants as form
+use Rattle.fp_tree.specs.declared.expression.Operator.{Operator}
+use Rattle.fp_tree.specs.declared.expression.Operator.TheVariants as operator
+use Rattle.fp_parse_defs.specs.declared.measured.Measured.{Measured}
+use Rattle.fp_grammar.specs.Grammar.{Grammar, after}
+use Rattle.fp_grammar.specs.Grammar.Grammar.{token, one_of, map, chain}
+use Rattle.fp_parse_defs.specs.Kinds.{k_name, k_number, k_float, k_string, k_true, k_false, k_dot, k_times, k_over, k_plus, k_minus, k_open, k_open_bracket, k_open_brace}
+
+-- from the first byte of one to the last of another
+abbrev pub between : Span → Span → Span
+between a b = record { first = a.first; past = b.past }
+
+-- the text of a name
+abbrev pub name_text : Word → List ℕ
+name_text (word.Name text) = text
+name_text _ = []
+
+-- where a token stands
+abbrev pub at : ℕ → Grammar Token Span
+at k = map (λ t. t.at) (token k)
+
+-- a name with its place
+abbrev pub name : Grammar Token Name
+name = map (λ t. record { text = name_text t.what; at = t.at }) (token k_name)
+
+abbrev pub one_name : Name → Qual
+one_name n = record { names = n ∷ []; at = n.at }
+
+abbrev pub longer : Qual → Name → Qual
+longer q n = record { names = q.names ++ n ∷ []; at = between q.at n.at }
+
+-- Qual = name ('.' name)*
+abbrev pub qual : Grammar Token Qual
+qual = chain (map one_name name) (after k_dot name) (λ _. true) longer
+
+-- an expression without annotation
+abbrev pub bare : Form → Span → Expr
+bare f at = record { form = f; at = at; note = [] }
+
+-- one with nothing inside it
+abbrev pub leaf : Form → Span → Measured
+leaf f at = record { expr = bare f at; height = 0 }
+
+-- number | float | Str | 'true' | 'false'
+abbrev pub literal_form : Word → Form
+literal_form (word.Number value) = form.Number value
+literal_form (word.Str text) = form.Text text
+literal_form (word.Reserved r) = form.Truth (r == 102)
+literal_form _ = form.Float
+
+abbrev pub literal : Grammar Token Measured
+literal = map (λ t. leaf (literal_form t.what) t.at) (one_of (k_number ∷ k_float ∷ k_string ∷ k_true ∷ k_false ∷ []))
+
+abbrev pub named : Grammar Token Measured
+named = map (λ q. leaf (form.Use q) q.at) qual
+
+-- '+' | '-'
+abbrev pub sum_operator : Word → Operator
+sum_operator (word.Mark m) = cond (m == 8) operator.Add operator.Subtract
+sum_operator _ = operator.Subtract
+
+abbrev pub plus_minus : Grammar Token Operator
+plus_minus = map (λ t. sum_operator t.what) (one_of (k_plus ∷ k_minus ∷ []))
+
+-- '*' | '/'
+abbrev pub product_operator : Word → Operator
+product_operator (word.Mark m) = cond (m == 6) operator.Multiply operator.Divide
+product_operator _ = operator.Divide
+
+abbrev pub times_over : Grammar Token Operator
+times_over = map (λ t. product_operator t.what) (one_of (k_times ∷ k_over ∷ []))
+
+-- what the expressions that nest begin with
+abbrev pub nesting : List ℕ
+nesting = k_minus ∷ k_open ∷ k_open_bracket ∷ k_open_brace ∷ []

@@ -1,0 +1,114 @@
+ghost use Rattle.std.specs.Prelude.{◌≡◌, ◌≤◌, ◌<◌, ◌^◌, List, length, take, drop, IfOk};
+ghost use Rattle.fp_lexer.specs.declared.token.Token.{Token};
+ghost use Rattle.fp_tree.specs.declared.expression.Expr.{Expr};
+ghost use Rattle.fp_grammar.specs.Grammar.{Spells};
+ghost use Rattle.fp_parse_defs.specs.Kinds.{kind};
+ghost use Rattle.fp_parse_defs.specs.Language;
+ghost use Rattle.fp_parse_defs.specs.Reading.{Answers, BeginsAt, Reads, left_out, limit, unexpected};
+
+use crate::expression::expression;
+use crate::measured::Measured;
+use fp_base::{NoMemory, Refusal, Row, Rule, Stop};
+use fp_grammar::Halt;
+use fp_lexer::{Token, Word};
+use fp_tree::Expr;
+use std::alloc::Global;
+
+/// How deep expressions nest at most.
+const LIMIT: u32 = 64;
+
+/// Reads an expression from a position on.
+pub fn parse_expr(alloc: Global, tokens: &Row<Token>, from: u32) -> Result<(Expr, u32), Stop>
+    requires some { 0 < length tokens.now }
+    requires short { length tokens.now < 2 ^ 32 }
+    requires within { from ≤ length tokens.now }
+    ensures { Answers Language.expression tokens.now from result }
+{
+    let tokens = tokens.as_slice();
+    let from = from as usize;
+    let (node, to) = read(alloc, tokens, from, LIMIT)?;
+    let (_, deeper) = read(alloc, tokens, from, LIMIT + 1)?;
+    if to < deeper {
+        return Err(Stop::Broken(refusal(tokens, to, Rule::NestingTooDeep)));
+    }
+    match node {
+        Some(expr) => Ok((expr, to as u32)),
+        None => {
+            let rule = unexpected(tokens, to);
+            Err(Stop::Broken(refusal(tokens, to, rule)))
+        }
+    }
+}
+
+// The expression, if there is one, and the position at which what was read of it ends.
+fn read(
+    alloc: Global,
+    tokens: &[Token],
+    from: usize,
+    depth: u32,
+) -> Result<(Option<Expr>, usize), NoMemory>
+    requires { from ≤ length tokens.now }
+    ensures reads { IfOk result (λ p. Reads (Language.expression depth) tokens.now from p.0 p.1) }
+    ensures within { IfOk result (λ p. p.1 ≤ length tokens.now) }
+{
+    match expression(alloc, tokens, from, depth) {
+        Ok((found, to)) => {
+            let Measured { expr, height: _ } = found;
+            Ok((Some(expr), to))
+        }
+        Err(Halt::Unexpected(to)) => Ok((None, to)),
+        Err(Halt::NoMemory) => Err(NoMemory),
+    }
+}
+
+fn is_left_out(word: &Word) -> bool
+    ensures { result ≡ left_out word.now }
+{
+    match word {
+        Word::Reserved(reserved) => matches!(
+            *reserved,
+            17 | 21 | 29 | 31 | 50 | 55 | 68 | 75 | 78 | 87
+        ),
+        _ => false,
+    }
+}
+
+// The rule that the token at a position breaks by standing there.
+fn unexpected(tokens: &[Token], at: usize) -> Rule
+    ensures { result ≡ unexpected (drop at tokens.now) }
+{
+    match tokens.get(at) {
+        Some(token) => {
+            if is_left_out(&token.what) {
+                Rule::FormLeftOut
+            } else {
+                Rule::UnexpectedToken
+            }
+        }
+        None => Rule::UnexpectedToken,
+    }
+}
+
+// The rule broken at the token at a position, or directly after the last token.
+fn refusal(tokens: &[Token], at: usize, rule: Rule) -> Refusal
+    requires some { 0 < length tokens.now }
+    requires within { at ≤ length tokens.now }
+    ensures rule { result.rule ≡ rule }
+    ensures other { result.other ≡ None }
+    ensures place { BeginsAt (take at tokens.now) (drop at tokens.now) result.place }
+{
+    let place = match tokens.get(at) {
+        Some(token) => token.at.first,
+        None => tokens[tokens.len() - 1].at.past,
+    };
+    Refusal {
+        rule,
+        place,
+        other: None,
+    }
+}
+
+/// A token list spells at most one expression.
+pub fn one_expr()
+    ensures { (w : List Token) (x y : Expr) → Spells kind (Language.expression limit) w x → Spells kind (Language.expression limit) w y → x ≡ y }
+{}
