@@ -1,0 +1,9 @@
+//! An actor of a run: what it asks next, and what it makes of an entry.
+#![tactic(auto)]
+
+mod handlers;
+mod level;
+mod lists;
+mod sends;
+mod stack;
+mod view;
