@@ -1,17 +1,21 @@
 -- The frames of an actor by places in its trace and in the program.
-use Rattle.std.specs.Prelude.{◌≡◌, ℕ, suc, ◌+◌, ◌==◌, cond, List, [], ◌∷◌, ◌++◌, map, take, drop, reverse, Option, Some, None, option_map, option_and_then, option_to_list, unwrap_or, slice_get}
+use Rattle.std.specs.Prelude.{◌≡◌, ◌≤◌, ℕ, Bool, false, is_some, find, suc, ◌+◌, ◌==◌, cond, List, [], ◌∷◌, ◌++◌, map, take, drop, reverse, Option, Some, None, option_map, option_and_then, option_to_list, unwrap_or, slice_get}
 use Rattle.fp_base.specs.declared.value.Value.{Value, Opaque}
+use Rattle.fp_base.specs.Same.{same_text}
 use Rattle.fp_tables.specs.Lookup.{Described}
+use Rattle.fp_tables.specs.declared.machine.Named.{Named}
 use Rattle.fp_tables.specs.declared.component.Special.TheVariants as special
 use Rattle.fp_tables.specs.declared.program.Caller.{Caller}
 use Rattle.fp_tables.specs.declared.program.Program.{Program}
+use Rattle.fp_events.specs.declared.event.Point.{Point}
+use Rattle.fp_events.specs.declared.event.Point.TheVariants.{Signal}
 use Rattle.fp_events.specs.declared.event.What.{What}
 use Rattle.fp_events.specs.declared.event.What.TheVariants as what
 use Rattle.fp_events.specs.declared.event.Entry.{Entry}
 use Rattle.fp_events.specs.Lookup.{component}
 use Rattle.fp_events.specs.Actor.{Bindings, Action, act, send, advance, Doing, Opened, own, arrived, taken, Frame}
 use Rattle.fp_events.specs.Due.{first_action}
-use Rattle.fp_events.specs.Follows.{handling, returned, sends, performed, parameter_name, ok_note, doing, removed, name_for, bound_name, value_in}
+use Rattle.fp_events.specs.Follows.{handling, returned, sends, performed, parameter_name, ok_note, doing, removed, name_for, bound_name}
 use Rattle.fp_actor.specs.declared.lists.ActionList.{ActionList}
 use Rattle.fp_actor.specs.declared.lists.ActionList.TheVariants as listed
 use Rattle.fp_actor.specs.declared.lists.Deed.{Deed}
@@ -55,6 +59,33 @@ value_given (what.Leave (Some v)) = v
 value_given (what.Read param v) = v
 value_given _ = Opaque
 
+abbrev pub first_of : List Value → Option Value
+first_of [] = None
+first_of (v ∷ vs) = Some v
+
+abbrev pub signal_in : Point → List Value → Option Value
+signal_in (Signal running signal) with = first_of with
+signal_in _ with = None
+
+-- the value of the signal that an entry hands on
+abbrev pub signal_value : What → Option Value
+signal_value (what.Enter r) = signal_in r.point r.with
+signal_value (what.Guard r) = signal_in r.point r.with
+signal_value (what.Take number point with) = signal_in point with
+signal_value _ = None
+
+-- whether an action takes a value
+abbrev pub has_kind_at : Option Named → Bool
+has_kind_at None = false
+has_kind_at (Some x) = is_some x.kind
+
+-- a level's bindings are some of so many
+abbrev pub IsWithin : ℕ → Level → Type 0
+IsWithin n l = (l.first ≤ l.past) × (l.past ≤ n)
+
+abbrev pub AreWithin : ℕ → List Level → Type 0
+AreWithin n ls = (k : ℕ) (l : Level) → slice_get ls k ≡ Some l → IsWithin n l
+
 -- an entry that puts one list before its actor, if any
 abbrev pub IsOneList : What → Type 0
 IsOneList (what.Start running actions leaf) = ⊥
@@ -81,10 +112,6 @@ module _ (t : Described) (program : Program) where
   lists_of v i (what.Move running signal actions leaf) = performed t program i running actions v
   lists_of v i _ = []
 
-  -- the value of the signal that an entry hands on
-  abbrev pub signal_value : Entry → Option Value
-  signal_value e = value_in (first_action (lists_of None e.instance e.what))
-
   -- what is returned where no action returns anything
   abbrev pub default_of : ℕ → What → Option Value
   default_of i (what.Enter r) = returned t program i r.point
@@ -96,7 +123,7 @@ module _ (t : Described) (program : Program) (number : ℕ) (trace : List Entry)
   own_lists = unwrap_or (option_map (λ (c : Caller). record { actions = map act c.acts; bound = [] } ∷ []) (slice_get program.callers number)) []
 
   abbrev pub value_at : ℕ → Option Value
-  value_at n = option_and_then (signal_value t program) (slice_get trace n)
+  value_at n = option_and_then (λ (e : Entry). signal_value e.what) (slice_get trace n)
 
   -- an action, and a list of actions, as they are found
   abbrev pub action_of : Deed → Action
@@ -131,8 +158,11 @@ module _ (t : Described) (program : Program) (number : ℕ) (trace : List Entry)
   default_in source.Own = None
   default_in (source.Entry n m) = option_and_then (λ (e : Entry). default_of t program e.instance e.what) (slice_get trace n)
 
+  abbrev pub given_at : ℕ → Value
+  given_at n = unwrap_or (option_map (λ (e : Entry). value_given e.what) (slice_get trace n)) Opaque
+
   abbrev pub binding : Binding → List ℕ × Value
-  binding b = (bound_name t program (with_nothing b.name), unwrap_or (option_map (λ (e : Entry). value_given e.what) (slice_get trace b.value)) Opaque)
+  binding b = (bound_name t program (with_nothing b.name), given_at b.value)
 
   abbrev pub opened_in : Base → Source → Opened
   opened_in base.Inside from = own
@@ -154,6 +184,13 @@ module _ (t : Described) (program : Program) (number : ℕ) (trace : List Entry)
     -- the bindings made so far in the first of a level's lists, the latest first
     abbrev pub made : Level → Bindings
     made l = map binding (reverse (drop l.first (take l.past bindings)))
+
+    -- all bindings in it
+    abbrev pub bindings_of : Level → Bindings
+    bindings_of l = made l ++ bound_in l.next
+
+    abbrev pub named_value : Level → List ℕ → Value
+    named_value l name = unwrap_or (option_map (λ (b : List ℕ × Value). b.1) (find (λ (b : List ℕ × Value). same_text b.0 name) (bindings_of l))) Opaque
 
     -- what is left of a level's lists
     abbrev pub left : Level → List Doing
@@ -182,7 +219,7 @@ module _ (t : Described) (program : Program) (number : ℕ) (trace : List Entry)
       pub from : f.level ≡ settled level f.level.next
       pub source : f.level.next.source ≡ level.next.source
       pub action : action_at f.level.next ≡ Some (action_of f.deed)
-      pub first : first_action (doing (frames ls)) ≡ Some (action_of f.deed, made f.level ++ bound_in f.level.next)
+      pub first : first_action (doing (frames ls)) ≡ Some (action_of f.deed, bindings_of f.level)
       pub rest : frames (take f.below ls ++ advanced f.level ∷ []) ≡ removed (frames ls)
 
     -- the level that begins the innermost frame, with the number of levels below it

@@ -6,7 +6,7 @@ ghost use Rattle.fp_events.specs.Actor.{act};
 ghost use Rattle.fp_events.specs.Due.{first_action};
 ghost use Rattle.fp_events.specs.Follows.{handling as handling_of, performed, value_in};
 ghost use Rattle.fp_events.specs.declared.event.Entry.{Entry};
-ghost use Rattle.fp_actor.specs.Levels.{IsOneList, own_lists, lists_in, lists_of, value_at, sent, action_of, actions_of};
+ghost use Rattle.fp_actor.specs.Levels.{IsOneList, own_lists, lists_in, lists_of, value_at, signal_in, sent, action_of, actions_of};
 ghost use Rattle.fp_actor.specs.declared.level.Source.TheVariants as source;
 
 use crate::level::Source;
@@ -207,7 +207,7 @@ impl<'v> View<'v> {
     fn handling(&self, at: usize, instance: u32, point: Point) -> ActionList<'v>
         ensures { (with : List Value)
             → value_at self.now.tables.now self.now.program.now self.now.number self.now.trace.now at
-            ≡ value_in (first_action (handling_of self.now.tables.now self.now.program.now instance point with ∷ []))
+            ≡ signal_in point with
             → actions_of self.now.tables.now self.now.program.now self.now.number self.now.trace.now result
             ≡ (handling_of self.now.tables.now self.now.program.now instance point with).actions }
     {

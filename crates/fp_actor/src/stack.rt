@@ -102,12 +102,16 @@ impl<'v> View<'v> {
         let Some((level, below)) = levels.split_last() else {
             return None;
         };
+        let lowest = Bottom {
+            below: below.len(),
+            level: *level,
+        };
         match level.base {
-            Base::Inside if !below.is_empty() => self.bottom(below),
-            _ => Some(Bottom {
-                below: below.len(),
-                level: *level,
-            }),
+            Base::Inside => match self.bottom(below) {
+                Some(bottom) => Some(bottom),
+                None => Some(lowest),
+            },
+            _ => Some(lowest),
         }
     }
 }
