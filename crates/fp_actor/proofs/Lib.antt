@@ -7,3 +7,4 @@ pub mod Stacking
 pub mod Names
 pub mod Looking
 pub mod Dueness
+pub mod NextOf

@@ -86,6 +86,11 @@ IsWithin n l = (l.first ≤ l.past) × (l.past ≤ n)
 abbrev pub AreWithin : ℕ → List Level → Type 0
 AreWithin n ls = (k : ℕ) (l : Level) → slice_get ls k ≡ Some l → IsWithin n l
 
+-- a caller begins with its own list, and a dispatcher with nothing
+abbrev pub opening_of : Option Caller → List Level
+opening_of None = []
+opening_of (Some c) = record { base = base.Own; next = record { source = source.Own; list = 0; action = 0 }; first = 0; past = 0 } ∷ []
+
 -- an entry that puts one list before its actor, if any
 abbrev pub IsOneList : What → Type 0
 IsOneList (what.Start running actions leaf) = ⊥
