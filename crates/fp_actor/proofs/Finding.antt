@@ -1,5 +1,5 @@
 -- Lemmas on finding a handler by instance and place.
-use Rattle.std.proofs.Common.{◌≡◌, ℕ, Bool, true, false, ◌&&◌, eqb, ltb, cond, List, [], ◌∷◌, length, Option, Some, None, option_map, unwrap_or, refl, sym, ap, ◌∙◌, subst, arith}
+use Rattle.std.proofs.Common.{◌≡◌, ℕ, Bool, true, false, ◌&&◌, eqb, ltb, cond, List, length, Some, None, refl, sym, ap, ◌∙◌, arith}
 use Rattle.std.specs.List.{position, find, slice_get, position_or_len}
 use Rattle.std.specs.Option.{option_and_then}
 use Rattle.std.specs.BTreeMap.{is_at as is_key}

@@ -1,5 +1,5 @@
 -- The value of a name among bindings.
-use Rattle.std.proofs.Common.{◌≡◌, ℕ, zero, suc, Bool, true, false, cond, ◌&&◌, List, [], ◌∷◌, ◌++◌, map, Option, Some, None, Result, IfOk, is_some, option_map, unwrap_or, refl, sym, ap, ◌∙◌, subst}
+use Rattle.std.proofs.Common.{◌≡◌, ℕ, Bool, true, false, cond, ◌&&◌, List, [], ◌∷◌, ◌++◌, map, Option, Some, None, Result, IfOk, is_some, option_map, unwrap_or, refl, sym, ap, ◌∙◌, subst}
 use Rattle.std.specs.Prelude.{codes}
 use Rattle.std.specs.List.{find, slice_get}
 use Rattle.std.specs.Option.{option_or}

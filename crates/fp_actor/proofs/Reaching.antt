@@ -1,12 +1,9 @@
 -- The first action from a place on.
-use Rattle.std.proofs.Common.{◌≡◌, ℕ, zero, suc, ◌+◌, ◌≤◌, ◌<◌, Bool, true, false, cond, eqb, List, [], ◌∷◌, ◌++◌, length, drop, Option, Some, None, option_map, unwrap_or, refl, sym, ap, ◌∙◌, subst, arith, add-one}
+use Rattle.std.proofs.Common.{◌≡◌, ℕ, zero, suc, ◌+◌, ◌<◌, List, [], ◌∷◌, length, drop, Option, Some, None, option_map, unwrap_or, refl, sym, ap, ◌∙◌, arith, add-one}
 use Rattle.std.specs.List.{slice_get}
 use Rattle.std.specs.Option.{option_and_then}
-use Rattle.std.proofs.lemmas.Bool.Decides.{nat_tests}
-use Rattle.fp_events.specs.Actor.{Action, Bindings, Doing}
-use Rattle.fp_events.specs.Due.{first_action, first_in}
-use Rattle.fp_events.specs.Follows.{without_first, without_first_in}
-use Rattle.fp_actor.specs.Levels.{reached, begun}
+use Rattle.fp_events.specs.Actor.{Action, Doing}
+use Rattle.fp_actor.specs.Levels.{reached}
 
 abbrev actions_in : Option Doing → Option (List Action)
 actions_in o = option_map (λ (d : Doing). d.actions) o

@@ -1,10 +1,10 @@
 -- What the first action from a place on is to the lists that are left from there.
-use Rattle.std.proofs.Common.{◌≡◌, ℕ, zero, suc, ◌+◌, ◌≤◌, ◌<◌, Bool, true, false, cond, eqb, List, [], ◌∷◌, ◌++◌, length, drop, Option, Some, None, option_map, unwrap_or, refl, sym, ap, ◌∙◌, subst, arith, add-one}
+use Rattle.std.proofs.Common.{◌≡◌, ℕ, zero, suc, ◌+◌, ◌≤◌, ◌<◌, Bool, true, false, cond, eqb, List, [], ◌∷◌, ◌++◌, drop, Option, Some, None, option_map, unwrap_or, refl, sym, ap, ◌∙◌, subst, arith, add-one}
 use Rattle.std.specs.List.{slice_get}
 use Rattle.std.proofs.lemmas.Bool.Decides.{nat_tests}
 use Rattle.fp_events.specs.Actor.{Action, Bindings, Doing}
-use Rattle.fp_events.specs.Due.{first_action, first_in}
-use Rattle.fp_events.specs.Follows.{without_first, without_first_in}
+use Rattle.fp_events.specs.Due.{first_action}
+use Rattle.fp_events.specs.Follows.{without_first}
 use Rattle.fp_actor.specs.Levels.{reached, begun}
 
 drop_there : {A : Type 0} (xs : List A) (a : ℕ) (x : A) → slice_get xs a ≡ Some x → drop a xs ≡ x ∷ drop (suc a) xs
@@ -67,9 +67,10 @@ spent (d ∷ ds) old k a more e = go (spent ds old (suc k) 0 []) (slice_get d.ac
     go later (Some y) h e = absurd (cc)
     go later None h e =
         let rest = later e in
-        let plain : begun 0 [] ds ++ old ≡ ds ++ old = ap (λ (l : List Doing). l ++ old) (begun_nothing ds) in
-        (passed_first d (drop a d.actions) (more ++ d.bound) (ds ++ old) (drop_past d.actions a h) ∙ ap first_action (sym plain) ∙ rest.0,
-        passed_rest d (drop a d.actions) (more ++ d.bound) (ds ++ old) (drop_past d.actions a h) ∙ ap without_first (sym plain) ∙ rest.1)
+        let plain : begun 0 [] ds ++ old ≡ ds ++ old = ap (λ (l : List Doing). l ++ old) (begun_nothing ds) in (
+          passed_first d (drop a d.actions) (more ++ d.bound) (ds ++ old) (drop_past d.actions a h) ∙ ap first_action (sym plain) ∙ rest.0,
+          passed_rest d (drop a d.actions) (more ++ d.bound) (ds ++ old) (drop_past d.actions a h) ∙ ap without_first (sym plain) ∙ rest.1,
+        )
 
 pub record Settled (lists old : List Doing) (k : ℕ) (more : Bindings) (m a : ℕ) (x : Action) (now : List Doing) : Type 0 where
   pub d : Doing

@@ -1,5 +1,5 @@
 -- Sends from ports that have a wire.
-use Rattle.std.proofs.Common.{◌≡◌, ℕ, Bool, true, false, cond, List, [], ◌∷◌, ◌++◌, Option, Some, None, refl, ap, ◌∙◌}
+use Rattle.std.proofs.Common.{◌≡◌, ℕ, Bool, true, false, cond, List, [], ◌∷◌, ◌++◌, Option, Some, None, ap, ◌∙◌}
 use Rattle.std.specs.Option.{option_to_list}
 use Rattle.fp_tables.specs.declared.component.Special.{Special}
 use Rattle.fp_events.specs.Actor.{Action, send}

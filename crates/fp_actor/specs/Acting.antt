@@ -1,10 +1,10 @@
 -- An actor as its callers see it.
-use Rattle.std.specs.Prelude.{ℕ, Bool, true, false, cond, List, Option, Some, None}
+use Rattle.std.specs.Prelude.{ℕ, List, Option}
 use Rattle.fp_tables.specs.Lookup.{Described}
 use Rattle.fp_tables.specs.declared.program.Program.{Program}
 use Rattle.fp_events.specs.declared.event.Ask.{Ask}
 use Rattle.fp_events.specs.declared.event.Entry.{Entry}
-use Rattle.fp_events.specs.Actor.{ActorState, Thread}
+use Rattle.fp_events.specs.Actor.{ActorState}
 use Rattle.fp_events.specs.Due.{due}
 use Rattle.fp_system.specs.Run as system
 use Rattle.fp_events.specs.Step.{core}

@@ -1,5 +1,5 @@
 -- What an actor's fields keep.
-use Rattle.std.specs.Prelude.{◌≡◌, ℕ, true, List, length}
+use Rattle.std.specs.Prelude.{◌≡◌, true, length}
 use Rattle.std.specs.List.{list_all}
 use Rattle.fp_tables.specs.Positions.{component_is_short}
 use Rattle.fp_events.specs.Lookup.{home}

@@ -65,8 +65,12 @@ impl<'a> Actor<'a> {
     ) -> Result<Actor<'a>, NoMemory>
         requires { IsSoundFor tables.now.model (Some tables.now.topology) }
         ensures { IfOk result (λ actor. actor ≡ record {
-            tables = tables.now; program = program.now; number = number;
-            state = record { thread = opened_actor program.now number; last = 0 }; trace = [] }) }
+          tables = tables.now;
+          program = program.now;
+          number = number;
+          state = record { thread = opened_actor program.now number; last = 0 };
+          trace = [];
+        }) }
     {
         let handlers = Handlers::of(alloc, program.handlers.as_slice())?;
         let levels = opening_levels(alloc, program, number)?;
@@ -98,7 +102,12 @@ impl<'a> Actor<'a> {
             number: self.number,
             trace: self.trace.as_slice(),
         };
-        let due = view.due(alloc, self.home, self.levels.as_slice(), self.bindings.as_slice())?;
+        let due = view.due(
+            alloc,
+            self.home,
+            self.levels.as_slice(),
+            self.bindings.as_slice(),
+        )?;
         match due {
             Some((instance, ask)) => Ok(Next::Ask { instance, ask }),
             None => Ok(Next::AtEnd),

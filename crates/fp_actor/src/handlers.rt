@@ -95,10 +95,7 @@ fn ports_of(alloc: Global, handlers: &[Handler]) -> Result<BTreeMap<(u32, u32), 
     Ok(ports)
 }
 
-fn commands_of(
-    alloc: Global,
-    handlers: &[Handler],
-) -> Result<BTreeMap<(u32, u32), usize>, NoMemory>
+fn commands_of(alloc: Global, handlers: &[Handler]) -> Result<BTreeMap<(u32, u32), usize>, NoMemory>
     ensures { IfOk result (λ commands. FindsCommands handlers.now commands) }
 {
     let mut commands = BTreeMap::new(alloc);

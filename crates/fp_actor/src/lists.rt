@@ -143,12 +143,16 @@ impl<'v> View<'v> {
         let _ = value;
         match self.trace.get(at) {
             Some(entry) => match &entry.what {
-                What::Start { running, actions, .. } => {
-                    self.performed(entry.instance, *running, actions.as_slice(), list)
-                }
-                What::Move { running, actions, .. } => {
-                    self.performed(entry.instance, *running, actions.as_slice(), list)
-                }
+                What::Start {
+                    running,
+                    actions,
+                    ..
+                } => { self.performed(entry.instance, *running, actions.as_slice(), list) }
+                What::Move {
+                    running,
+                    actions,
+                    ..
+                } => { self.performed(entry.instance, *running, actions.as_slice(), list) }
                 _ => {
                     if list == 0 {
                         self.only_list(at, entry)

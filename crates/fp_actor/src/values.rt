@@ -296,12 +296,7 @@ impl<'v> View<'v> {
     }
 
     /// The value that a name has before any action of a list.
-    fn base_value(
-        &self,
-        alloc: Global,
-        at: Position,
-        name: &str,
-    ) -> Result<Option<Value>, NoMemory>
+    fn base_value(&self, alloc: Global, at: Position, name: &str) -> Result<Option<Value>, NoMemory>
         ensures { IfOk result (λ v. v ≡ option_map (λ b. b.1) (find (λ b. same_text b.0 name.now)
             (bound_in self.now.tables.now self.now.program.now self.now.number self.now.trace.now at))) }
     {
@@ -328,32 +323,38 @@ impl<'v> View<'v> {
         let instance = entry.instance;
         match &entry.what {
             What::Enter(arrival) => {
-                self.handled_value(alloc, instance, arrival.point, arrival.with.as_slice(), list, name)
+                self.handled_value(
+                    alloc,
+                    instance,
+                    arrival.point,
+                    arrival.with.as_slice(),
+                    list,
+                    name,
+                )
             }
             What::Guard(arrival) => {
-                self.handled_value(alloc, instance, arrival.point, arrival.with.as_slice(), list, name)
+                self.handled_value(
+                    alloc,
+                    instance,
+                    arrival.point,
+                    arrival.with.as_slice(),
+                    list,
+                    name,
+                )
             }
             What::Take { point, with, .. } => {
                 self.handled_value(alloc, instance, *point, with.as_slice(), list, name)
             }
-            What::Start { running, actions, .. } => self.performed_value(
-                alloc,
-                instance,
-                *running,
+            What::Start {
+                running,
                 actions,
-                value,
-                list,
-                name,
-            ),
-            What::Move { running, actions, .. } => self.performed_value(
-                alloc,
-                instance,
-                *running,
+                ..
+            } => self.performed_value(alloc, instance, *running, actions, value, list, name),
+            What::Move {
+                running,
                 actions,
-                value,
-                list,
-                name,
-            ),
+                ..
+            } => self.performed_value(alloc, instance, *running, actions, value, list, name),
             _ => Ok(None),
         }
     }

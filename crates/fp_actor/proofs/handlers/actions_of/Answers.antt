@@ -1,5 +1,4 @@
-use Rattle.std.proofs.Common.{◌≡◌, ◌∙◌, ap, sym, subst, ℕ, Bool, Some, None, true, false, is_some, get_or, take, BTreeMap, refl, ◌==◌}
-use Rattle.std.specs.List.{position}
+use Rattle.std.proofs.Common.{◌≡◌, ◌∙◌, ap, sym, subst, ℕ, Bool, None, true, is_some, BTreeMap, refl, ◌==◌}
 use Rattle.std.specs.BTreeMap.{get_by, is_at as is_key}
 use Rattle.fp_tables.specs.declared.program.Handler.{Handler}
 use Rattle.fp_tables.specs.declared.program.Spot.TheVariants as spot

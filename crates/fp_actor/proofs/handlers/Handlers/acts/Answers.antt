@@ -1,7 +1,7 @@
-use Rattle.std.proofs.Common.{◌≡◌, ◌∙◌, ap, sym, Some, None, [], List, Option, option_map, unwrap_or}
+use Rattle.std.proofs.Common.{◌∙◌, ap, sym, [], List, Option, option_map, unwrap_or}
 use Rattle.fp_tables.specs.declared.program.Handler.{Handler}
 use Rattle.fp_tables.specs.declared.program.Act.{Act}
-use Rattle.fp_actor.specs.Found.{handler_in, is_at}
+use Rattle.fp_actor.specs.Found.{is_at}
 use Rattle.fp_actor.proofs.Finding.{found_none, found_some}
 use Rattle.fp_actor.proofs.handlers.Handlers.acts.Goals as goal
 

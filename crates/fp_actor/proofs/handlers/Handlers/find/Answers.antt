@@ -1,4 +1,4 @@
-use Rattle.std.proofs.Common.{◌≡◌, ◌∙◌}
+use Rattle.std.proofs.Common.{◌∙◌}
 use Rattle.fp_actor.proofs.handlers.Handlers.find.Goals as goal
 
 pub returns-in-Port : goal.returns-in-Port

@@ -1,4 +1,4 @@
-use Rattle.std.proofs.Common.{sym, None}
+use Rattle.std.proofs.Common.{sym}
 use Rattle.fp_actor.proofs.Stacking.{first_here, carried, none_here}
 use Rattle.fp_actor.proofs.view.View.+first.Goals as goal
 

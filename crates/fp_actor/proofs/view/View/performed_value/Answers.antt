@@ -1,4 +1,4 @@
-use Rattle.std.proofs.Common.{Bool, Option, None, cond, ◌&&◌, ap, sym, ◌∙◌}
+use Rattle.std.proofs.Common.{Bool, None, cond, ◌&&◌, ap, ◌∙◌}
 use Rattle.std.specs.Prelude.{codes}
 use Rattle.fp_base.specs.Same.{same_text}
 use Rattle.fp_actor.specs.Levels.{value_at}

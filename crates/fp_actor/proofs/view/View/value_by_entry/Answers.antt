@@ -14,4 +14,3 @@ returns-in-Start c = rw c.in-Start.is c.performed_value.ensures
 
 pub returns-in-Move : goal.returns-in-Move
 returns-in-Move c = rw c.in-Move.is c.performed_value-in-Move.ensures
-
