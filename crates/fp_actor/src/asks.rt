@@ -12,6 +12,7 @@ ghost use Rattle.fp_actor.specs.Levels.{default_of, default_in, instance_of, ope
 
 use crate::level::{Base, Source};
 use crate::sends::component;
+use crate::values::bind_of;
 use crate::view::View;
 use fp_base::{NoMemory, Row, Text, Value};
 use fp_events::{Arrival, Ask, Entry, Origin, Point, What};
@@ -193,15 +194,6 @@ pub fn caller_asks(act: &Act, with: Row<Value>) -> Option<(u32, Ask)>
         }
         Verb::Command => arrives(to.instance, Point::Command(act.name), Origin::Caller, with),
         _ => None,
-    }
-}
-
-fn bind_of(act: &Act) -> &str
-    ensures { result.now ≡ unwrap_or act.now.bind [] }
-{
-    match &act.bind {
-        Some(name) => name.as_str(),
-        None => "",
     }
 }
 

@@ -114,7 +114,7 @@ impl<'v> View<'v> {
     {
         match source {
             Source::Own => self.own_list(list),
-            Source::Entry { entry, value } => self.list_of(entry, value, list),
+            Source::Entry { entry, .. } => self.list_of(entry, list),
         }
     }
 
@@ -135,12 +135,11 @@ impl<'v> View<'v> {
         }
     }
 
-    fn list_of(&self, at: usize, value: usize, list: usize) -> Option<ActionList<'v>>
-        ensures value { option_map (actions_of self.now.tables.now self.now.program.now self.now.number self.now.trace.now) result
+    fn list_of(&self, at: usize, list: usize) -> Option<ActionList<'v>>
+        ensures value { (value : ℕ) → option_map (actions_of self.now.tables.now self.now.program.now self.now.number self.now.trace.now) result
             ≡ option_map (λ d. d.actions) (slice_get (lists_in self.now.tables.now self.now.program.now self.now.number self.now.trace.now (source.Entry at value)) list) }
         ensures few { OnSome result (list + 1 < 2 ^ 64) }
     {
-        let _ = value;
         match self.trace.get(at) {
             Some(entry) => match &entry.what {
                 What::Start {

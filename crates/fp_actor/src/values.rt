@@ -30,7 +30,8 @@ fn same_name(left: &str, right: &str) -> bool
     is_same(left, right)
 }
 
-fn bind_of(act: &Act) -> &str
+/// The name that an action binds, or its identifier.
+pub fn bind_of(act: &Act) -> &str
     ensures { result.now ≡ unwrap_or act.now.bind [] }
 {
     match &act.bind {
