@@ -8,3 +8,4 @@ pub mod Names
 pub mod Looking
 pub mod Dueness
 pub mod NextOf
+pub mod Following

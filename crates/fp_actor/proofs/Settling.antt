@@ -24,7 +24,7 @@ there_of [] (suc k) y ys e = absurd (cc)
 there_of (x ∷ xs) zero y ys e = (cc, cc)
 there_of (x ∷ xs) (suc k) y ys e = there_of xs k y ys e
 
-begun_nothing : (ds : List Doing) → begun 0 [] ds ≡ ds
+pub begun_nothing : (ds : List Doing) → begun 0 [] ds ≡ ds
 begun_nothing [] = refl
 begun_nothing (d ∷ ds) = refl
 

@@ -1,5 +1,5 @@
 -- The frames of levels, one level at a time.
-use Rattle.std.proofs.Common.{◌≡◌, ℕ, zero, suc, ◌+◌, ◌≤◌, ◌<◌, Bool, true, false, cond, eqb, List, [], ◌∷◌, ◌++◌, length, map, reverse, drop, take, Option, Some, None, option_map, unwrap_or, refl, sym, ap, ◌∙◌, subst, arith}
+use Rattle.std.proofs.Common.{◌≡◌, ◌^◌, ℕ, zero, suc, ◌+◌, ◌≤◌, ◌<◌, Bool, true, false, cond, eqb, List, [], ◌∷◌, ◌++◌, length, map, reverse, drop, take, Option, Some, None, option_map, unwrap_or, refl, sym, ap, ◌∙◌, subst, arith}
 use Rattle.std.specs.List.{slice_get}
 use Rattle.std.specs.Option.{option_and_then, MatchOption}
 use Rattle.std.proofs.lemmas.List.{append-nil, take-append-le}
@@ -22,7 +22,7 @@ use Rattle.fp_actor.specs.declared.stack.Bottom.{Bottom}
 use Rattle.fp_actor.specs.Levels.{reached, begun, settled, advanced, lists_in, action_at, action_of, bound_in, binding, made, left, over, stacked, frames, framed, IsFirst, IsBottom}
 use Rattle.fp_actor.proofs.Settling.{Settled, settle, spent}
 
-drop_all : {A : Type 0} (n : ℕ) (xs : List A) → drop n (take n xs) ≡ []
+pub drop_all : {A : Type 0} (n : ℕ) (xs : List A) → drop n (take n xs) ≡ []
 drop_all zero [] = refl
 drop_all zero (x ∷ xs) = refl
 drop_all (suc n) [] = refl
@@ -128,10 +128,10 @@ module _ (t : Described) (program : Program) (number : ℕ) (trace : List Entry)
       }
 
   -- the level above some gives the first action
-  pub first_here : (xs : List Level) (l : Level) (p : Position) (d : Deed) → p.source ≡ l.next.source →
+  pub first_here : (xs : List Level) (l : Level) (p : Position) (d : Deed) → p.action + 1 < 2 ^ 64 → p.source ≡ l.next.source →
       reached (drop l.next.list (lists l)) l.next.list l.next.action ≡ Some (p.list, p.action, action_of t program number trace d) →
       IsFirst t program number trace bindings (xs ++ l ∷ []) (record { below = length xs; level = settled l p; deed = d })
-  first_here xs l p d s e =
+  first_here xs l p d few s e =
       let q : Position = record { source = l.next.source; list = p.list; action = p.action } in
       let same : q ≡ p = λ j. record { source = sym s j; list = p.list; action = p.action } in
       subst (λ (z : Position). IsFirst t program number trace bindings (xs ++ l ∷ []) (record { below = length xs; level = settled l z; deed = d })) same
@@ -143,6 +143,7 @@ module _ (t : Described) (program : Program) (number : ℕ) (trace : List Entry)
         there = at_end xs l;
         from = refl;
         source = refl;
+        few = few;
         action = here.place;
         first = ap (λ (gs : List Frame). first_action (doing gs)) (snoc [] xs l) ∙ here.first;
         rest =
@@ -177,6 +178,7 @@ module _ (t : Described) (program : Program) (number : ℕ) (trace : List Entry)
           there = in_front xs (l ∷ []) f.below i.level i.there;
           from = i.from;
           source = i.source;
+          few = i.few;
           action = i.action;
           first = ap (λ (gs : List Frame). first_action (doing gs)) whole ∙ below_first under ∙ i.first;
           rest =

@@ -1,5 +1,5 @@
 -- The frames of an actor by places in its trace and in the program.
-use Rattle.std.specs.Prelude.{◌≡◌, ◌≤◌, ℕ, Bool, false, is_some, find, suc, ◌+◌, ◌==◌, cond, List, [], ◌∷◌, ◌++◌, map, take, drop, reverse, Option, Some, None, option_map, option_and_then, option_to_list, unwrap_or, slice_get}
+use Rattle.std.specs.Prelude.{◌≡◌, ◌≤◌, ◌<◌, ◌^◌, ℕ, Bool, false, is_some, find, suc, ◌+◌, ◌==◌, cond, List, [], ◌∷◌, ◌++◌, map, take, drop, reverse, Option, Some, None, option_map, option_and_then, option_to_list, unwrap_or, slice_get}
 use Rattle.fp_base.specs.declared.value.Value.{Value, Opaque}
 use Rattle.fp_base.specs.Same.{same_text}
 use Rattle.fp_tables.specs.Lookup.{Described}
@@ -9,6 +9,7 @@ use Rattle.fp_tables.specs.declared.program.Caller.{Caller}
 use Rattle.fp_tables.specs.declared.program.Program.{Program}
 use Rattle.fp_events.specs.declared.event.Point.{Point}
 use Rattle.fp_events.specs.declared.event.Point.TheVariants.{Signal}
+use Rattle.fp_events.specs.declared.event.Fate.TheVariants.{Sent}
 use Rattle.fp_events.specs.declared.event.What.{What}
 use Rattle.fp_events.specs.declared.event.What.TheVariants as what
 use Rattle.fp_events.specs.declared.event.Entry.{Entry}
@@ -90,6 +91,36 @@ AreWithin n ls = (k : ℕ) (l : Level) → slice_get ls k ≡ Some l → IsWithi
 abbrev pub opening_of : Option Caller → List Level
 opening_of None = []
 opening_of (Some c) = record { base = base.Own; next = record { source = source.Own; list = 0; action = 0 }; first = 0; past = 0 } ∷ []
+
+-- the level of the entry at n, a signal's value being that of the entry at v
+abbrev pub level_of_entry : Base → ℕ → ℕ → ℕ → Level
+level_of_entry b n v past = record { base = b; next = record { source = source.Entry n v; list = 0; action = 0 }; first = past; past = past }
+
+-- an entry of an arrival that opens a frame
+abbrev pub IsOpening : What → Type 0
+IsOpening (what.Enter r) = Unit {0}
+IsOpening (what.Guard r) = Unit {0}
+IsOpening (what.Set r) = Unit {0}
+IsOpening (what.Save r value) = Unit {0}
+IsOpening _ = ⊥
+
+-- an entry that removes an action and does nothing else
+abbrev pub IsRemoving : What → Type 0
+IsRemoving (what.Put number r) = Unit {0}
+IsRemoving (what.Dropped r) = Unit {0}
+IsRemoving (what.Hooked r) = Unit {0}
+IsRemoving what.Empty = Unit {0}
+IsRemoving _ = ⊥
+
+abbrev pub IsTaking : What → Type 0
+IsTaking (what.Take number point with) = Unit {0}
+IsTaking _ = ⊥
+
+-- an emission or a write that was sent
+abbrev pub IsSending : What → Type 0
+IsSending (what.Emit event Sent text) = Unit {0}
+IsSending (what.Write channel Sent value) = Unit {0}
+IsSending _ = ⊥
 
 -- an entry that puts one list before its actor, if any
 abbrev pub IsOneList : What → Type 0
@@ -223,6 +254,7 @@ module _ (t : Described) (program : Program) (number : ℕ) (trace : List Entry)
       pub there : slice_get ls f.below ≡ Some level
       pub from : f.level ≡ settled level f.level.next
       pub source : f.level.next.source ≡ level.next.source
+      pub few : f.level.next.action + 1 < 2 ^ 64
       pub action : action_at f.level.next ≡ Some (action_of f.deed)
       pub first : first_action (doing (frames ls)) ≡ Some (action_of f.deed, bindings_of f.level)
       pub rest : frames (take f.below ls ++ advanced f.level ∷ []) ≡ removed (frames ls)

@@ -4,6 +4,7 @@
 mod actor;
 mod asks;
 mod due;
+mod follow;
 mod handlers;
 mod home;
 mod level;

@@ -48,7 +48,8 @@ pub enum Deed<'v> {
 
 impl<'v> ActionList<'v> {
     pub fn get(&self, at: usize) -> Option<Deed<'v>>
-        ensures { (t : Described) (program : Program) (n : ℕ) (trace : List Entry)
+        ensures few { OnSome result (at + 1 < 2 ^ 64) }
+        ensures value { (t : Described) (program : Program) (n : ℕ) (trace : List Entry)
             → option_map (action_of t program n trace) result ≡ slice_get (actions_of t program n trace self.now) at }
     {
         match self {
@@ -74,12 +75,14 @@ impl<'v> ActionList<'v> {
 }
 
 fn get_act(acts: &[Act], at: usize) -> Option<Deed<'_>>
-    ensures { (t : Described) (program : Program) (n : ℕ) (trace : List Entry)
+    ensures few { OnSome result (at + 1 < 2 ^ 64) }
+    ensures value { (t : Described) (program : Program) (n : ℕ) (trace : List Entry)
         → option_map (action_of t program n trace) result ≡ slice_get (map act acts.now) at }
 {
-    match acts.get(at) {
-        Some(found) => Some(Deed::Act(found)),
-        None => None,
+    if at < acts.len() {
+        Some(Deed::Act(&acts[at]))
+    } else {
+        None
     }
 }
 
@@ -88,7 +91,8 @@ fn get_send<'v>(
     second: Option<Sending<'v>>,
     at: usize,
 ) -> Option<Deed<'v>>
-    ensures { (t : Described) (program : Program) (n : ℕ) (trace : List Entry)
+    ensures few { OnSome result (at + 1 < 2 ^ 64) }
+    ensures value { (t : Described) (program : Program) (n : ℕ) (trace : List Entry)
         → option_map (action_of t program n trace) result
         ≡ slice_get (option_to_list (option_map sent first.entry) ++ option_to_list (option_map sent second.entry)) at }
 {

@@ -1,4 +1,4 @@
-ghost use Rattle.std.specs.Prelude.{◌≡◌, None, List, [], drop, option_map, MatchOption, IfSome};
+ghost use Rattle.std.specs.Prelude.{◌≡◌, ◌<◌, ◌+◌, ◌^◌, None, List, [], drop, option_map, MatchOption, IfSome};
 ghost use Rattle.fp_events.specs.Due.{first_action};
 ghost use Rattle.fp_events.specs.Follows.{doing};
 ghost use Rattle.fp_actor.specs.declared.level.Binding.{Binding};
@@ -52,6 +52,7 @@ impl<'v> View<'v> {
         ensures value { option_map (found self.now.tables.now self.now.program.now self.now.number self.now.trace.now) result
             ≡ reached (drop next.list (lists_in self.now.tables.now self.now.program.now self.now.number self.now.trace.now next.source)) next.list next.action }
         ensures source { IfSome result (λ r. r.at.source ≡ next.source) }
+        ensures few { IfSome result (λ r. r.at.action + 1 < 2 ^ 64) }
     {
         let source = next.source;
         let mut list = next.list;

@@ -7,7 +7,7 @@ returns-in-Some-reach t c = λ bindings.
     let v = c.args.self.now in
     rw (c.in-Some.ensures.cases.0, c.settled.ensures)
     (first_here v.tables.now v.program.now v.number v.trace.now bindings c.in-Some.below.now c.in-Some.level.now c.in-Some-reach.reached.at c.in-Some-reach.reached.deed
-    c.in-Some-reach.ensures.source (sym c.in-Some-reach.ensures.value))
+    c.in-Some-reach.ensures.few c.in-Some-reach.ensures.source (sym c.in-Some-reach.ensures.value))
 
 pub returns-in-Inside : goal.returns-in-Inside
 returns-in-Inside t c = λ bindings.

@@ -5,4 +5,4 @@ use Rattle.fp_actor.proofs.view.View.deed.Goals as goal
 pub returns-in-Some : goal.returns-in-Some
 returns-in-Some c =
     let v = c.args.self.now in
-    c.get.ensures v.tables.now v.program.now v.number v.trace.now ∙ listed _ _ c.args.at.action c.in-Some.ensures.value
+    c.get.ensures.value v.tables.now v.program.now v.number v.trace.now ∙ listed _ _ c.args.at.action c.in-Some.ensures.value

@@ -7,7 +7,7 @@ pub returns-in-Some-get-clause-value : goal.returns-in-Some-get-clause-value
 returns-in-Some-get-clause-value c =
     let v = c.args.self.now in
     let lists = lists_in v.tables.now v.program.now v.number v.trace.now c.args.next.source in
-    sym (here lists c.loop-list.list c.loop-list.list c.loop-list.action _ _ c.in-Some.ensures.value (sym (c.in-Some-get.ensures v.tables.now v.program.now v.number v.trace.now)))
+    sym (here lists c.loop-list.list c.loop-list.list c.loop-list.action _ _ c.in-Some.ensures.value (sym (c.in-Some-get.ensures.value v.tables.now v.program.now v.number v.trace.now)))
     ∙ c.loop-list.invariant
 
 pub loop-list-smaller : goal.loop-list-smaller
@@ -23,7 +23,7 @@ loop-list-preserved c =
     let v = c.args.self.now in
     let lists = lists_in v.tables.now v.program.now v.number v.trace.now c.args.next.source in
     let none = not_some c.get.result c.in_default-get.not-Some in
-    let end = mapped_none (action_of v.tables.now v.program.now v.number v.trace.now) c.get.result _ (c.get.ensures v.tables.now v.program.now v.number v.trace.now) none in
+    let end = mapped_none (action_of v.tables.now v.program.now v.number v.trace.now) c.get.result _ (c.get.ensures.value v.tables.now v.program.now v.number v.trace.now) none in
     sym (onward_one lists c.loop-list.list c.loop-list.action _ c.in-Some.ensures.value end) ∙ c.loop-list.invariant
 
 pub returns-clause-value : goal.returns-clause-value
