@@ -11,15 +11,17 @@ use Rattle.fp_events.specs.declared.event.What.{What}
 use Rattle.fp_events.specs.declared.event.What.TheVariants as what
 use Rattle.fp_events.specs.Actor.{Action, act, send, advance, Bindings, Doing, Opened, arrived, taken, Frame, Thread}
 use Rattle.fp_events.specs.Due.{first_action}
-use Rattle.fp_events.specs.Follows.{doing, removed, replaced, without_first, name_for, follows}
+use Rattle.fp_events.specs.Follows.{doing, in_frame, performed, value_in, removed, replaced, without_first, name_for, follows}
 use Rattle.fp_actor.specs.declared.level.Source.TheVariants as source
 use Rattle.fp_actor.specs.declared.level.Position.{Position}
 use Rattle.fp_actor.specs.declared.level.Base.{Base}
 use Rattle.fp_actor.specs.declared.level.Base.TheVariants as base
 use Rattle.fp_actor.specs.declared.level.Level.{Level}
 use Rattle.fp_actor.specs.declared.level.Binding.{Binding}
+use Rattle.fp_actor.specs.declared.lists.Deed.{Deed}
+use Rattle.fp_actor.specs.declared.lists.Deed.TheVariants as deed
 use Rattle.fp_actor.specs.declared.stack.First.{First}
-use Rattle.fp_actor.specs.Levels.{begun, advanced, action_of, bindings_of, lists_of, lists_in, value_at, default_of, default_in, instance_of, opened_in, called, action_at, with_nothing, binding, made, left, over, framed, frames, stacked, IsFirst, level_of_entry, IsOpening, IsRemoving, IsTaking, IsSending}
+use Rattle.fp_actor.specs.Levels.{begun, advanced, action_of, bindings_of, lists_of, lists_in, value_at, default_of, default_in, instance_of, opened_in, called, action_at, with_nothing, binding, made, left, over, framed, frames, stacked, IsFirst, level_of_entry, IsOpening, IsRemoving, IsTaking, IsSending, IsStarting, IsMoving, IsAdvance}
 use Rattle.fp_actor.proofs.Settling.{begun_nothing}
 use Rattle.fp_actor.proofs.Stacking.{snoc, drop_all}
 
@@ -122,6 +124,83 @@ module _ (t : Described) (program : Program) (number : ℕ) (trace : List Entry)
     sending_follows xs x y o some h =
         snoc t program number trace bindings [] xs (level_of_entry base.Inside n v b) ∙ ap (over t program number trace bindings base.Inside (level_of_entry base.Inside n v b)) h
         ∙ placed_over (lists_of t program (value_at t program number trace v) e.instance e.what) x.frames y (level_of_entry base.Inside n v b) some (left_there base.Inside) ∙ sending x e.what o
+
+    start_same : (running : ℕ) (actions : List ℕ) (y : Option Value) (fs : List Frame) → value_in (first_action (doing fs)) ≡ y →
+        in_frame (λ old. performed t program e.instance running actions y ++ old) fs ≡ in_frame (λ old. performed t program e.instance running actions (value_in (first_action old)) ++ old) fs
+    start_same running actions y [] h = refl
+    start_same running actions y (f ∷ fs) h = ap (λ (o : Option Value). record f { doing = performed t program e.instance running actions o ++ f.doing } ∷ fs) (sym h)
+
+    move_same : (running : ℕ) (actions : List ℕ) (y : Option Value) (fs : List Frame) → value_in (first_action (doing fs)) ≡ y →
+        replaced (performed t program e.instance running actions y) fs ≡ in_frame (λ old. performed t program e.instance running actions (value_in (first_action old)) ++ without_first old) fs
+    move_same running actions y [] h = refl
+    move_same running actions y (f ∷ fs) h = ap (λ (o : Option Value). record f { doing = performed t program e.instance running actions o ++ without_first f.doing } ∷ fs) (sym h)
+
+    starting : (x : Thread) (w : What) → IsStarting w → value_in (first_action (doing x.frames)) ≡ value_at t program number trace v →
+        in_frame (λ old. lists_of t program (value_at t program number trace v) e.instance w ++ old) x.frames ≡ (follows t program e.instance x w).frames
+    unfolding follows
+    starting x (what.Start running actions leaf) o h = start_same running actions (value_at t program number trace v) x.frames h
+    starting x (what.Move running signal actions leaf) o h = absurd o
+    starting x (what.Emit event fate text) o h = absurd o
+    starting x (what.Write channel fate y) o h = absurd o
+    starting x (what.Take k point with) o h = absurd o
+    starting x (what.Enter r) o h = absurd o
+    starting x (what.Guard r) o h = absurd o
+    starting x (what.Set r) o h = absurd o
+    starting x (what.Save r value) o h = absurd o
+    starting x (what.Put k r) o h = absurd o
+    starting x (what.Dropped r) o h = absurd o
+    starting x (what.Hooked r) o h = absurd o
+    starting x (what.Asserted r) o h = absurd o
+    starting x (what.Leave y) o h = absurd o
+    starting x what.Done o h = absurd o
+    starting x what.Empty o h = absurd o
+    starting x (what.Read param y) o h = absurd o
+
+    moving : (x : Thread) (w : What) → IsMoving w → value_in (first_action (doing x.frames)) ≡ value_at t program number trace v →
+        replaced (lists_of t program (value_at t program number trace v) e.instance w) x.frames ≡ (follows t program e.instance x w).frames
+    unfolding follows
+    moving x (what.Move running signal actions leaf) o h = move_same running actions (value_at t program number trace v) x.frames h
+    moving x (what.Start running actions leaf) o h = absurd o
+    moving x (what.Emit event fate text) o h = absurd o
+    moving x (what.Write channel fate y) o h = absurd o
+    moving x (what.Take k point with) o h = absurd o
+    moving x (what.Enter r) o h = absurd o
+    moving x (what.Guard r) o h = absurd o
+    moving x (what.Set r) o h = absurd o
+    moving x (what.Save r value) o h = absurd o
+    moving x (what.Put k r) o h = absurd o
+    moving x (what.Dropped r) o h = absurd o
+    moving x (what.Hooked r) o h = absurd o
+    moving x (what.Asserted r) o h = absurd o
+    moving x (what.Leave y) o h = absurd o
+    moving x what.Done o h = absurd o
+    moving x what.Empty o h = absurd o
+    moving x (what.Read param y) o h = absurd o
+
+    placed_before : (ds : List Doing) (fs : List Frame) (y : Action × Bindings) (l : Level) → first_action (doing fs) ≡ Some y → left t program number trace bindings l ≡ ds →
+        over t program number trace bindings base.Inside l fs ≡ in_frame (λ old. ds ++ old) fs
+    placed_before ds [] y l h e = absurd (cc)
+    placed_before ds (f ∷ fs) y l h e = ap (λ (cs : List Doing). record f { doing = cs ++ f.doing } ∷ fs) e
+
+    value_there : (d : Deed) (bs : Bindings) (fs : List Frame) → IsAdvance d v → first_action (doing fs) ≡ Some (action_of t program number trace d, bs) →
+        value_in (first_action (doing fs)) ≡ value_at t program number trace v
+    value_there (deed.Advance r s m) bs fs same h = ap value_in h ∙ ap (value_at t program number trace) same
+    value_there (deed.Act a) bs fs same h = absurd same
+    value_there (deed.Send s) bs fs same h = absurd same
+
+    pub starting_follows : (ls : List Level) (x : Thread) (d : Deed) (bs : Bindings) → IsStarting e.what → IsAdvance d v → first_action (doing x.frames) ≡ Some (action_of t program number trace d, bs) →
+        frames t program number trace bindings ls ≡ x.frames → frames t program number trace bindings (ls ++ level_of_entry base.Inside n v b ∷ []) ≡ (follows t program e.instance x e.what).frames
+    starting_follows ls x d bs o is first h =
+        snoc t program number trace bindings [] ls (level_of_entry base.Inside n v b) ∙ ap (over t program number trace bindings base.Inside (level_of_entry base.Inside n v b)) h
+        ∙ placed_before (lists_of t program (value_at t program number trace v) e.instance e.what) x.frames _ (level_of_entry base.Inside n v b) first (left_there base.Inside)
+        ∙ starting x e.what o (value_there d bs x.frames is first)
+
+    pub moving_follows : (ls : List Level) (x : Thread) (d : Deed) (bs : Bindings) → IsMoving e.what → IsAdvance d v → first_action (doing x.frames) ≡ Some (action_of t program number trace d, bs) →
+        frames t program number trace bindings ls ≡ removed x.frames → frames t program number trace bindings (ls ++ level_of_entry base.Inside n v b ∷ []) ≡ (follows t program e.instance x e.what).frames
+    moving_follows ls x d bs o is first h =
+        snoc t program number trace bindings [] ls (level_of_entry base.Inside n v b) ∙ ap (over t program number trace bindings base.Inside (level_of_entry base.Inside n v b)) h
+        ∙ placed_over (lists_of t program (value_at t program number trace v) e.instance e.what) x.frames _ (level_of_entry base.Inside n v b) first (left_there base.Inside)
+        ∙ moving x e.what o (value_there d bs x.frames is first)
 
   module _ (ls : List Level) (f : First) (i : IsFirst t program number trace bindings ls f) where
     name_there : called t program number trace (Some f.level.next) ≡ name_for (first_action (doing (frames t program number trace bindings ls)))

@@ -122,6 +122,19 @@ IsSending (what.Emit event Sent text) = Unit {0}
 IsSending (what.Write channel Sent value) = Unit {0}
 IsSending _ = ⊥
 
+abbrev pub IsStarting : What → Type 0
+IsStarting (what.Start running actions leaf) = Unit {0}
+IsStarting _ = ⊥
+
+abbrev pub IsMoving : What → Type 0
+IsMoving (what.Move running signal actions leaf) = Unit {0}
+IsMoving _ = ⊥
+
+-- an advance whose signal's value the entry at n has
+abbrev pub IsAdvance : Deed → ℕ → Type 0
+IsAdvance (deed.Advance running signal value) n = value ≡ n
+IsAdvance _ n = ⊥
+
 -- an entry that puts one list before its actor, if any
 abbrev pub IsOneList : What → Type 0
 IsOneList (what.Start running actions leaf) = ⊥

@@ -3,7 +3,7 @@ ghost use Rattle.fp_events.specs.Actor.{Frame, Thread};
 ghost use Rattle.fp_events.specs.Follows.{follows};
 ghost use Rattle.fp_events.specs.declared.event.Entry.{Entry};
 ghost use Rattle.fp_actor.specs.declared.level.Binding.{Binding};
-ghost use Rattle.fp_actor.specs.Levels.{advanced, frames, level_of_entry, IsFirst, IsOpening, IsRemoving, IsSending, IsTaking, IsBottom};
+ghost use Rattle.fp_actor.specs.Levels.{advanced, frames, level_of_entry, IsFirst, IsOpening, IsRemoving, IsSending, IsTaking, IsStarting, IsMoving, IsAdvance, IsBottom};
 
 use crate::level::{Base, Level, Position, Source};
 use crate::stack::{Bottom, First};
@@ -131,5 +131,51 @@ impl<'v> View<'v> {
             → frames self.now.tables.now self.now.program.now self.now.number self.now.trace.now bindings levels.old.items ≡ f ∷ rest → frames self.now.tables.now self.now.program.now self.now.number self.now.trace.now bindings levels.new.items ≡ rest }
     {
         levels.truncate(bottom.below);
+    }
+
+    /// What a start makes of the levels: the lists of its actions stand before the advance.
+    pub fn start(
+        &self,
+        levels: &mut Vec<Level>,
+        first: First<'v>,
+        at: usize,
+        value: usize,
+        past: usize,
+    )
+        ghost entry: { Entry }
+        requires first { (bindings : List Binding) → IsFirst self.now.tables.now self.now.program.now self.now.number self.now.trace.now bindings levels.old.items first }
+        requires there { slice_get self.now.trace.now at ≡ Some entry }
+        requires starting { IsStarting entry.what }
+        requires advance { IsAdvance first.deed value }
+        requires room { vec_len levels.old < vec_capacity levels.old }
+        ensures { (bindings : List Binding) (x : Thread)
+            → x.frames ≡ frames self.now.tables.now self.now.program.now self.now.number self.now.trace.now bindings levels.old.items
+            → frames self.now.tables.now self.now.program.now self.now.number self.now.trace.now bindings levels.new.items ≡ (follows self.now.tables.now self.now.program.now entry.instance x entry.what).frames }
+    {
+        let _ = first;
+        put(levels, Base::Inside, at, value, past);
+    }
+
+    /// What a move makes of the levels: the lists of its actions stand in place of the advance.
+    pub fn move_on(
+        &self,
+        levels: &mut Vec<Level>,
+        first: First<'v>,
+        at: usize,
+        value: usize,
+        past: usize,
+    )
+        ghost entry: { Entry }
+        requires first { (bindings : List Binding) → IsFirst self.now.tables.now self.now.program.now self.now.number self.now.trace.now bindings levels.old.items first }
+        requires there { slice_get self.now.trace.now at ≡ Some entry }
+        requires moving { IsMoving entry.what }
+        requires advance { IsAdvance first.deed value }
+        requires room { vec_len levels.old < vec_capacity levels.old }
+        ensures { (bindings : List Binding) (x : Thread)
+            → x.frames ≡ frames self.now.tables.now self.now.program.now self.now.number self.now.trace.now bindings levels.old.items
+            → frames self.now.tables.now self.now.program.now self.now.number self.now.trace.now bindings levels.new.items ≡ (follows self.now.tables.now self.now.program.now entry.instance x entry.what).frames }
+    {
+        remove(levels, first.below, first.level);
+        put(levels, Base::Inside, at, value, past);
     }
 }
