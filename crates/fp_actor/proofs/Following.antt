@@ -1,5 +1,5 @@
 -- What an entry makes of the frames, by levels.
-use Rattle.std.proofs.Common.{◌≡◌, ℕ, ◌+◌, ◌<◌, Bool, true, false, List, [], ◌∷◌, ◌++◌, length, map, reverse, drop, take, Option, Some, None, option_map, unwrap_or, refl, sym, ap, ◌∙◌, subst}
+use Rattle.std.proofs.Common.{◌≡◌, ℕ, List, [], ◌∷◌, ◌++◌, map, reverse, take, Option, Some, option_map, unwrap_or, refl, sym, ap, ◌∙◌}
 use Rattle.std.specs.List.{slice_get}
 use Rattle.std.specs.Option.{option_and_then}
 use Rattle.fp_base.specs.declared.value.Value.{Value}
@@ -9,11 +9,10 @@ use Rattle.fp_events.specs.declared.event.Entry.{Entry}
 use Rattle.fp_events.specs.declared.event.Fate.TheVariants as fate
 use Rattle.fp_events.specs.declared.event.What.{What}
 use Rattle.fp_events.specs.declared.event.What.TheVariants as what
-use Rattle.fp_events.specs.Actor.{Action, act, send, advance, Bindings, Doing, Opened, arrived, taken, Frame, Thread}
+use Rattle.fp_events.specs.Actor.{Action, act, send, advance, Bindings, Doing, arrived, taken, Frame, Thread}
 use Rattle.fp_events.specs.Due.{first_action}
 use Rattle.fp_events.specs.Follows.{doing, in_frame, performed, value_in, removed, replaced, without_first, name_for, follows}
 use Rattle.fp_actor.specs.declared.level.Source.TheVariants as source
-use Rattle.fp_actor.specs.declared.level.Position.{Position}
 use Rattle.fp_actor.specs.declared.level.Base.{Base}
 use Rattle.fp_actor.specs.declared.level.Base.TheVariants as base
 use Rattle.fp_actor.specs.declared.level.Level.{Level}
@@ -21,7 +20,7 @@ use Rattle.fp_actor.specs.declared.level.Binding.{Binding}
 use Rattle.fp_actor.specs.declared.lists.Deed.{Deed}
 use Rattle.fp_actor.specs.declared.lists.Deed.TheVariants as deed
 use Rattle.fp_actor.specs.declared.stack.First.{First}
-use Rattle.fp_actor.specs.Levels.{begun, advanced, action_of, bindings_of, lists_of, lists_in, value_at, default_of, default_in, instance_of, opened_in, called, action_at, with_nothing, binding, made, left, over, framed, frames, stacked, IsFirst, level_of_entry, IsOpening, IsRemoving, IsTaking, IsSending, IsStarting, IsMoving, IsAdvance}
+use Rattle.fp_actor.specs.Levels.{begun, advanced, action_of, bindings_of, lists_of, lists_in, value_at, default_of, default_in, instance_of, called, binding, made, left, over, frames, stacked, IsFirst, level_of_entry, IsOpening, IsRemoving, IsTaking, IsSending, IsStarting, IsMoving, IsAdvance}
 use Rattle.fp_actor.proofs.Settling.{begun_nothing}
 use Rattle.fp_actor.proofs.Stacking.{snoc, drop_all}
 

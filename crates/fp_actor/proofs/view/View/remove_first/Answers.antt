@@ -1,8 +1,6 @@
-use Rattle.std.proofs.Common.{◌<◌, length, arith, [], vec_len, sym, ap, ◌∙◌}
+use Rattle.std.proofs.Common.{◌<◌, length, arith, []}
 use Rattle.std.proofs.lemmas.Option.{slice_get_within}
-use Rattle.fp_events.specs.Due.{first_action}
-use Rattle.fp_events.specs.Follows.{doing, removed}
-use Rattle.fp_actor.proofs.Following.{opening_follows, removed_follows, sending_follows}
+use Rattle.fp_actor.proofs.Following.{removed_follows}
 use Rattle.fp_actor.proofs.view.View.remove_first.Goals as goal
 
 pub remove-requires-clause-below : goal.remove-requires-clause-below
