@@ -1,0 +1,11 @@
+pub mod Finding
+pub mod Short
+pub mod Wired
+pub mod Reaching
+pub mod Settling
+pub mod Stacking
+pub mod Names
+pub mod Looking
+pub mod Dueness
+pub mod NextOf
+pub mod Following

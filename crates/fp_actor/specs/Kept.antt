@@ -1,0 +1,28 @@
+-- What an actor's fields keep.
+use Rattle.std.specs.Prelude.{◌≡◌, true, length}
+use Rattle.std.specs.List.{list_all}
+use Rattle.fp_tables.specs.Positions.{component_is_short}
+use Rattle.fp_events.specs.Lookup.{home}
+use Rattle.fp_actor.specs.Levels.{frames, AreWithin}
+use Rattle.fp_actor.specs.Acting.{Acting, IsToldOf}
+use Rattle.fp_actor.specs.declared.actor.Actor.TheInside.{Inside}
+
+-- the actor that these fields are
+abbrev pub acting : Inside → Acting
+acting a = record {
+  tables = a.tables.now;
+  program = a.program.now;
+  number = a.number;
+  state = record {
+    thread = record { frames = frames a.tables.now a.program.now a.number a.trace a.bindings.items a.levels.items; halted = a.halted };
+    last = a.last;
+  };
+  trace = a.trace;
+}
+
+pub record IsKept (a : Inside) : Type 0 where
+  pub handlers : a.handlers ≡ a.program.now.handlers
+  pub home : a.home ≡ home a.tables.now a.program.now a.number
+  pub short : list_all component_is_short a.tables.now.model.components ≡ true
+  pub within : AreWithin (length a.bindings.items) a.levels.items
+  pub told : IsToldOf (acting a)

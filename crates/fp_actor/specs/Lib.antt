@@ -1,0 +1,5 @@
+pub mod Found
+pub mod Levels
+pub mod Acting
+pub mod Next
+pub mod Kept

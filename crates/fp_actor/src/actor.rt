@@ -1,0 +1,143 @@
+ghost use Rattle.std.specs.Prelude.{◌≡◌, [], Some, IfOk, slice_get};
+ghost use Rattle.fp_tables.specs.Sound.{IsSoundFor};
+ghost use Rattle.fp_events.specs.Actor.{opened_actor};
+ghost use Rattle.fp_actor.specs.Acting.{due_of_actor, IsToldOf};
+ghost use Rattle.fp_actor.specs.Next.{next_of};
+ghost use Rattle.fp_actor.specs.Levels.{opening_of};
+
+use crate::handlers::Handlers;
+use crate::home::home_of;
+use crate::level::{Base, Binding, Level, Position, Source};
+use crate::view::View;
+use fp_base::{NoMemory, Row};
+use fp_events::{Ask, Entry};
+use fp_tables::{Program, Tables};
+use std::alloc::Global;
+use std::marker::Model;
+
+/// What comes next of an actor: an ask, to an instance; nothing, of a caller whose list is through; nothing, of an actor that
+/// has halted.
+#[derive(Drop)]
+pub enum Next {
+    Ask { instance: u32, ask: Ask },
+    AtEnd,
+    Halted,
+}
+
+/// An actor: a caller, or the dispatcher of an active instance. Its frames are places in the program and in its trace.
+#[derive(Drop)]
+pub struct Actor<'a> {
+    tables: &'a Tables,
+    program: &'a Program,
+    handlers: Handlers<'a>,
+    number: u32,
+    home: Option<u32>,
+    levels: Vec<Level>,
+    bindings: Vec<Binding>,
+    trace: Row<Entry>,
+    halted: bool,
+    last: u64,
+}
+
+impl<'a> Model for Actor<'a> {
+    ghost use Rattle.std.specs.Coded.{codes};
+    ghost use Rattle.fp_base.specs.contracts.value.Value as value;
+    ghost use Rattle.fp_actor.specs.Acting.{Acting};
+
+    ghost Value = { Acting };
+
+    ghost coded = { Prim.hlevel (codes, value.the_row.coded) };
+
+    ghost use Rattle.fp_actor.specs.Kept.{acting, IsKept};
+
+    ghost view = { acting };
+
+    ghost invariant = { IsKept };
+}
+
+impl<'a> Actor<'a> {
+    /// The actor of a number at the opening.
+    pub fn open(
+        alloc: Global,
+        tables: &'a Tables,
+        program: &'a Program,
+        number: u32,
+    ) -> Result<Actor<'a>, NoMemory>
+        requires { IsSoundFor tables.now.model (Some tables.now.topology) }
+        ensures { IfOk result (λ actor. actor ≡ record {
+          tables = tables.now;
+          program = program.now;
+          number = number;
+          state = record { thread = opened_actor program.now number; last = 0 };
+          trace = [];
+        }) }
+    {
+        let handlers = Handlers::of(alloc, program.handlers.as_slice())?;
+        let levels = opening_levels(alloc, program, number)?;
+        Ok(Actor {
+            tables,
+            program,
+            handlers,
+            number,
+            home: home_of(tables, program, number),
+            levels,
+            bindings: Vec::new(alloc),
+            trace: Row::new(alloc),
+            halted: false,
+            last: 0,
+        })
+    }
+
+    /// What comes next: the ask that is due after the trace.
+    pub fn next(&self, alloc: Global) -> Result<Next, NoMemory>
+        ensures { IfOk result (λ next. next ≡ next_of self.now.state.thread.halted (due_of_actor self.now)) }
+    {
+        if self.halted {
+            return Ok(Next::Halted);
+        }
+        let view = View {
+            tables: self.tables,
+            program: self.program,
+            handlers: &self.handlers,
+            number: self.number,
+            trace: self.trace.as_slice(),
+        };
+        let due = view.due(
+            alloc,
+            self.home,
+            self.levels.as_slice(),
+            self.bindings.as_slice(),
+        )?;
+        match due {
+            Some((instance, ask)) => Ok(Next::Ask { instance, ask }),
+            None => Ok(Next::AtEnd),
+        }
+    }
+
+    pub fn trace(&self) -> &Row<Entry>
+        ensures trace { result.now ≡ self.now.trace }
+        ensures told { IsToldOf self.now }
+    {
+        &self.trace
+    }
+}
+
+/// A caller begins with its own list, and a dispatcher with nothing.
+fn opening_levels(alloc: Global, program: &Program, number: u32) -> Result<Vec<Level>, NoMemory>
+    ensures { IfOk result (λ levels. levels.items ≡ opening_of (slice_get program.now.callers number)) }
+{
+    let mut levels = Vec::new(alloc);
+    if program.callers.get(number as usize).is_some() {
+        levels.push(Level {
+            base: Base::Own,
+            next: Position {
+                source: Source::Own,
+                list: 0,
+                action: 0,
+            },
+            first: 0,
+            past: 0,
+        })?;
+    }
+    Ok(levels)
+}

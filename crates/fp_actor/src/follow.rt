@@ -1,0 +1,181 @@
+ghost use Rattle.std.specs.Prelude.{◌≡◌, ◌<◌, ◌≤◌, ◌+◌, ◌^◌, Some, [], ◌∷◌, ◌++◌, List, take, length, slice_get, vec_len, vec_capacity};
+ghost use Rattle.fp_events.specs.Actor.{Frame, Thread};
+ghost use Rattle.fp_events.specs.Follows.{follows};
+ghost use Rattle.fp_events.specs.declared.event.Entry.{Entry};
+ghost use Rattle.fp_actor.specs.declared.level.Binding.{Binding};
+ghost use Rattle.fp_actor.specs.Levels.{advanced, frames, level_of_entry, IsFirst, IsOpening, IsRemoving, IsSending, IsTaking, IsStarting, IsMoving, IsAdvance, IsBottom};
+
+use crate::level::{Base, Level, Position, Source};
+use crate::stack::{Bottom, First};
+use crate::view::View;
+
+/// The levels without their first action, which is at this level over so many.
+fn remove(levels: &mut Vec<Level>, below: usize, level: Level)
+    requires below { below < vec_len levels.old }
+    requires few { level.next.action + 1 < 2 ^ 64 }
+    ensures items { levels.new.items ≡ take below levels.old.items ++ advanced level ∷ [] }
+    ensures capacity { vec_capacity levels.new ≡ vec_capacity levels.old }
+    ensures len { vec_len levels.new ≡ below + 1 }
+{
+    let next = Position {
+        source: level.next.source,
+        list: level.next.list,
+        action: level.next.action + 1,
+    };
+    levels.truncate(below);
+    levels.push_reserved(Level {
+        base: level.base,
+        next,
+        first: level.first,
+        past: level.past,
+    });
+}
+
+/// A level of the entry at `at` on top.
+fn put(levels: &mut Vec<Level>, base: Base, at: usize, value: usize, past: usize)
+    requires { vec_len levels.old < vec_capacity levels.old }
+    ensures items { levels.new.items ≡ levels.old.items ++ level_of_entry base at value past ∷ [] }
+    ensures capacity { vec_capacity levels.new ≡ vec_capacity levels.old }
+    ensures len { vec_len levels.new ≡ vec_len levels.old + 1 }
+{
+    levels.push_reserved(Level {
+        base,
+        next: Position {
+            source: Source::Entry { entry: at, value },
+            list: 0,
+            action: 0,
+        },
+        first: past,
+        past,
+    });
+}
+
+impl<'v> View<'v> {
+    /// What an arrival that opens a frame makes of the levels.
+    pub fn open_frame(&self, levels: &mut Vec<Level>, first: First<'v>, at: usize, past: usize)
+        ghost entry: { Entry }
+        requires first { (bindings : List Binding) → IsFirst self.now.tables.now self.now.program.now self.now.number self.now.trace.now bindings levels.old.items first }
+        requires there { slice_get self.now.trace.now at ≡ Some entry }
+        requires opening { IsOpening entry.what }
+        requires room { vec_len levels.old < vec_capacity levels.old }
+        ensures { (bindings : List Binding) (x : Thread)
+            → x.frames ≡ frames self.now.tables.now self.now.program.now self.now.number self.now.trace.now bindings levels.old.items
+            → frames self.now.tables.now self.now.program.now self.now.number self.now.trace.now bindings levels.new.items ≡ (follows self.now.tables.now self.now.program.now entry.instance x entry.what).frames }
+    {
+        remove(levels, first.below, first.level);
+        put(levels, Base::Arrived(Some(first.level.next)), at, at, past);
+    }
+
+    /// What an arrival that opens no frame, or an empty queue, makes of the levels.
+    pub fn remove_first(&self, levels: &mut Vec<Level>, first: First<'v>)
+        requires { (bindings : List Binding) → IsFirst self.now.tables.now self.now.program.now self.now.number self.now.trace.now bindings levels.old.items first }
+        ensures capacity { vec_capacity levels.new ≡ vec_capacity levels.old }
+        ensures len { vec_len levels.new ≤ vec_len levels.old }
+        ensures frames { (bindings : List Binding) (x : Thread) (entry : Entry) → IsRemoving entry.what
+            → x.frames ≡ frames self.now.tables.now self.now.program.now self.now.number self.now.trace.now bindings levels.old.items
+            → frames self.now.tables.now self.now.program.now self.now.number self.now.trace.now bindings levels.new.items ≡ (follows self.now.tables.now self.now.program.now entry.instance x entry.what).frames }
+    {
+        remove(levels, first.below, first.level);
+    }
+
+    /// What an emission or a write that was sent makes of the levels.
+    pub fn send_first(&self, levels: &mut Vec<Level>, first: First<'v>, at: usize, past: usize)
+        ghost entry: { Entry }
+        requires first { (bindings : List Binding) → IsFirst self.now.tables.now self.now.program.now self.now.number self.now.trace.now bindings levels.old.items first }
+        requires there { slice_get self.now.trace.now at ≡ Some entry }
+        requires sending { IsSending entry.what }
+        requires room { vec_len levels.old < vec_capacity levels.old }
+        ensures { (bindings : List Binding) (x : Thread)
+            → x.frames ≡ frames self.now.tables.now self.now.program.now self.now.number self.now.trace.now bindings levels.old.items
+            → frames self.now.tables.now self.now.program.now self.now.number self.now.trace.now bindings levels.new.items ≡ (follows self.now.tables.now self.now.program.now entry.instance x entry.what).frames }
+    {
+        remove(levels, first.below, first.level);
+        put(levels, Base::Inside, at, at, past);
+    }
+
+    /// What a take makes of the levels, where a dispatch asked for it.
+    pub fn take_from_frame(&self, levels: &mut Vec<Level>, first: First<'v>, at: usize, past: usize)
+        ghost entry: { Entry }
+        requires first { (bindings : List Binding) → IsFirst self.now.tables.now self.now.program.now self.now.number self.now.trace.now bindings levels.old.items first }
+        requires there { slice_get self.now.trace.now at ≡ Some entry }
+        requires taking { IsTaking entry.what }
+        requires room { vec_len levels.old < vec_capacity levels.old }
+        ensures { (bindings : List Binding) (x : Thread)
+            → x.frames ≡ frames self.now.tables.now self.now.program.now self.now.number self.now.trace.now bindings levels.old.items
+            → frames self.now.tables.now self.now.program.now self.now.number self.now.trace.now bindings levels.new.items ≡ (follows self.now.tables.now self.now.program.now entry.instance x entry.what).frames }
+    {
+        remove(levels, first.below, first.level);
+        put(levels, Base::Taken, at, at, past);
+    }
+
+    /// What a take makes of no levels.
+    pub fn take_frame(&self, levels: &mut Vec<Level>, at: usize, past: usize)
+        ghost entry: { Entry }
+        requires empty { levels.old.items ≡ [] }
+        requires there { slice_get self.now.trace.now at ≡ Some entry }
+        requires taking { IsTaking entry.what }
+        requires room { vec_len levels.old < vec_capacity levels.old }
+        ensures { (bindings : List Binding) (x : Thread)
+            → x.frames ≡ frames self.now.tables.now self.now.program.now self.now.number self.now.trace.now bindings levels.old.items
+            → frames self.now.tables.now self.now.program.now self.now.number self.now.trace.now bindings levels.new.items ≡ (follows self.now.tables.now self.now.program.now entry.instance x entry.what).frames }
+    {
+        put(levels, Base::Taken, at, at, past);
+    }
+
+    /// The levels without the innermost frame.
+    pub fn close(&self, levels: &mut Vec<Level>, bottom: Bottom)
+        requires { (bindings : List Binding) → IsBottom self.now.tables.now self.now.program.now self.now.number self.now.trace.now bindings levels.old.items bottom }
+        ensures capacity { vec_capacity levels.new ≡ vec_capacity levels.old }
+        ensures len { vec_len levels.new ≤ vec_len levels.old }
+        ensures frames { (bindings : List Binding) (f : Frame) (rest : List Frame)
+            → frames self.now.tables.now self.now.program.now self.now.number self.now.trace.now bindings levels.old.items ≡ f ∷ rest → frames self.now.tables.now self.now.program.now self.now.number self.now.trace.now bindings levels.new.items ≡ rest }
+    {
+        levels.truncate(bottom.below);
+    }
+
+    /// What a start makes of the levels: the lists of its actions stand before the advance.
+    pub fn start(
+        &self,
+        levels: &mut Vec<Level>,
+        first: First<'v>,
+        at: usize,
+        value: usize,
+        past: usize,
+    )
+        ghost entry: { Entry }
+        requires first { (bindings : List Binding) → IsFirst self.now.tables.now self.now.program.now self.now.number self.now.trace.now bindings levels.old.items first }
+        requires there { slice_get self.now.trace.now at ≡ Some entry }
+        requires starting { IsStarting entry.what }
+        requires advance { IsAdvance first.deed value }
+        requires room { vec_len levels.old < vec_capacity levels.old }
+        ensures { (bindings : List Binding) (x : Thread)
+            → x.frames ≡ frames self.now.tables.now self.now.program.now self.now.number self.now.trace.now bindings levels.old.items
+            → frames self.now.tables.now self.now.program.now self.now.number self.now.trace.now bindings levels.new.items ≡ (follows self.now.tables.now self.now.program.now entry.instance x entry.what).frames }
+    {
+        let _ = first;
+        put(levels, Base::Inside, at, value, past);
+    }
+
+    /// What a move makes of the levels: the lists of its actions stand in place of the advance.
+    pub fn move_on(
+        &self,
+        levels: &mut Vec<Level>,
+        first: First<'v>,
+        at: usize,
+        value: usize,
+        past: usize,
+    )
+        ghost entry: { Entry }
+        requires first { (bindings : List Binding) → IsFirst self.now.tables.now self.now.program.now self.now.number self.now.trace.now bindings levels.old.items first }
+        requires there { slice_get self.now.trace.now at ≡ Some entry }
+        requires moving { IsMoving entry.what }
+        requires advance { IsAdvance first.deed value }
+        requires room { vec_len levels.old < vec_capacity levels.old }
+        ensures { (bindings : List Binding) (x : Thread)
+            → x.frames ≡ frames self.now.tables.now self.now.program.now self.now.number self.now.trace.now bindings levels.old.items
+            → frames self.now.tables.now self.now.program.now self.now.number self.now.trace.now bindings levels.new.items ≡ (follows self.now.tables.now self.now.program.now entry.instance x entry.what).frames }
+    {
+        remove(levels, first.below, first.level);
+        put(levels, Base::Inside, at, value, past);
+    }
+}

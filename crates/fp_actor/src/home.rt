@@ -1,0 +1,53 @@
+ghost use Rattle.std.specs.Prelude.{◌≡◌, cond, slice_get, filter, unwrap_or, option_map, []};
+ghost use Rattle.fp_tables.specs.Lookup.{placed};
+ghost use Rattle.fp_events.specs.Lookup.{component as component_at, is_active as is_active_queueing, actives, home};
+
+use crate::sends::component;
+use fp_tables::{Program, Queueing, Tables};
+
+fn is_active(tables: &Tables, instance: u32) -> bool
+    ensures { result ≡ is_active_queueing (component_at tables.now instance).queueing }
+{
+    match component(tables, instance) {
+        Some(component) => matches!(component.queueing, Queueing::Active),
+        None => false,
+    }
+}
+
+/// The active instance of this number among instances.
+fn active_at(tables: &Tables, instances: &[u32], number: usize) -> Option<u32>
+    ensures { result ≡ slice_get (filter (λ i. is_active_queueing (component_at tables.now i).queueing) instances.now) number }
+{
+    let (instance, instances) = instances.split_first()?;
+    if is_active(tables, *instance) {
+        if number == 0 {
+            Some(*instance)
+        } else {
+            active_at(tables, instances, number - 1)
+        }
+    } else {
+        active_at(tables, instances, number)
+    }
+}
+
+fn active(tables: &Tables, number: usize) -> Option<u32>
+    ensures { result ≡ slice_get (actives tables.now) number }
+{
+    match tables.model().topologies.get(tables.topology() as usize) {
+        Some(topology) => active_at(tables, topology.instances.as_slice(), number),
+        None => None,
+    }
+}
+
+/// The instance whose dispatcher an actor is.
+pub fn home_of(tables: &Tables, program: &Program, number: u32) -> Option<u32>
+    ensures { result ≡ home tables.now program.now number }
+{
+    let number = number as usize;
+    let callers = program.callers.len();
+    if number < callers {
+        None
+    } else {
+        active(tables, number - callers)
+    }
+}

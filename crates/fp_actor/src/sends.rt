@@ -1,0 +1,201 @@
+ghost use Rattle.std.specs.Prelude.{◌≡◌, ◌<◌, ◌^◌, ℕ, List, [], ◌∷◌, Option, Some, None, cond, is_some, map, option_map, option_and_then, unwrap_or, slice_get, position, length, IfSome};
+ghost use Rattle.std.specs.Option.{option_copied};
+ghost use Rattle.fp_tables.specs.Lookup.{Described, component_of};
+ghost use Rattle.fp_tables.specs.declared.program.Program.{Program};
+ghost use Rattle.fp_tables.specs.declared.component.Special.TheVariants as special;
+ghost use Rattle.fp_events.specs.Lookup.{component as component_at, special_wire as wire_of, is_special as has_role};
+ghost use Rattle.fp_events.specs.Follows.{sends, parameter_name as name_of, parameter_of as parameter_of_part, ok_note};
+ghost use Rattle.fp_actor.specs.Levels.{event_name as event_name_of, channel_name as channel_name_of, sent, actions_of};
+
+use crate::lists::{ActionList, Sending};
+use crate::view::View;
+use fp_events::Point;
+use fp_tables::{Component, End, Part, Port, Role, Special, Tables};
+
+/// The component of an instance.
+pub fn component(tables: &Tables, instance: u32) -> Option<&Component>
+    ensures { option_copied result ≡ component_of tables.now.model instance }
+{
+    let model = tables.model();
+    let instance = model.instances.get(instance as usize)?;
+    model.components.get(instance.component as usize)
+}
+
+fn is_special(special: Special, role: Role) -> bool
+    ensures { result ≡ has_role special role }
+{
+    let Role::Special(other) = role else {
+        return false;
+    };
+    match special {
+        Special::CmdRecv => matches!(other, Special::CmdRecv),
+        Special::CmdReg => matches!(other, Special::CmdReg),
+        Special::CmdResp => matches!(other, Special::CmdResp),
+        Special::Event => matches!(other, Special::Event),
+        Special::TextEvent => matches!(other, Special::TextEvent),
+        Special::Tlm => matches!(other, Special::Tlm),
+        Special::Time => matches!(other, Special::Time),
+        Special::PrmGet => matches!(other, Special::PrmGet),
+        Special::PrmSet => matches!(other, Special::PrmSet),
+    }
+}
+
+fn place_of_special(ports: &[Port], special: Special) -> Option<usize>
+    ensures value { result ≡ position (λ p. has_role special p.role) ports.now }
+    ensures within { IfSome result (λ at. at < length ports.now) }
+{
+    ports.iter().position(|port| is_special(special, port.role))
+}
+
+impl<'v> View<'v> {
+    /// The first port of an instance that is special in this way.
+    fn special_port(&self, instance: u32, special: Special) -> Option<u32>
+        ensures { result ≡ position (λ p. has_role special p.role) (component_at self.now.tables.now instance).ports }
+    {
+        match component(self.tables, instance) {
+            Some(component) => match place_of_special(component.ports.as_slice(), special) {
+                Some(port) => Some(port as u32),
+                None => None,
+            },
+            None => None,
+        }
+    }
+
+    /// Both ends of the wire that begins at a special port of an instance.
+    pub fn special_wire(&self, instance: u32, special: Special) -> Option<(End, End)>
+        ensures { result ≡ wire_of self.now.tables.now instance special }
+    {
+        match self.special_port(instance, special) {
+            Some(port) => match self.tables.wire(instance, port, 0) {
+                Some(to) => Some((
+                    End {
+                        instance,
+                        port,
+                        number: 0,
+                    },
+                    to,
+                )),
+                None => None,
+            },
+            None => None,
+        }
+    }
+}
+
+impl<'v> View<'v> {
+    fn sending(&self, instance: u32, from: Special, note: &'v str) -> Option<Sending<'v>>
+        ensures { option_map sent result ≡ cond (is_some (wire_of self.now.tables.now instance from)) (Some (sent (record { from = from; note = note.entry }))) None }
+    {
+        if self.special_wire(instance, from).is_some() {
+            Some(Sending { from, note })
+        } else {
+            None
+        }
+    }
+
+    /// The response to a set command.
+    pub fn set_sends(&self, instance: u32) -> ActionList<'v>
+        ensures { actions_of self.now.tables.now self.now.program.now self.now.number self.now.trace.now result
+            ≡ (sends self.now.tables.now self.now.program.now instance ((special.CmdResp, ok_note) ∷ [])).actions }
+    {
+        ActionList::Sends(self.sending(instance, Special::CmdResp, "OK"), None)
+    }
+
+    /// The call of the param set port, and the response to a save command.
+    pub fn save_sends(&self, instance: u32, point: Point) -> ActionList<'v>
+        ensures { actions_of self.now.tables.now self.now.program.now self.now.number self.now.trace.now result
+            ≡ (sends self.now.tables.now self.now.program.now instance ((special.PrmSet, name_of self.now.tables.now self.now.program.now instance point) ∷ (special.CmdResp, ok_note) ∷ [])).actions }
+    {
+        let name = parameter_name(self.tables, instance, point);
+        ActionList::Sends(
+            self.sending(instance, Special::PrmSet, name),
+            self.sending(instance, Special::CmdResp, "OK"),
+        )
+    }
+
+    /// The call of the event port.
+    pub fn event_send(&self, instance: u32, event: u32) -> ActionList<'v>
+        ensures { actions_of self.now.tables.now self.now.program.now self.now.number self.now.trace.now result
+            ≡ (sends self.now.tables.now self.now.program.now instance ((special.Event, event_name_of self.now.tables.now self.now.program.now instance event) ∷ [])).actions }
+    {
+        let name = event_name(self.tables, instance, event);
+        ActionList::Sends(self.sending(instance, Special::Event, name), None)
+    }
+
+    /// The call of the telemetry port.
+    pub fn channel_send(&self, instance: u32, channel: u32) -> ActionList<'v>
+        ensures { actions_of self.now.tables.now self.now.program.now self.now.number self.now.trace.now result
+            ≡ (sends self.now.tables.now self.now.program.now instance ((special.Tlm, channel_name_of self.now.tables.now self.now.program.now instance channel) ∷ [])).actions }
+    {
+        let name = channel_name(self.tables, instance, channel);
+        ActionList::Sends(self.sending(instance, Special::Tlm, name), None)
+    }
+}
+
+fn event_name(tables: &Tables, instance: u32, event: u32) -> &str
+    ensures { (program : Program) → result.now ≡ event_name_of tables.now program instance event }
+{
+    match component(tables, instance) {
+        Some(component) => match component.events.get(event as usize) {
+            Some(event) => event.name.as_str(),
+            None => "",
+        },
+        None => "",
+    }
+}
+
+fn channel_name(tables: &Tables, instance: u32, channel: u32) -> &str
+    ensures { (program : Program) → result.now ≡ channel_name_of tables.now program instance channel }
+{
+    match component(tables, instance) {
+        Some(component) => match component.channels.get(channel as usize) {
+            Some(channel) => channel.name.as_str(),
+            None => "",
+        },
+        None => "",
+    }
+}
+
+/// The name of the parameter that a command sets or saves.
+fn parameter_name(tables: &Tables, instance: u32, point: Point) -> &str
+    ensures { (program : Program) → result.now ≡ name_of tables.now program instance point }
+{
+    let Point::Command(command) = point else {
+        return "";
+    };
+    match component(tables, instance) {
+        Some(component) => name_of_parameter(component, command),
+        None => "",
+    }
+}
+
+fn name_of_parameter(component: &Component, command: u32) -> &str
+    ensures { (tables : Described) (program : Program) → result.now ≡ unwrap_or (option_map (λ p. p.name) (option_and_then (slice_get component.now.params) (option_and_then (λ c. parameter_of_part tables program c.part) (slice_get component.now.commands command)))) [] }
+{
+    match parameter_at(component, command) {
+        Some(param) => match component.params.get(param as usize) {
+            Some(param) => param.name.as_str(),
+            None => "",
+        },
+        None => "",
+    }
+}
+
+fn parameter_at(component: &Component, command: u32) -> Option<u32>
+    ensures { (tables : Described) (program : Program) → result ≡ option_and_then (λ c. parameter_of_part tables program c.part) (slice_get component.now.commands command) }
+{
+    match component.commands.get(command as usize) {
+        Some(command) => parameter_of(command.part),
+        None => None,
+    }
+}
+
+fn parameter_of(part: Part) -> Option<u32>
+    ensures { (t : Described) (program : Program) → result ≡ parameter_of_part t program part }
+{
+    match part {
+        Part::Plain => None,
+        Part::SetParam(param) => Some(param),
+        Part::SaveParam(param) => Some(param),
+    }
+}
