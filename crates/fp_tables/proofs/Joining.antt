@@ -23,7 +23,7 @@ beginnings_apart ws =
     sym (apart-map same (eq_by_cmp key_cmp) (λ (w : Wire). key_of w.from) (λ v w. sym (same_keys v.from w.from)) ws)
     ∙ apart-map same same_end (λ (w : Wire). w.from) (λ v w. refl) ws
 
-same_member : (q : ℕ) (ns : List ℕ) → list_any (eq_by_cmp nat_cmp q) ns ≡ list_any (λ k. eqb k q) ns
+pub same_member : (q : ℕ) (ns : List ℕ) → list_any (eq_by_cmp nat_cmp q) ns ≡ list_any (λ k. eqb k q) ns
 same_member q [] = refl
 same_member q (n ∷ ns) =
     let here : eq_by_cmp nat_cmp q n ≡ eqb n q = grind (arith, nat_tests) in

@@ -1,3 +1,7 @@
+pub mod Acts
+pub mod Arguments
+pub mod Bound
+pub mod Chains
 pub mod Components
 pub mod Formats
 pub mod Found
@@ -6,8 +10,11 @@ pub mod Lists
 pub mod Lookup
 pub mod Machines
 pub mod Names
+pub mod Parts
 pub mod Positions
 pub mod Programs
+pub mod Shapes
 pub mod Sound
+pub mod SoundParts
 pub mod SoundPrograms
 pub mod Types

@@ -23,7 +23,28 @@ use Rattle.fp_tables.specs.declared.program.Caller.{Caller}
 use Rattle.fp_tables.specs.declared.program.Handler.{Handler}
 use Rattle.fp_tables.specs.declared.program.Answers.{Answers}
 use Rattle.fp_tables.specs.declared.program.Program.{Program}
-use Rattle.fp_tables.specs.Programs.{component_at, caller_acts_suit, handler_suits, answers_suit}
+use Rattle.fp_tables.specs.Acts.{component_at}
+use Rattle.fp_tables.specs.Programs.{caller_acts_suit, handler_suits, answers_suit}
+
+abbrev pub priority_of : Way → List ℤ
+priority_of (Later priority full) = priority ∷ []
+priority_of _ = []
+
+abbrev pub port_priority : Role → List ℤ
+port_priority (role.Input way) = priority_of way
+port_priority (role.Internal way) = priority_of way
+port_priority _ = []
+
+-- the priorities of the places that wait in a component's queue
+abbrev pub priorities : Component → List ℤ
+priorities c =
+    flat_map (λ (p : Port). port_priority p.role) c.ports ++ flat_map (λ (x : Command). priority_of x.way) c.commands
+    ++ flat_map (λ (r : Running). priority_of r.way) c.machines
+
+-- how many different ones there are
+abbrev pub count_different : List ℤ → ℕ
+count_different [] = 0
+count_different (p ∷ ps) = cond (list_any (same_int p) ps) 0 1 + count_different ps
 
 module _ (t : Described) where
   abbrev pub is_active_at : ℕ → Bool
@@ -32,26 +53,6 @@ module _ (t : Described) where
       of_queueing : Queueing → Bool
       of_queueing Active = true
       of_queueing _ = false
-
-  abbrev pub priority_of : Way → List ℤ
-  priority_of (Later priority full) = priority ∷ []
-  priority_of _ = []
-
-  abbrev pub port_priority : Role → List ℤ
-  port_priority (role.Input way) = priority_of way
-  port_priority (role.Internal way) = priority_of way
-  port_priority _ = []
-
-  -- the priorities of the places that wait in a component's queue
-  abbrev pub priorities : Component → List ℤ
-  priorities c =
-      flat_map (λ (p : Port). port_priority p.role) c.ports ++ flat_map (λ (x : Command). priority_of x.way) c.commands
-      ++ flat_map (λ (r : Running). priority_of r.way) c.machines
-
-  -- how many different ones there are
-  abbrev pub count_different : List ℤ → ℕ
-  count_different [] = 0
-  count_different (p ∷ ps) = cond (list_any (same_int p) ps) 0 1 + count_different ps
 
   abbrev pub queue_places : ℕ → ℕ
   queue_places i = places (option_and_then (λ (x : Instance). x.queue) (slice_get t.model.instances i)) (component_of t.model i)
@@ -66,17 +67,23 @@ same_spot (spot.Command m) (spot.Command n) = m == n
 same_spot (spot.Action r a) (spot.Action q b) = (r == q) && (a == b)
 same_spot _ _ = false
 
+abbrev pub same_place : Handler → Handler → Bool
+same_place h g = (h.instance == g.instance) && same_spot h.place g.place
+
+abbrev pub same_guard : Answers → Answers → Bool
+same_guard a b = (a.instance == b.instance) && (a.running == b.running) && (a.guard == b.guard)
+
 abbrev pub is_short_list : {A : Type 0} → List A → Bool
 is_short_list xs = nat_le (length xs) 1000
 
 pub record IsSoundProgram (t : Described) (p : Program) : Type 0 where
   -- what the actions, handlers and answers name, their arguments and their wires
-  pub callers_suit : list_all (λ (c : Caller). caller_acts_suit t [] c.acts) p.callers ≡ true
+  pub callers_suit : list_all (λ (c : Caller). caller_acts_suit t c.acts) p.callers ≡ true
   pub handlers_suit : list_all (handler_suits t) p.handlers ≡ true
   pub answers_suit : list_all (answers_suit t) p.answers ≡ true
   -- nothing is given twice
-  pub handlers_differ : apart (λ (h g : Handler). (h.instance == g.instance) && same_spot h.place g.place) p.handlers ≡ true
-  pub answers_differ : apart (λ (a b : Answers). (a.instance == b.instance) && (a.running == b.running) && (a.guard == b.guard)) p.answers ≡ true
+  pub handlers_differ : apart same_place p.handlers ≡ true
+  pub answers_differ : apart same_guard p.answers ≡ true
   pub callers_differ : texts_differ (map (λ (c : Caller). c.name) p.callers) ≡ true
   -- names
   pub callers_have_names : list_all (λ (c : Caller). is_name c.name) p.callers ≡ true

@@ -7,6 +7,8 @@ mod kind;
 mod machine;
 mod model;
 mod program;
+#[cfg(test)]
+mod program_tests;
 mod sound;
 mod tables;
 mod topology;

@@ -37,7 +37,7 @@ pub struct Act {
 }
 
 /// The place of a handler at its instance: a port, a command, or an action of a machine instance.
-#[derive(Clone, Copy, Debug)]
+#[derive(Clone, Copy, Debug, PartialEq, Eq, PartialOrd, Ord)]
 pub enum Spot {
     Port(u32),
     Command(u32),

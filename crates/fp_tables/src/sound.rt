@@ -1,8 +1,35 @@
+mod acts;
+mod arguments;
+mod bindings;
+mod callers;
+mod chains;
+mod channels;
 mod components;
+mod events;
+mod formals;
 mod formats;
+mod handlers;
 mod instances;
 mod lengths;
+mod limits;
+mod named;
 mod names;
 mod naming;
+mod own_names;
+mod parameters;
+mod parts;
+mod ports;
 mod positions;
+mod programs;
+mod queues;
+mod repeats;
+mod running;
+mod shapes;
+mod sizes;
 mod topologies;
+mod types;
+mod values;
+mod verbs;
+
+#[cfg(test)]
+pub use lengths::lists_are_short;
