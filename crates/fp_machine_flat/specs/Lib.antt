@@ -1,0 +1,6 @@
+pub mod Flat
+pub mod Layout
+pub mod Moving
+pub mod Placed
+pub mod SoundMachine
+pub mod Walking
