@@ -1,0 +1,4 @@
+pub mod Given
+pub mod Nexts
+pub mod Numbered
+pub mod Taken
