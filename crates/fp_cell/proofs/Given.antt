@@ -3,7 +3,7 @@ use native.Mathlib.Numerals.{unary_clauses}
 use Rattle.std.proofs.lemmas.Bool.Decides.{nat_tests}
 use Rattle.std.proofs.lemmas.Option.{slice_get_read}
 use Rattle.std.specs.Option.{unwrap_or}
-use Rattle.std.proofs.Common.{◌≡◌, ℕ, zero, suc, ◌-◌, ◌≤◌, ◌<◌, nat_lt, get_or, Bool, true, false, List, [], ◌∷◌, length, Option, Some, None, slice_get, refl, arith}
+use Rattle.std.proofs.Common.{◌≡◌, ℕ, zero, suc, ◌-◌, ◌≤◌, ◌<◌, nat_lt, get_or, Bool, true, false, List, [], ◌∷◌, length, Some, slice_get, refl, arith}
 use Rattle.fp_events.specs.Machine.{answer_at}
 
 pub within : (given : List Bool) (k : ℕ) (b : Bool) → slice_get given k ≡ Some b → b ≡ answer_at given k

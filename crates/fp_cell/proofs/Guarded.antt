@@ -1,7 +1,7 @@
 -- The walk from a guarded target, by the guard's answer.
-use Rattle.std.proofs.Common.{◌≡◌, ℕ, Bool, true, false, List, [], Option, Some, None, refl}
+use Rattle.std.proofs.Common.{◌≡◌, ℕ, Bool, true, false, List, [], Some, refl}
 use Rattle.fp_tables.specs.declared.machine.Machine.{Machine}
-use Rattle.fp_events.specs.Machine.{Walk, stays, answer, ask}
+use Rattle.fp_events.specs.Machine.{stays, answer, ask}
 use Rattle.fp_machine_flat.specs.declared.node.FlatNode.{FlatNode}
 use Rattle.fp_machine_flat.specs.Walking.{walk}
 use Rattle.fp_machine_flat.specs.Moving.{target_walk}

@@ -1,13 +1,12 @@
 -- The item that the queue takes is the call that comes next.
-use Rattle.std.proofs.Common.{◌≡◌, ℕ, ℤ, Bool, true, false, cond, List, [], ◌∷◌, map, Option, Some, None, refl, sym, ◌∙◌, ap, arith}
+use Rattle.std.proofs.Common.{◌≡◌, ℤ, Bool, true, false, cond, List, [], ◌∷◌, map, Some, refl, ap, arith}
 use Rattle.std.specs.Int.{int_max}
 use Rattle.std.specs.Prelude.{int_lt}
 use Rattle.std.specs.Ordering.{int_eq}
-use Rattle.std.specs.Option.{option_map, option_map_or, option_and_then}
 use Rattle.std.proofs.lemmas.Int.{ints, clamps}
 use Rattle.fp_queue.specs.declared.pending.Pending.{Pending as Queued}
-use Rattle.fp_queue.specs.Taking.{greatest_priority, first_of, taken_of}
-use Rattle.fp_events.specs.Queue.{next_call, greater}
+use Rattle.fp_queue.specs.Taking.{greatest_priority, first_of}
+use Rattle.fp_events.specs.Queue.{next_call}
 use Rattle.fp_cell.specs.declared.calls.Call.{Call}
 use Rattle.fp_cell.specs.Waiting.{pending_of}
 

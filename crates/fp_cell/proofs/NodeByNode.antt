@@ -1,14 +1,14 @@
 -- A walk over flat nodes, a node at a time.
-use Rattle.std.proofs.Common.{◌≡◌, ℕ, zero, suc, ◌+◌, ◌-◌, ◌<◌, Bool, true, false, cond, List, [], ◌++◌, Option, Some, None, refl, sym, ◌∙◌, ap, arith, append_assoc, slice_get}
+use Rattle.std.proofs.Common.{◌≡◌, ℕ, suc, ◌+◌, ◌-◌, ◌<◌, Bool, true, cond, List, [], ◌++◌, Option, Some, None, refl, sym, ◌∙◌, ap, arith, append_assoc, slice_get}
 use Rattle.std.proofs.lemmas.List.{append-nil}
 use Rattle.std.specs.Option.{option_map, is_some}
 use Rattle.std.proofs.lemmas.Bool.{false≢true}
 use Rattle.fp_tables.specs.declared.machine.Machine.{Machine}
-use Rattle.fp_events.specs.Machine.{Walk, Configuration, first_these, stays, answer, ask}
+use Rattle.fp_events.specs.Machine.{Walk, first_these, stays, answer, ask}
 use Rattle.fp_machine_flat.specs.declared.node.Next.{Next}
 use Rattle.fp_machine_flat.specs.declared.node.Next.TheVariants.{Leaf, Ask}
 use Rattle.fp_machine_flat.specs.declared.node.FlatNode.{FlatNode}
-use Rattle.fp_machine_flat.specs.Walking.{follows, passes, walks, walk}
+use Rattle.fp_machine_flat.specs.Walking.{follows, passes, walks}
 use Rattle.fp_cell.specs.Walked.{walks_on}
 
 pub nothing_first : (o : Option Walk) → o ≡ option_map (first_these []) o

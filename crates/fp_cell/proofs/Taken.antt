@@ -1,11 +1,10 @@
 -- What taking and putting do to pending calls.
-use Rattle.std.proofs.Common.{◌≡◌, ℕ, ℤ, suc, ◌<◌, List, [], ◌∷◌, ◌++◌, map, length, Option, Some, None, Ok, Err, IsOk, OnOk, Result, refl, sym, ◌∙◌, ap, subst, arith}
+use Rattle.std.proofs.Common.{◌≡◌, ℕ, ℤ, suc, ◌<◌, List, [], ◌∷◌, ◌++◌, map, length, Option, Some, Ok, Err, IsOk, OnOk, Result, refl, sym, ◌∙◌, ap, subst, arith}
 use Rattle.std.proofs.lemmas.List.{length-map}
-use Rattle.std.specs.Option.{option_map, option_map_or, option_and_then, MatchOption}
+use Rattle.std.specs.Option.{option_map, MatchOption}
 use Rattle.fp_queue.specs.declared.pending.Pending.{Pending as Queued}
 use Rattle.fp_queue.specs.Contents.{Contents, with_last}
-use Rattle.fp_queue.specs.Taking.{taken_of, rest_of, first_of, without_first, greatest_priority}
-use Rattle.fp_events.specs.Queue.{next_call, without}
+use Rattle.fp_queue.specs.Taking.{taken_of, rest_of, without_first}
 use Rattle.fp_cell.specs.declared.calls.Call.{Call}
 use Rattle.fp_cell.specs.Waiting.{Waiting, waiting, calls_of, AreNumbered, AreHeld, IsTaken, pending_of}
 use Rattle.fp_events.specs.Instance.{Pending}
@@ -70,7 +69,7 @@ more size puts priority call q after (Ok u) there ok number again h =
     (record {
       of_size = h.of_size;
       numbered = subst (λ (k : ℕ). AreNumbered 0 k (q.pending ++ record { priority = priority; item = call } ∷ [])) (sym number)
-        (pushed 0 puts q.pending (record { priority = priority; item = call }) number again h.numbered);
+          (pushed 0 puts q.pending (record { priority = priority; item = call }) number again h.numbered);
     })
 more size puts priority call q after (Err back) there ok number again h = absurd (false≢true there)
 
@@ -80,6 +79,6 @@ pub held_more : (size puts : ℕ) (s : Waiting) (o : Option (Contents Call)) (pr
 held_more size puts s o priority call q after r seen is there ok room number again g =
     let h : AreHeld size puts (Some q) = subst (λ (x : Option (Contents Call)). AreHeld size puts x) is g in
     let e : length s.pending ≡ length q.pending =
-        ap (λ (w : Waiting). length w.pending) (sym seen) ∙ ap (λ (x : Option (Contents Call)). length (map pending_of (calls_of x))) is ∙ length-map q.pending pending_of in
+    ap (λ (w : Waiting). length w.pending) (sym seen) ∙ ap (λ (x : Option (Contents Call)). length (map pending_of (calls_of x))) is ∙ length-map q.pending pending_of in
     let sized : s.size ≡ q.size = ap (λ (w : Waiting). w.size) (sym seen) ∙ sym h.of_size in
     more size puts priority call q after r (there (omega (arith, e, sized, room))) ok (number ∙ ap (λ (w : Waiting). suc w.puts) (sym seen)) again h

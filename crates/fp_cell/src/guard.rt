@@ -8,7 +8,7 @@ use fp_events::Why;
 
 /// The actor that holds the guard, and how many of its sync, set and save frames opened here since are still open.
 #[derive(Clone, Copy, Debug)]
-pub struct Holding {
+pub(crate) struct Holding {
     pub actor: u32,
     pub frames: u64,
 }
@@ -20,10 +20,7 @@ pub(crate) fn taken_by(actor: u32) -> Holding
 }
 
 /// One frame more where the actor holds the guard. A count past 64 bits is want of memory.
-pub(crate) fn with_frame(
-    guard: Option<Holding>,
-    actor: u32,
-) -> Result<Option<Holding>, NoMemory>
+pub(crate) fn with_frame(guard: Option<Holding>, actor: u32) -> Result<Option<Holding>, NoMemory>
     ensures { IfOk result (λ after. holder after ≡ counted actor (holder guard)) }
 {
     match guard {

@@ -14,5 +14,3 @@ mod taking;
 mod telling;
 mod told;
 mod walking;
-
-pub use guard::Holding;

@@ -44,13 +44,17 @@ fn port_at(tables: &Tables, instance: u32, port: u32) -> Option<&Port>
 fn command_at(tables: &Tables, instance: u32, command: u32) -> Option<&Command>
     ensures { option_copied result ≡ slice_get (component tables.now instance).commands command }
 {
-    component_at(tables, instance)?.commands.get(command as usize)
+    component_at(tables, instance)?
+        .commands
+        .get(command as usize)
 }
 
 fn running_at(tables: &Tables, instance: u32, running: u32) -> Option<&Running>
     ensures { option_copied result ≡ slice_get (component tables.now instance).machines running }
 {
-    component_at(tables, instance)?.machines.get(running as usize)
+    component_at(tables, instance)?
+        .machines
+        .get(running as usize)
 }
 
 pub(crate) fn event_at(tables: &Tables, instance: u32, event: u32) -> Option<&Event>
@@ -62,7 +66,9 @@ pub(crate) fn event_at(tables: &Tables, instance: u32, event: u32) -> Option<&Ev
 pub(crate) fn channel_at(tables: &Tables, instance: u32, channel: u32) -> Option<&Channel>
     ensures { option_copied result ≡ slice_get (component tables.now instance).channels channel }
 {
-    component_at(tables, instance)?.channels.get(channel as usize)
+    component_at(tables, instance)?
+        .channels
+        .get(channel as usize)
 }
 
 pub(crate) fn machine_at(tables: &Tables, instance: u32, running: u32) -> Option<&Machine>

@@ -61,10 +61,7 @@ pub(crate) fn copy_values(alloc: Global, values: &Row<Value>) -> Result<Row<Valu
     Ok(copies)
 }
 
-pub(crate) fn copy_returned(
-    alloc: Global,
-    value: &Option<Value>,
-) -> Result<Option<Value>, NoMemory>
+pub(crate) fn copy_returned(alloc: Global, value: &Option<Value>) -> Result<Option<Value>, NoMemory>
     ensures { IfOk result (λ copied. copied ≡ value.now) }
 {
     match value {

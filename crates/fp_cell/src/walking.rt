@@ -209,7 +209,9 @@ fn walk_to(
         None => Ok(stay(alloc, leaf, asked)),
         Some((None, node)) => walk_from(alloc, program, instance, running, flat, node, asked),
         Some((Some(guard), node)) => {
-            walk_guarded(alloc, program, instance, running, flat, leaf, asked, guard, node)
+            walk_guarded(
+                alloc, program, instance, running, flat, leaf, asked, guard, node,
+            )
         }
     }
 }
@@ -229,5 +231,7 @@ pub(crate) fn go_on(
 {
     let asked = Vec::from_slice(alloc, from.asked.as_slice())?;
     let target = flat.target(from.leaf, signal);
-    walk_to(alloc, program, instance, running, flat, from.leaf, asked, target)
+    walk_to(
+        alloc, program, instance, running, flat, from.leaf, asked, target,
+    )
 }

@@ -1,4 +1,4 @@
-use Rattle.std.proofs.Common.{◌≡◌, ◌∙◌, ℕ, ◌-◌, length, ap, Bool, true, Option}
+use Rattle.std.proofs.Common.{◌∙◌, length, ap, Bool, true, Option}
 use Rattle.std.specs.Option.{unwrap_or}
 use Rattle.fp_cell.proofs.Given.{within_read, past, not_less}
 use Rattle.fp_cell.proofs.walking.answer_to.Goals as goal

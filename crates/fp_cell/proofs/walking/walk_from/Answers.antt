@@ -1,4 +1,4 @@
-use Rattle.std.proofs.Common.{◌≡◌, ◌∙◌, ℕ, ◌+◌, ◌-◌, ◌<◌, ◌≤◌, length, List, ◌++◌, Bool, true, false, cond, Some, sym, ap, refl, arith}
+use Rattle.std.proofs.Common.{◌≡◌, ◌∙◌, ℕ, ◌-◌, length, List, ◌++◌, Bool, true, false, cond, sym, ap, arith}
 use Rattle.fp_events.specs.Lookup.{answers_of}
 use Rattle.fp_events.specs.Machine.{answer}
 use Rattle.fp_machine_flat.specs.Walking.{walk}
@@ -37,8 +37,10 @@ loop-passed-preserved c =
     (c.in_ok-extend_from_slice.ensures.ok ∙ ap (λ (ys : List ℕ). c.loop-passed.actions ++ ys) c.as_slice.ensures) c.in-Ask.is
     (c.answer_of-met.ensures c.args.flat.now.machine
     ∙ ap (λ (xs : List ℕ). answer c.args.flat.now.machine (answers_of c.args.program.now c.args.instance c.args.running) xs c.in-Ask.guard) c.as_slice-in-Ask.ensures.value)
-    (elim c.if-met.branch [ then-met w ↦ on_true c.answer_of-met.result c.if-met.at c.in-Ask.yes c.in-Ask.no w.if-met.true w.at-is
-    | else-met w ↦ on_false c.answer_of-met.result c.if-met.at c.in-Ask.yes c.in-Ask.no w.if-met.false w.at-is ])
+    (elim c.if-met.branch [
+      | then-met w ↦ on_true c.answer_of-met.result c.if-met.at c.in-Ask.yes c.in-Ask.no w.if-met.true w.at-is
+      | else-met w ↦ on_false c.answer_of-met.result c.if-met.at c.in-Ask.yes c.in-Ask.no w.if-met.false w.at-is
+    ])
     (c.in_ok-count_asking-in-Ask.ensures c.args.flat.now.machine (answers_of c.args.program.now c.args.instance c.args.running))
 
 pub unreachable-requires-2 : goal.unreachable-requires-2
