@@ -1,0 +1,9 @@
+pub mod Advanced
+pub mod Given
+pub mod Guarded
+pub mod Nexts
+pub mod Numbered
+pub mod Pended
+pub mod Taken
+pub mod NextTaken
+pub mod NodeByNode

@@ -1,0 +1,4 @@
+pub mod Seen
+pub mod Stepping
+pub mod Waiting
+pub mod Walked
