@@ -9,3 +9,4 @@ pub mod Looking
 pub mod Dueness
 pub mod NextOf
 pub mod Following
+pub mod Bound

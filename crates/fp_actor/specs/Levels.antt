@@ -9,6 +9,7 @@ use Rattle.fp_tables.specs.declared.program.Caller.{Caller}
 use Rattle.fp_tables.specs.declared.program.Program.{Program}
 use Rattle.fp_events.specs.declared.event.Point.{Point}
 use Rattle.fp_events.specs.declared.event.Point.TheVariants.{Signal}
+use Rattle.fp_events.specs.declared.event.Fate.{Fate}
 use Rattle.fp_events.specs.declared.event.Fate.TheVariants.{Sent}
 use Rattle.fp_events.specs.declared.event.What.{What}
 use Rattle.fp_events.specs.declared.event.What.TheVariants as what
@@ -54,6 +55,10 @@ settled l p = record l { next = p; first = cond (p.list == l.next.list) l.first 
 abbrev pub advanced : Level → Level
 advanced l = record l { next = record l.next { action = l.next.action + 1 } }
 
+-- with one binding more
+abbrev pub raised : Level → Level
+raised l = record l { past = l.past + 1 }
+
 -- a value that an entry gives to be bound
 abbrev pub value_given : What → Value
 value_given (what.Leave (Some v)) = v
@@ -87,6 +92,10 @@ IsWithin n l = (l.first ≤ l.past) × (l.past ≤ n)
 abbrev pub AreWithin : ℕ → List Level → Type 0
 AreWithin n ls = (k : ℕ) (l : Level) → slice_get ls k ≡ Some l → IsWithin n l
 
+-- the bindings of these levels are some of the first so many
+abbrev pub AreUpTo : ℕ → List Level → Type 0
+AreUpTo n ls = (k : ℕ) (l : Level) → slice_get ls k ≡ Some l → l.past ≤ n
+
 -- a caller begins with its own list, and a dispatcher with nothing
 abbrev pub opening_of : Option Caller → List Level
 opening_of None = []
@@ -104,12 +113,18 @@ IsOpening (what.Set r) = Unit {0}
 IsOpening (what.Save r value) = Unit {0}
 IsOpening _ = ⊥
 
+abbrev pub IsUnsent : Fate → Type 0
+IsUnsent Sent = ⊥
+IsUnsent _ = Unit {0}
+
 -- an entry that removes an action and does nothing else
 abbrev pub IsRemoving : What → Type 0
 IsRemoving (what.Put number r) = Unit {0}
 IsRemoving (what.Dropped r) = Unit {0}
 IsRemoving (what.Hooked r) = Unit {0}
 IsRemoving what.Empty = Unit {0}
+IsRemoving (what.Emit event fate text) = IsUnsent fate
+IsRemoving (what.Write channel fate value) = IsUnsent fate
 IsRemoving _ = ⊥
 
 abbrev pub IsTaking : What → Type 0
@@ -121,6 +136,10 @@ abbrev pub IsSending : What → Type 0
 IsSending (what.Emit event Sent text) = Unit {0}
 IsSending (what.Write channel Sent value) = Unit {0}
 IsSending _ = ⊥
+
+abbrev pub IsReading : What → Type 0
+IsReading (what.Read param value) = Unit {0}
+IsReading _ = ⊥
 
 abbrev pub IsStarting : What → Type 0
 IsStarting (what.Start running actions leaf) = Unit {0}
