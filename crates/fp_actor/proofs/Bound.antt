@@ -1,5 +1,5 @@
 -- What a binding that is made in the level on top changes.
-use Rattle.std.proofs.Common.{◌≡◌, ℕ, zero, suc, ◌+◌, ◌≤◌, List, [], ◌∷◌, ◌++◌, length, map, reverse, drop, take, Option, Some, None, option_map, unwrap_or, refl, sym, ap, ◌∙◌, arith}
+use Rattle.std.proofs.Common.{◌≡◌, ℕ, zero, suc, ◌+◌, ◌≤◌, true, is_some, List, [], ◌∷◌, ◌++◌, length, map, reverse, drop, take, Option, Some, None, option_map, unwrap_or, refl, sym, ap, ◌∙◌, arith}
 use Rattle.std.specs.List.{slice_get}
 use Rattle.std.specs.Option.{option_and_then}
 use Rattle.std.proofs.lemmas.List.{reverse-append, length-take-le, length-append, take_all, take-take, take-append-le, drop-append-le}
@@ -9,22 +9,33 @@ use Rattle.fp_tables.specs.declared.program.Program.{Program}
 use Rattle.fp_events.specs.declared.event.Entry.{Entry}
 use Rattle.fp_events.specs.declared.event.What.{What}
 use Rattle.fp_events.specs.declared.event.What.TheVariants as what
-use Rattle.fp_events.specs.Actor.{Action, act, send, advance, Bindings, Doing, Frame, Thread}
+use Rattle.fp_events.specs.Actor.{Action, act, send, advance, Bindings, Doing, Opened, arrived, Frame, Thread}
 use Rattle.fp_events.specs.Due.{first_action}
-use Rattle.fp_events.specs.Follows.{doing, in_frame, removed, bind, bound_name, without_first, follows}
+use Rattle.fp_tables.specs.declared.program.Verb.{Verb}
+use Rattle.fp_tables.specs.declared.program.Verb.TheVariants as verb
+use Rattle.fp_events.specs.Follows.{doing, in_frame, removed, bind, bound_name, bound_below, closed, as_name, name_for, without_first, follows}
 use Rattle.fp_actor.specs.declared.level.Position.{Position}
 use Rattle.fp_actor.specs.declared.level.Base.{Base}
 use Rattle.fp_actor.specs.declared.level.Base.TheVariants as base
 use Rattle.fp_actor.specs.declared.level.Level.{Level}
 use Rattle.fp_actor.specs.declared.level.Binding.{Binding}
 use Rattle.fp_actor.specs.declared.stack.First.{First}
-use Rattle.fp_actor.specs.Levels.{begun, advanced, raised, value_given, lists_in, action_at, with_nothing, given_at, binding, made, bindings_of, left, over, framed, frames, stacked, IsFirst, IsWithin, AreUpTo, IsReading, action_of}
+use Rattle.fp_actor.specs.declared.stack.Bottom.{Bottom}
+use Rattle.fp_actor.specs.Levels.{begun, advanced, raised, value_given, lists_in, action_at, with_nothing, given_at, binding, made, bindings_of, left, over, framed, frames, stacked, IsFirst, IsWithin, AreUpTo, IsReading, IsReturning, IsBindable, action_of, called, default_in, opened_in, IsBottom}
 use Rattle.fp_actor.proofs.Stacking.{snoc}
 
 start_of : {A : Type 0} (xs : List A) (k : ℕ) (y : A) → slice_get xs k ≡ Some y → drop k xs ≡ y ∷ drop (suc k) xs
 start_of [] k y e = absurd (cc)
 start_of (x ∷ xs) zero y e = let s : x ≡ y = cc in ap (λ z. z ∷ xs) s
 start_of (x ∷ xs) (suc k) y e = start_of xs k y e
+
+pub some_of : {A : Type 0} (o : Option A) (x : A) → is_some o ≡ true → o ≡ Some (unwrap_or o x)
+some_of None x e = absurd (cc)
+some_of (Some y) x e = refl
+
+pub nothing_in : {A : Type 0} (xs : List A) → length xs ≡ 0 → xs ≡ []
+nothing_in [] e = refl
+nothing_in (x ∷ xs) e = absurd (omega (arith, e))
 
 module _ (t : Described) (program : Program) (number : ℕ) (trace : List Entry) where
   abbrev named : Binding → List ℕ × Value
@@ -155,3 +166,85 @@ module _ (t : Described) (program : Program) (number : ℕ) (trace : List Entry)
               bind_top bs (advanced f.level) b in_order in_reach (take f.below ls) d up s
               ∙ (λ k. in_frame (bind (name_there k) (given_there k)) (i.rest k))
               ∙ reading x e.what o h
+
+  -- the name that a call binds is the name of its action
+  named_by : (v : Verb) (o : Option (List ℕ)) (name : List ℕ) → as_name v o ≡ Some name → unwrap_or o [] ≡ name
+  named_by verb.Call o name e = ap (λ (p : Option (List ℕ)). unwrap_or p []) e
+  named_by verb.Command o name e = absurd (cc)
+  named_by verb.Emit o name e = absurd (cc)
+  named_by verb.Write o name e = absurd (cc)
+  named_by verb.Read o name e = absurd (cc)
+  named_by verb.Signal o name e = absurd (cc)
+  named_by verb.Post o name e = absurd (cc)
+  named_by verb.Respond o name e = absurd (cc)
+  named_by verb.Dispatch o name e = absurd (cc)
+  named_by verb.Return o name e = absurd (cc)
+
+  name_called : (o : Option (Action × Bindings)) (name : List ℕ) → name_for o ≡ Some name → bound_name t program o ≡ name
+  name_called (Some (act x, bound)) name e = named_by x.verb x.bind name e
+  name_called (Some (send from note, bound)) name e = absurd (cc)
+  name_called (Some (advance running signal v, bound)) name e = absurd (cc)
+  name_called None name e = absurd (cc)
+
+  module _ (bs : List Binding) (q : Position) (n : ℕ) where
+    abbrev returned : Binding
+    returned = record { name = q; value = n }
+
+    -- a frame that closes and returns a value
+    closes : (o : Opened) (rest : List Frame) (d : Option Value) (name : List ℕ) (v : Value) → o ≡ arrived d (Some name) → bound_below o (Some v) rest ≡ in_frame (bind name v) rest
+    closes o rest d name v e = ap (λ (p : Opened). bound_below p (Some v) rest) e
+
+    module _ (ls : List Level) (b : Bottom) (i : IsBottom t program number trace bs ls b) (based : b.level.base ≡ base.Arrived (Some q)) (name : List ℕ) (is_called : called t program number trace (Some q) ≡ Some name) where
+      opened_there : opened_in t program number trace b.level.base b.level.next.source ≡ arrived (default_in t program number trace b.level.next.source) (Some name)
+      opened_there =
+          ap (λ (c : Base). opened_in t program number trace c b.level.next.source) based
+          ∙ ap (arrived (default_in t program number trace b.level.next.source)) is_called
+
+      returning : (i : ℕ) (x : Thread) (w : What) → IsReturning w → x.frames ≡ frames t program number trace bs ls →
+          in_frame (bind name (value_given w)) (frames t program number trace bs (take b.below ls)) ≡ (follows t program i x w).frames
+      unfolding follows
+      returning j x (what.Leave (Some v)) o h =
+          sym (ap (closed (Some v)) (h ∙ i.is) ∙ closes _ (frames t program number trace bs (take b.below ls)) _ name v opened_there)
+      returning j x (what.Leave None) o h = absurd o
+      returning j x (what.Enter r) o h = absurd o
+      returning j x (what.Guard r) o h = absurd o
+      returning j x (what.Set r) o h = absurd o
+      returning j x (what.Save r value) o h = absurd o
+      returning j x (what.Put k r) o h = absurd o
+      returning j x (what.Dropped r) o h = absurd o
+      returning j x (what.Hooked r) o h = absurd o
+      returning j x (what.Asserted r) o h = absurd o
+      returning j x (what.Read param v) o h = absurd o
+      returning j x what.Done o h = absurd o
+      returning j x (what.Take k point with) o h = absurd o
+      returning j x what.Empty o h = absurd o
+      returning j x (what.Emit event fate text) o h = absurd o
+      returning j x (what.Write channel fate v) o h = absurd o
+      returning j x (what.Start running actions leaf) o h = absurd o
+      returning j x (what.Move running signal actions leaf) o h = absurd o
+
+      module _ (e : Entry) (there : slice_get trace n ≡ Some e) (x : Thread) (o : IsReturning e.what) (h : x.frames ≡ frames t program number trace bs ls) where
+        -- with no frame below nothing is bound
+        pub returning_nowhere : take b.below ls ≡ [] → frames t program number trace bs (take b.below ls) ≡ (follows t program e.instance x e.what).frames
+        returning_nowhere none =
+            ap (frames t program number trace bs) none ∙ ap (λ (ms : List Level). in_frame (bind name (value_given e.what)) (frames t program number trace bs ms)) (sym none)
+            ∙ returning e.instance x e.what o h
+
+        pub returning_follows : (xs : List Level) (l : Level) → take b.below ls ≡ xs ++ l ∷ [] → IsBindable t program number trace bs (take b.below ls) →
+            frames t program number trace (take l.past bs ++ record { name = q; value = n } ∷ []) (xs ++ raised l ∷ []) ≡ (follows t program e.instance x e.what).frames
+        returning_follows xs l split can = go (slice_get (lists l) l.next.list) refl (can xs l split).list
+          where
+            name_is : bound_name t program (with_nothing t program number trace q) ≡ name
+            name_is = name_called (with_nothing t program number trace q) name is_called
+
+            given : given_at t program number trace n ≡ value_given e.what
+            given = ap (λ (y : Option Entry). unwrap_or (option_map (λ (z : Entry). value_given z.what) y) Opaque) there
+
+            go : (d : Option Doing) → slice_get (lists l) l.next.list ≡ d → is_some d ≡ true →
+                frames t program number trace (take l.past bs ++ returned ∷ []) (xs ++ raised l ∷ []) ≡ (follows t program e.instance x e.what).frames
+            go None s some = absurd (cc)
+            go (Some d) s some =
+                let c = can xs l split in
+                bind_top bs l returned c.within.0 c.within.1 xs d c.lowest s
+                ∙ (λ k. in_frame (bind (name_is k) (given k)) (frames t program number trace bs (sym split k)))
+                ∙ returning e.instance x e.what o h

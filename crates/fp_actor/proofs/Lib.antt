@@ -10,3 +10,4 @@ pub mod Dueness
 pub mod NextOf
 pub mod Following
 pub mod Bound
+pub mod Growing

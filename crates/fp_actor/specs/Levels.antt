@@ -1,5 +1,5 @@
 -- The frames of an actor by places in its trace and in the program.
-use Rattle.std.specs.Prelude.{◌≡◌, ◌≤◌, ◌<◌, ◌^◌, ℕ, Bool, false, is_some, find, suc, ◌+◌, ◌==◌, cond, List, [], ◌∷◌, ◌++◌, map, take, drop, reverse, Option, Some, None, option_map, option_and_then, option_to_list, unwrap_or, slice_get}
+use Rattle.std.specs.Prelude.{◌≡◌, ◌≤◌, ◌<◌, ◌^◌, ℕ, Bool, true, false, is_some, find, suc, ◌+◌, ◌==◌, cond, List, [], ◌∷◌, ◌++◌, map, length, take, drop, reverse, Option, Some, None, option_map, option_and_then, option_to_list, unwrap_or, slice_get}
 use Rattle.fp_base.specs.declared.value.Value.{Value, Opaque}
 use Rattle.fp_base.specs.Same.{same_text}
 use Rattle.fp_tables.specs.Lookup.{Described}
@@ -136,6 +136,11 @@ abbrev pub IsSending : What → Type 0
 IsSending (what.Emit event Sent text) = Unit {0}
 IsSending (what.Write channel Sent value) = Unit {0}
 IsSending _ = ⊥
+
+-- a leave that returns a value
+abbrev pub IsReturning : What → Type 0
+IsReturning (what.Leave (Some v)) = Unit {0}
+IsReturning _ = ⊥
 
 abbrev pub IsReading : What → Type 0
 IsReading (what.Read param value) = Unit {0}
@@ -296,3 +301,12 @@ module _ (t : Described) (program : Program) (number : ℕ) (trace : List Entry)
       pub there : slice_get ls b.below ≡ Some b.level
       pub doing : List Doing
       pub is : frames ls ≡ framed b.level doing ∷ frames (take b.below ls)
+
+  -- a value can be bound in the first of this level's lists, over those levels: it has that list, and their bindings are before its own
+  pub record Binds (bindings : List Binding) (lower : List Level) (l : Level) : Type 0 where
+    pub within : IsWithin (length bindings) l
+    pub lowest : AreUpTo l.past lower
+    pub list : is_some (slice_get (lists_in l.next.source) l.next.list) ≡ true
+
+  abbrev pub IsBindable : List Binding → List Level → Type 0
+  IsBindable bindings ls = (lower : List Level) (l : Level) → ls ≡ lower ++ l ∷ [] → Binds bindings lower l

@@ -1,8 +1,9 @@
-ghost use Rattle.std.specs.Prelude.{◌≡◌, ◌<◌, ◌≤◌, ◌+◌, ◌^◌, Some, [], ◌∷◌, ◌++◌, List, take, length, slice_get, vec_len, vec_capacity};
+ghost use Rattle.std.specs.Prelude.{true, is_some, ◌≡◌, ◌<◌, ◌≤◌, ◌+◌, ◌^◌, Some, [], ◌∷◌, ◌++◌, List, take, length, slice_get, vec_len, vec_capacity};
 ghost use Rattle.fp_events.specs.Actor.{Frame, Thread};
 ghost use Rattle.fp_events.specs.Follows.{follows};
 ghost use Rattle.fp_events.specs.declared.event.Entry.{Entry};
-ghost use Rattle.fp_actor.specs.Levels.{advanced, raised, frames, level_of_entry, AreUpTo, IsWithin, IsReading, IsFirst, IsOpening, IsRemoving, IsSending, IsTaking, IsStarting, IsMoving, IsAdvance, IsBottom};
+ghost use Rattle.fp_actor.specs.declared.level.Base.TheVariants as base;
+ghost use Rattle.fp_actor.specs.Levels.{advanced, raised, frames, level_of_entry, called, AreUpTo, IsWithin, IsBindable, IsReading, IsReturning, IsFirst, IsOpening, IsRemoving, IsSending, IsTaking, IsStarting, IsMoving, IsAdvance, IsBottom};
 
 use crate::level::{Base, Binding, Level, Position, Source};
 use crate::stack::{Bottom, First};
@@ -243,5 +244,39 @@ impl<'v> View<'v> {
             value: at,
         };
         bind(levels, bindings, first.below, level, binding);
+    }
+
+    /// What a leave that returns a value makes of the levels and the bindings, where the call binds that: the innermost frame is
+    /// closed, and the value is bound in the one below, if there is one.
+    pub fn close_and_bind(
+        &self,
+        levels: &mut Vec<Level>,
+        bindings: &mut Vec<Binding>,
+        bottom: Bottom,
+        call: Position,
+        at: usize,
+    )
+        ghost entry: { Entry }
+        requires bottom { IsBottom self.now.tables.now self.now.program.now self.now.number self.now.trace.now bindings.old.items levels.old.items bottom }
+        requires base { bottom.level.base ≡ base.Arrived (Some call) }
+        requires named { is_some (called self.now.tables.now self.now.program.now self.now.number self.now.trace.now (Some call)) ≡ true }
+        requires there { slice_get self.now.trace.now at ≡ Some entry }
+        requires returning { IsReturning entry.what }
+        requires lower { IsBindable self.now.tables.now self.now.program.now self.now.number self.now.trace.now bindings.old.items (take bottom.below levels.old.items) }
+        requires room { vec_len bindings.old < vec_capacity bindings.old }
+        ensures { (x : Thread)
+            → x.frames ≡ frames self.now.tables.now self.now.program.now self.now.number self.now.trace.now bindings.old.items levels.old.items
+            → frames self.now.tables.now self.now.program.now self.now.number self.now.trace.now bindings.new.items levels.new.items ≡ (follows self.now.tables.now self.now.program.now entry.instance x entry.what).frames }
+    {
+        levels.truncate(bottom.below);
+        let Some((level, below)) = levels.as_slice().split_last() else {
+            return;
+        };
+        let (level, below) = (*level, below.len());
+        let binding = Binding {
+            name: call,
+            value: at,
+        };
+        bind(levels, bindings, below, level, binding);
     }
 }
