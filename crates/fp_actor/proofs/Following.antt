@@ -263,8 +263,14 @@ module _ (t : Described) (program : Program) (number : ℕ) (trace : List Entry)
     removed_follows e x (what.Leave v) o h = absurd o
     removed_follows e x what.Done o h = absurd o
     removed_follows e x (what.Take k point with) o h = absurd o
-    removed_follows e x (what.Emit event fate text) o h = absurd o
-    removed_follows e x (what.Write channel fate v) o h = absurd o
+    removed_follows e x (what.Emit event fate.Sent text) o h = absurd o
+    removed_follows e x (what.Emit event fate.Held text) o h = i.rest ∙ ap removed (sym h)
+    removed_follows e x (what.Emit event fate.Same text) o h = i.rest ∙ ap removed (sym h)
+    removed_follows e x (what.Emit event fate.Unwired text) o h = i.rest ∙ ap removed (sym h)
+    removed_follows e x (what.Write channel fate.Sent v) o h = absurd o
+    removed_follows e x (what.Write channel fate.Held v) o h = i.rest ∙ ap removed (sym h)
+    removed_follows e x (what.Write channel fate.Same v) o h = i.rest ∙ ap removed (sym h)
+    removed_follows e x (what.Write channel fate.Unwired v) o h = i.rest ∙ ap removed (sym h)
     removed_follows e x (what.Read param v) o h = absurd o
     removed_follows e x (what.Start running actions leaf) o h = absurd o
     removed_follows e x (what.Move running signal actions leaf) o h = absurd o

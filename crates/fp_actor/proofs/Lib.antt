@@ -9,3 +9,5 @@ pub mod Looking
 pub mod Dueness
 pub mod NextOf
 pub mod Following
+pub mod Bound
+pub mod Growing

@@ -1,5 +1,5 @@
 -- The frames of an actor by places in its trace and in the program.
-use Rattle.std.specs.Prelude.{◌≡◌, ◌≤◌, ◌<◌, ◌^◌, ℕ, Bool, false, is_some, find, suc, ◌+◌, ◌==◌, cond, List, [], ◌∷◌, ◌++◌, map, take, drop, reverse, Option, Some, None, option_map, option_and_then, option_to_list, unwrap_or, slice_get}
+use Rattle.std.specs.Prelude.{◌≡◌, ◌≤◌, ◌<◌, ◌^◌, ℕ, Bool, true, false, is_some, find, suc, ◌+◌, ◌==◌, cond, List, [], ◌∷◌, ◌++◌, map, length, take, drop, reverse, Option, Some, None, option_map, option_and_then, option_to_list, unwrap_or, slice_get}
 use Rattle.fp_base.specs.declared.value.Value.{Value, Opaque}
 use Rattle.fp_base.specs.Same.{same_text}
 use Rattle.fp_tables.specs.Lookup.{Described}
@@ -9,6 +9,7 @@ use Rattle.fp_tables.specs.declared.program.Caller.{Caller}
 use Rattle.fp_tables.specs.declared.program.Program.{Program}
 use Rattle.fp_events.specs.declared.event.Point.{Point}
 use Rattle.fp_events.specs.declared.event.Point.TheVariants.{Signal}
+use Rattle.fp_events.specs.declared.event.Fate.{Fate}
 use Rattle.fp_events.specs.declared.event.Fate.TheVariants.{Sent}
 use Rattle.fp_events.specs.declared.event.What.{What}
 use Rattle.fp_events.specs.declared.event.What.TheVariants as what
@@ -54,6 +55,10 @@ settled l p = record l { next = p; first = cond (p.list == l.next.list) l.first 
 abbrev pub advanced : Level → Level
 advanced l = record l { next = record l.next { action = l.next.action + 1 } }
 
+-- with one binding more
+abbrev pub raised : Level → Level
+raised l = record l { past = l.past + 1 }
+
 -- a value that an entry gives to be bound
 abbrev pub value_given : What → Value
 value_given (what.Leave (Some v)) = v
@@ -87,6 +92,10 @@ IsWithin n l = (l.first ≤ l.past) × (l.past ≤ n)
 abbrev pub AreWithin : ℕ → List Level → Type 0
 AreWithin n ls = (k : ℕ) (l : Level) → slice_get ls k ≡ Some l → IsWithin n l
 
+-- the bindings of these levels are some of the first so many
+abbrev pub AreUpTo : ℕ → List Level → Type 0
+AreUpTo n ls = (k : ℕ) (l : Level) → slice_get ls k ≡ Some l → l.past ≤ n
+
 -- a caller begins with its own list, and a dispatcher with nothing
 abbrev pub opening_of : Option Caller → List Level
 opening_of None = []
@@ -104,12 +113,18 @@ IsOpening (what.Set r) = Unit {0}
 IsOpening (what.Save r value) = Unit {0}
 IsOpening _ = ⊥
 
+abbrev pub IsUnsent : Fate → Type 0
+IsUnsent Sent = ⊥
+IsUnsent _ = Unit {0}
+
 -- an entry that removes an action and does nothing else
 abbrev pub IsRemoving : What → Type 0
 IsRemoving (what.Put number r) = Unit {0}
 IsRemoving (what.Dropped r) = Unit {0}
 IsRemoving (what.Hooked r) = Unit {0}
 IsRemoving what.Empty = Unit {0}
+IsRemoving (what.Emit event fate text) = IsUnsent fate
+IsRemoving (what.Write channel fate value) = IsUnsent fate
 IsRemoving _ = ⊥
 
 abbrev pub IsTaking : What → Type 0
@@ -121,6 +136,15 @@ abbrev pub IsSending : What → Type 0
 IsSending (what.Emit event Sent text) = Unit {0}
 IsSending (what.Write channel Sent value) = Unit {0}
 IsSending _ = ⊥
+
+-- a leave that returns a value
+abbrev pub IsReturning : What → Type 0
+IsReturning (what.Leave (Some v)) = Unit {0}
+IsReturning _ = ⊥
+
+abbrev pub IsReading : What → Type 0
+IsReading (what.Read param value) = Unit {0}
+IsReading _ = ⊥
 
 abbrev pub IsStarting : What → Type 0
 IsStarting (what.Start running actions leaf) = Unit {0}
@@ -277,3 +301,12 @@ module _ (t : Described) (program : Program) (number : ℕ) (trace : List Entry)
       pub there : slice_get ls b.below ≡ Some b.level
       pub doing : List Doing
       pub is : frames ls ≡ framed b.level doing ∷ frames (take b.below ls)
+
+  -- a value can be bound in the first of this level's lists, over those levels: it has that list, and their bindings are before its own
+  pub record Binds (bindings : List Binding) (lower : List Level) (l : Level) : Type 0 where
+    pub within : IsWithin (length bindings) l
+    pub lowest : AreUpTo l.past lower
+    pub list : is_some (slice_get (lists_in l.next.source) l.next.list) ≡ true
+
+  abbrev pub IsBindable : List Binding → List Level → Type 0
+  IsBindable bindings ls = (lower : List Level) (l : Level) → ls ≡ lower ++ l ∷ [] → Binds bindings lower l

@@ -3,3 +3,4 @@ pub mod Levels
 pub mod Acting
 pub mod Next
 pub mod Kept
+pub mod Placed
