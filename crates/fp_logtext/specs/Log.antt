@@ -1,4 +1,5 @@
 -- The text of a log: a line for each entry, and one for the end.
+-- The form of the log is this profile's own.
 use Rattle.std.specs.Prelude.{ℕ, List, [], ◌∷◌, ◌++◌, ◌-◌, codes, decimal, map, flat_map, length, Option, Some, None, option_and_then, slice_get}
 use Rattle.fp_base.specs.Rendered.{joined, quoted, value_text}
 use Rattle.fp_base.specs.declared.value.Value.{Value}
