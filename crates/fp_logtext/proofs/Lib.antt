@@ -1,17 +1,1 @@
-pub mod Lists
-pub mod Components
-pub mod Commands
-pub mod Naming
-pub mod Frames
-pub mod Dues
-pub mod AtHome
-pub mod Kept
-pub mod Runs
-pub mod Aliases
-pub mod Typed
-pub mod Results
-pub mod Handlers
-pub mod Stack
-pub mod Causes
-pub mod Returned
 pub mod WorkedTexts

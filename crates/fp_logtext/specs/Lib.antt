@@ -1,4 +1,3 @@
 pub mod Names
 pub mod Named
 pub mod Log
-pub mod Fitting
