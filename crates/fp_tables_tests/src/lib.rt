@@ -3,6 +3,7 @@
 
 pub mod choosing;
 pub mod joined;
+pub mod queued;
 #[cfg(test)]
 mod tests;
 pub mod wide;

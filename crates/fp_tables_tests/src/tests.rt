@@ -1,5 +1,6 @@
 use crate::choosing::{self, CHOOSING, choosing};
 use crate::joined::{self, JOINED, joined};
+use crate::queued::{queued, two_calls};
 use fp_base::NoMemory;
 use fp_tables::{Kind, Tables};
 use std::alloc::Global;
@@ -203,5 +204,25 @@ fn parts_found(rt: HostRuntime) -> Result<(), Fail> {
     assert!(rt; tables.input(1, 0).is_some());
     assert!(rt; tables.input(0, 0).is_none());
     assert_eq!(rt; tables.machine(0, 0), None);
+    Ok(())
+}
+
+/// Whether the program of two calls is sound, where its model is.
+fn calls_are_sound(alloc: Global, port: u32, number: i128) -> Result<bool, NoMemory> {
+    let model = queued(alloc)?;
+    if !model.is_sound(alloc, Some(0))? {
+        return Ok(false);
+    }
+    let tables = Tables::of(alloc, model, 0)?;
+    two_calls(alloc, port, number)?.is_sound(alloc, &tables)
+}
+
+#[test]
+fn programs_of_a_queue(rt: HostRuntime) -> Result<(), Fail> {
+    let alloc = rt.alloc();
+    assert!(rt; queued(alloc)?.is_sound(alloc, Some(0))?);
+    for (port, number, sound) in [(0, 2, true), (0, 256, false), (1, 2, false)] {
+        assert_eq!(rt; calls_are_sound(alloc, port, number)?, sound);
+    }
     Ok(())
 }
