@@ -9,7 +9,8 @@ use Rattle.fp_tables.specs.Lists.{some_and}
 use Rattle.fp_tables.specs.Lookup.{Described}
 use Rattle.fp_tables.specs.Names.{is_name}
 use Rattle.fp_tables.specs.Positions.{port_of}
-use Rattle.fp_tables.specs.Programs as programs
+use Rattle.fp_tables.specs.Acts.{has_role}
+use Rattle.fp_tables.specs.Programs.{is_general_output}
 use Rattle.fp_tables.specs.SoundPrograms.{IsSoundProgram}
 use Rattle.fp_tables.specs.declared.component.Port.{Port as PortOf}
 use Rattle.fp_tables.specs.declared.component.Role.{Role}
@@ -30,6 +31,8 @@ use Rattle.fp_events.specs.Lookup.{handler, same_spot}
 use Rattle.fp_events.proofs.StepLaws.{some_is}
 use Rattle.fp_logtext.specs.Fitting.{is_special, is_special_end}
 use Rattle.fp_logtext.proofs.Lists.{join_true, find_passes, some_and_of}
+use Rattle.fp_logtext.proofs.Listed as listed
+use Rattle.fp_logtext.proofs.Bridge.{listed_handlers}
 
 module _ (t : Described) where
   -- of a handler's actions those along a wire begin at a general port, and a response has a name
@@ -46,16 +49,16 @@ module _ (t : Described) where
       of_verb _ = true
 
   -- no special port is a general output
-  general_is_good : (e : End) → programs.role_at t e.instance e.port programs.is_general_output ≡ true → not (is_special_end t.model e) ≡ true
+  general_is_good : (e : End) → has_role t is_general_output e ≡ true → not (is_special_end t.model e) ≡ true
   general_is_good e h = go (port_of t.model e.instance e.port) h
     where
-      of_role : (r : Role) → programs.is_general_output r ≡ true → not (is_special r) ≡ true
+      of_role : (r : Role) → is_general_output r ≡ true → not (is_special r) ≡ true
       of_role role.Output h = refl
       of_role (role.Input way) h = absurd (cc)
       of_role (role.Special s) h = absurd (cc)
       of_role (role.Internal way) h = absurd (cc)
 
-      go : (o : Option PortOf) → some_and (λ (x : PortOf). programs.is_general_output x.role) o ≡ true → not (some_and (λ (p : PortOf). is_special p.role) o) ≡ true
+      go : (o : Option PortOf) → some_and (λ (x : PortOf). is_general_output x.role) o ≡ true → not (some_and (λ (p : PortOf). is_special p.role) o) ≡ true
       go None h = absurd (cc)
       go (Some p) h = of_role p.role h
 
@@ -63,23 +66,22 @@ module _ (t : Described) where
   bind_is_name None h = absurd (cc)
   bind_is_name (Some name) h = h
 
-  act_good : (i : ℕ) (place : Spot) (bound : programs.Bindings) (v : Verb) (subject : End) (name : ℕ) (with : List Arg) (as_name : Option (List ℕ))
-      → programs.act_suits t i place bound (record { verb = v; subject = subject; name = name; with = with; bind = as_name }) ≡ true
+  act_good : (i : ℕ) (place : Spot) (bound : listed.Bindings) (v : Verb) (subject : End) (name : ℕ) (with : List Arg) (as_name : Option (List ℕ))
+      → listed.act_suits t i place bound (record { verb = v; subject = subject; name = name; with = with; bind = as_name }) ≡ true
       → act_is_good i (record { verb = v; subject = subject; name = name; with = with; bind = as_name }) ≡ true
   unfolding act_is_good
-  act_good i place bound verb.Call subject name with as_name h = general_is_good (record { instance = i; port = subject.port; number = subject.number }) (both _ _ (both _ _ (both _ _ h).1).0).0
-  act_good i place bound verb.Command subject name with as_name h =
-      general_is_good (record { instance = i; port = subject.port; number = subject.number }) (both _ _ (both _ _ (both _ _ (both _ _ h).1).0).0).0
-  act_good i place bound verb.Respond subject name with as_name h = bind_is_name as_name (both _ _ (both _ _ h).1).1
+  act_good i place bound verb.Call subject name with as_name h = general_is_good (record { instance = i; port = subject.port; number = subject.number }) h
+  act_good i place bound verb.Command subject name with as_name h = general_is_good (record { instance = i; port = subject.port; number = subject.number }) h
+  act_good i place bound verb.Respond subject name with as_name h = bind_is_name as_name h
   act_good i place bound _ subject name with as_name h = refl
 
-  acts_good : (i : ℕ) (place : Spot) (bound : programs.Bindings) (xs : List Act) → programs.acts_suit t i place bound xs ≡ true → list_all (act_is_good i) xs ≡ true
+  acts_good : (i : ℕ) (place : Spot) (bound : listed.Bindings) (xs : List Act) → listed.acts_suit t i place bound xs ≡ true → list_all (act_is_good i) xs ≡ true
   acts_good i place bound [] h = refl
-  acts_good i place bound (x ∷ []) h = join_true (act_is_good i x) true (act_good i place bound x.verb x.subject x.name x.with x.bind (both _ _ h).0) refl
-  acts_good i place bound (x ∷ y ∷ rest) h =
-      join_true (act_is_good i x) (list_all (act_is_good i) (y ∷ rest))
-      (act_good i place bound x.verb x.subject x.name x.with x.bind (both _ _ (both _ _ h).0).0)
-      (acts_good i place (programs.binds t i x ++ bound) (y ∷ rest) (both _ _ h).1)
+  acts_good i place bound (x ∷ rest) h =
+      let s = both (listed.act_suits t i place bound x) (listed.acts_suit t i place (listed.binds t i x ++ bound) rest) h in
+      join_true (act_is_good i x) (list_all (act_is_good i) rest)
+      (act_good i place bound x.verb x.subject x.name x.with x.bind s.0)
+      (acts_good i place (listed.binds t i x ++ bound) rest s.1)
 
   -- the actions of a handler
   pub handler_good : (program : Program) → IsSoundProgram t program → (i : ℕ) (place : Spot) → list_all (act_is_good i) (handler program i place) ≡ true
@@ -89,9 +91,9 @@ module _ (t : Described) where
           → list_all (act_is_good i) (unwrap_or (option_map (λ (h : Handler). h.acts) o) []) ≡ true
       go None is = refl
       go (Some h) is =
-          let f = find_passes (λ (h : Handler). (h.instance == i) && same_spot h.place place) (programs.handler_suits t) program.handlers h sound.handlers_suit is in
+          let f = find_passes (λ (h : Handler). (h.instance == i) && same_spot h.place place) (listed.handler_suits t) program.handlers h (listed_handlers t program sound) is in
           let e : h.instance ≡ i = nat_same.equal h.instance i (both (h.instance == i) (same_spot h.place place) f.0).0 in
-          let s = some_and_of (λ bound. programs.acts_suit t h.instance h.place bound h.acts) (programs.bound_at t h.instance h.place) (both (programs.is_placed t h.instance) _ f.1).1 in
+          let s = some_and_of (λ bound. listed.acts_suit t h.instance h.place bound h.acts) (listed.bound_at t h.instance h.place) f.1 in
           subst (λ (k : ℕ). list_all (act_is_good k) h.acts ≡ true) e (acts_good h.instance h.place s.0 h.acts s.2)
 
   -- ---- actions, frames

@@ -2,6 +2,8 @@ pub mod Lists
 pub mod Components
 pub mod Commands
 pub mod Naming
+pub mod Listed
+pub mod Bridge
 pub mod Frames
 pub mod Dues
 pub mod AtHome

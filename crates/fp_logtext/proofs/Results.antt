@@ -10,7 +10,7 @@ use Rattle.fp_tables.specs.Instances as instances
 use Rattle.fp_tables.specs.Lists.{if_some}
 use Rattle.fp_tables.specs.Lookup.{Described, component_of, wire_from, same_end}
 use Rattle.fp_tables.specs.Positions.{port_of, port_def_lies, kind_lies}
-use Rattle.fp_tables.specs.Programs as programs
+use Rattle.fp_tables.specs.Acts.{definition_at, result_at}
 use Rattle.fp_tables.specs.Sound.{IsSoundWith, IsSoundAt, IsSoundFor, each_port}
 use Rattle.fp_tables.specs.Types.{Shape, form_at, shape, has, has_kind, type_has_values}
 use Rattle.fp_tables.specs.declared.kind.Kind.{Kind}
@@ -92,11 +92,11 @@ module _ (t : Described) (sound : IsSoundFor t.model (Some t.topology)) where
       ap components.internal_is_later (sym is) ∙ port_sound t.model (λ p. components.internal_is_later p.role) i k p.0 sound.0.internal_ports_are_later found
 
   -- both ends of a wire return the same
-  pub wire_results : (e to : End) → wire_from t e ≡ Some to → programs.result_at t e.instance e.port ≡ programs.result_at t to.instance to.port
+  pub wire_results : (e to : End) → wire_from t e ≡ Some to → result_at t e.instance e.port ≡ result_at t to.instance to.port
   wire_results e to h = go (slice_get t.model.topologies t.topology) sound.1 h
     where
       at_ends : (o : Topology) → IsSoundWith t.model o → option_map (λ (w : Wire). w.to) (find (λ (w : Wire). same_end w.from e) o.wires) ≡ Some to
-          → programs.result_at t e.instance e.port ≡ programs.result_at t to.instance to.port
+          → result_at t e.instance e.port ≡ result_at t to.instance to.port
       at_ends o good h =
           let w = mapped_some (λ (w : Wire). w.to) (find (λ (w : Wire). same_end w.from e) o.wires) to h in
           let f = find_passes (λ (w : Wire). same_end w.from e) (instances.joins_one_definition t.model o) o.wires w.0 good.wires_join_one_definition w.1 in
@@ -108,13 +108,13 @@ module _ (t : Described) (sound : IsSoundFor t.model (Some t.topology)) where
           let q = some_and_of (λ (q : PortOf). same_option (λ j k. j == k) p.0.of q.of) (port_of t.model w.0.to.instance w.0.to.port) p.2 in
           let of : p.0.of ≡ q.0.of = (option_same (λ j k. j == k) nat_same).equal p.0.of q.0.of q.2 in
           let result : Option ℕ → Option Kind = λ o. option_and_then (λ (d : PortDef). d.result) (option_and_then (slice_get t.model.ports) o) in
-          ap (λ (n : ℕ). programs.result_at t n e.port) (sym i) ∙ ap (λ (n : ℕ). programs.result_at t w.0.from.instance n) (sym k)
+          ap (λ (n : ℕ). result_at t n e.port) (sym i) ∙ ap (λ (n : ℕ). result_at t w.0.from.instance n) (sym k)
           ∙ ap (λ (o : Option PortOf). result (option_and_then (λ (x : PortOf). x.of) o)) p.1 ∙ ap result of
           ∙ ap (λ (o : Option PortOf). result (option_and_then (λ (x : PortOf). x.of) o)) (sym q.1)
-          ∙ ap (λ (x : End). programs.result_at t x.instance x.port) w.2
+          ∙ ap (λ (x : End). result_at t x.instance x.port) w.2
 
       go : (o : Option Topology) → IsSoundAt t.model o → option_map (λ (w : Wire). w.to) (find (λ (w : Wire). same_end w.from e) (unwrap_or (option_map (λ (o : Topology). o.wires) o) [])) ≡ Some to
-          → programs.result_at t e.instance e.port ≡ programs.result_at t to.instance to.port
+          → result_at t e.instance e.port ≡ result_at t to.instance to.port
       go None good h = absurd good
       go (Some o) good h = at_ends o good h
 
@@ -150,7 +150,7 @@ module _ (t : Described) (sound : IsSoundFor t.model (Some t.topology)) where
 
   pub default_of_result : (i : ℕ) (point : Point) (k : Kind) → result_of_point t i point ≡ Some k → has_kind t.model.types k (default_of t k) ≡ true
   default_of_result i (Port n number) k h =
-      let d = then_some (λ (d : PortDef). d.result) (programs.definition_at t i n) k h in
+      let d = then_some (λ (d : PortDef). d.result) (definition_at t i n) k h in
       let at = then_some (slice_get t.model.ports) (option_and_then (λ (x : PortOf). x.of) (port_of t.model i n)) d.0 d.1 in
       let lies = (both _ _ (all_get (port_def_lies (length t.model.types)) t.model.ports at.0 d.0 defs_lie at.2)).1 in
       default_fits k (ap (if_some (kind_lies (length t.model.types))) (sym d.2) ∙ lies)

@@ -8,7 +8,6 @@ use Rattle.fp_system.proofs.Local.{actor_law}
 use Rattle.fp_tables.proofs.Alls.{both}
 use Rattle.fp_tables.specs.Components.{is_later}
 use Rattle.fp_tables.specs.Lookup.{Described, component_of}
-use Rattle.fp_tables.specs.Programs as programs
 use Rattle.fp_tables.specs.Sound.{IsSoundFor}
 use Rattle.fp_tables.specs.SoundPrograms.{IsSoundProgram}
 use Rattle.fp_tables.specs.Types.{has_kind}
@@ -52,13 +51,15 @@ use Rattle.fp_logtext.specs.Fitting.{suit_point, result_of_point, results_after,
 use Rattle.fp_logtext.proofs.Components.{param_in}
 use Rattle.fp_logtext.proofs.Commands.{answered_arrival, set_manner, save_manner, implied, IsImplied, of_set, of_save}
 use Rattle.fp_logtext.proofs.Naming.{fit_values}
-use Rattle.fp_logtext.proofs.Typed.{returns_nothing, bound_as, Typed, DoingTyped, DoingsTyped, without_first_typed, bind_typed, Returns, first_returns}
+use Rattle.fp_logtext.proofs.Typed.{returns_nothing, Typed, DoingTyped, DoingsTyped, without_first_typed, bind_typed, Returns, first_returns}
 use Rattle.fp_logtext.proofs.Results.{later_returns_nothing, post_is_later, default_is, default_of_result}
 use Rattle.fp_logtext.proofs.Handlers.{IsOutside, handling_typed, performed_typed}
 use Rattle.fp_logtext.proofs.Stack.{bound_none, Returning, StackTyped, in_frame_typed, Binds, removed_typed, opened_typed, BindsBy, asks_bind}
 use Rattle.fp_events.specs.Run.{by as by_actor}
 use Rattle.fp_logtext.proofs.Runs.{fits_what}
 use Rattle.fp_logtext.proofs.Causes.{LeftBy, CauseBy, CausedIn, due_cause, due_frames}
+use Rattle.fp_logtext.proofs.Listed as listed
+use Rattle.fp_logtext.proofs.Listed.{bound_as}
 
 -- ---- how places are treated
 
@@ -119,7 +120,7 @@ module _ (t : Described) (program : Program) (sound : IsSoundFor t.model (Some t
       → Binds t fs (bound_as (name_for (first_action (doing fs))) (result_of_point t i r.point))
   arrival_binds a i fs q r h asked f rest is default name way x b first =
       let due : due_of t program a fs ≡ Some (i, ask.Arrive r) = h ∙ ap (λ (q : Ask). Some (i, q)) asked in
-      let e : programs.binds t f.instance x ≡ bound_as (as_name x.verb x.bind) (result_of_point t i r.point) = due_binds a fs (i, ask.Arrive r) due f rest is default name way x b first in
+      let e : listed.binds t f.instance x ≡ bound_as (as_name x.verb x.bind) (result_of_point t i r.point) = due_binds a fs (i, ask.Arrive r) due f rest is default name way x b first in
       e ∙ ap (λ (o : Option (Action × Bindings)). bound_as (name_for o) (result_of_point t i r.point)) (sym first)
       ∙ ap (λ (l : List Frame). bound_as (name_for (first_action (doing l))) (result_of_point t i r.point)) (sym is)
 
@@ -140,7 +141,7 @@ module _ (t : Described) (program : Program) (sound : IsSoundFor t.model (Some t
   IsPlain (ask.Advance running signal v) = Unit {0}
   IsPlain _ = ⊥
 
-  plain_by : (i j : ℕ) (x : Act) (q : Ask) → IsPlain q → BindsBy t j x (i, q) → programs.binds t j x ≡ []
+  plain_by : (i j : ℕ) (x : Act) (q : Ask) → IsPlain q → BindsBy t j x (i, q) → listed.binds t j x ≡ []
   plain_by i j x ask.Take p h = h
   plain_by i j x ask.Dispatch p h = h
   plain_by i j x (ask.Emit event vs) p h = h
@@ -249,35 +250,35 @@ module _ (t : Described) (program : Program) (sound : IsSoundFor t.model (Some t
 
   read_binds : (i : ℕ) (subject : End) (name : ℕ) (with : List Arg) (given : Option (List ℕ)) (k : Kind)
       → option_map (λ (p : Param). p.kind) (option_and_then (λ (c : Component). slice_get c.params name) (component_of t.model i)) ≡ Some k
-      → programs.binds t i (record { verb = verb.Read; subject = subject; name = name; with = with; bind = given }) ≡ bound_as given (Some k)
+      → listed.binds t i (record { verb = verb.Read; subject = subject; name = name; with = with; bind = given }) ≡ bound_as given (Some k)
   read_binds i subject name with None k is = refl
   read_binds i subject name with (Some given) k is = rw is refl
 
   verb_binds : (i : ℕ) (x : Act) (k : Kind) → x.verb ≡ verb.Read
       → option_map (λ (p : Param). p.kind) (option_and_then (λ (c : Component). slice_get c.params x.name) (component_of t.model i)) ≡ Some k
-      → programs.binds t i x ≡ bound_as x.bind (Some k)
+      → listed.binds t i x ≡ bound_as x.bind (Some k)
   verb_binds i x k is kind =
-      ap (λ (v : Verb). programs.binds t i (record { verb = v; subject = x.subject; name = x.name; with = x.with; bind = x.bind })) is
+      ap (λ (v : Verb). listed.binds t i (record { verb = v; subject = x.subject; name = x.name; with = x.with; bind = x.bind })) is
       ∙ read_binds i x.subject x.name x.with x.bind k kind
 
   nothing_left : (y : Action) (ys : List Action) → list_all returns_nothing (y ∷ ys) ≡ true → list_all returns_nothing ys ≡ true
   nothing_left y ys h = (both (returns_nothing y) (list_all returns_nothing ys) h).1
 
   doing_read : (i : ℕ) (k : Option Kind) (j : Kind) (v : Value) (x : Act) (d : Doing) (ys : List Action) → d.actions ≡ act x ∷ ys → x.verb ≡ verb.Read
-      → programs.binds t i x ≡ bound_as x.bind (Some j) → has_kind t.model.types j v ≡ true → DoingTyped t i k [] d
+      → listed.binds t i x ≡ bound_as x.bind (Some j) → has_kind t.model.types j v ≡ true → DoingTyped t i k [] d
       → DoingTyped t i k [] (record { actions = ys; bound = (unwrap_or x.bind [], v) ∷ d.bound })
   doing_read i None j v x d ys e is binds has h = nothing_left (act x) ys (ap (λ (l : List Action). list_all returns_nothing l) (sym e) ∙ h)
   doing_read i (Some k) j v x d ys e is binds has (inl h) = inl (nothing_left (act x) ys (ap (λ (l : List Action). list_all returns_nothing l) (sym e) ∙ h))
   doing_read i (Some k) j v x d ys e is binds has (inr h) =
       let typed : Typed t i k h.0 (act x ∷ ys) = subst (λ (l : List Action). Typed t i k h.0 l) e h.1 in
-      go x.bind (typed.0.named is) (subst (λ (b : programs.Bindings). Typed t i k (b ++ h.0) ys) binds typed.1)
+      go x.bind (typed.0.named is) (subst (λ (b : listed.Bindings). Typed t i k (b ++ h.0) ys) binds typed.1)
     where
       go : (o : Option (List ℕ)) → is_some o ≡ true → Typed t i k (bound_as o (Some j) ++ h.0) ys → DoingTyped t i (Some k) [] (record { actions = ys; bound = (unwrap_or o [], v) ∷ d.bound })
       go None there typed = absurd (cc)
       go (Some name) there typed = inr ((name, j) ∷ h.0, typed, (refl, has, h.2))
 
   doings_read : (i : ℕ) (k : Option Kind) (j : Kind) (v : Value) (x : Act) (b : Bindings) (ds : List Doing) → first_action ds ≡ Some (act x, b) → x.verb ≡ verb.Read
-      → programs.binds t i x ≡ bound_as x.bind (Some j) → has_kind t.model.types j v ≡ true → DoingsTyped t i k [] ds
+      → listed.binds t i x ≡ bound_as x.bind (Some j) → has_kind t.model.types j v ≡ true → DoingsTyped t i k [] ds
       → DoingsTyped t i k [] (bind (unwrap_or x.bind []) v (without_first ds))
   doings_read i k j v x b [] e is binds has h = absurd (cc)
   doings_read i k j v x b (d ∷ ds) e is binds has h = go d.actions refl e (λ found. doings_read i k j v x b ds found is binds has h.1)

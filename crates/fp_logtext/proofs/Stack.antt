@@ -2,7 +2,7 @@
 use Rattle.std.proofs.Common.{◌≡◌, ℕ, true, List, [], ◌∷◌, Option, Some, None, option_map, unwrap_or, refl, ap, ◌∙◌, subst}
 use Rattle.fp_base.specs.declared.value.Value.{Value}
 use Rattle.fp_tables.specs.Lookup.{Described, wire_from}
-use Rattle.fp_tables.specs.Programs as programs
+use Rattle.fp_tables.specs.Acts.{result_at}
 use Rattle.fp_tables.specs.Sound.{IsSoundFor}
 use Rattle.fp_tables.specs.Types.{has_kind}
 use Rattle.fp_tables.specs.declared.kind.Kind.{Kind}
@@ -23,11 +23,13 @@ use Rattle.fp_events.specs.declared.event.Ask.{Ask}
 use Rattle.fp_events.specs.declared.event.Ask.TheVariants as ask
 use Rattle.fp_events.proofs.StepLaws.{some_is}
 use Rattle.fp_logtext.specs.Fitting.{result_of_point}
-use Rattle.fp_logtext.proofs.Typed.{bound_as, DoingsTyped, without_first_typed}
+use Rattle.fp_logtext.proofs.Typed.{DoingsTyped, without_first_typed}
 use Rattle.fp_logtext.proofs.Results.{wire_results}
+use Rattle.fp_logtext.proofs.Listed as listed
+use Rattle.fp_logtext.proofs.Listed.{bound_as}
 
 -- what a frame binds in the one below it, when it returns this
-abbrev pub soon_of : Opened → Option Kind → programs.Bindings
+abbrev pub soon_of : Opened → Option Kind → listed.Bindings
 soon_of (arrived default name) k = bound_as name k
 soon_of own k = []
 soon_of taken k = []
@@ -38,31 +40,31 @@ bound_none (Some name) = refl
 
 module _ (t : Described) where
   -- a frame of an arrival returns this, the default where no action returns
-  pub record Returning (default : Option Value) (i : ℕ) (ds : List Doing) (k : Option Kind) (soon : programs.Bindings) : Type 0 where
+  pub record Returning (default : Option Value) (i : ℕ) (ds : List Doing) (k : Option Kind) (soon : listed.Bindings) : Type 0 where
     pub default_is : default ≡ option_map (default_of t) k
     pub default_fits : (j : Kind) → k ≡ Some j → has_kind t.model.types j (default_of t j) ≡ true
     pub typed : DoingsTyped t i k soon ds
 
-  abbrev pub FrameTyped : Opened → ℕ → List Doing → Option Kind → programs.Bindings → Type 0
+  abbrev pub FrameTyped : Opened → ℕ → List Doing → Option Kind → listed.Bindings → Type 0
   FrameTyped (arrived default name) i ds k soon = Returning default i ds k soon
   FrameTyped own i ds k soon = Unit {0}
   FrameTyped taken i ds k soon = Unit {0}
 
   -- a frame over the ones below
-  abbrev pub Over : Opened → ℕ → List Doing → List Frame → (List (Option Kind) → programs.Bindings → Type 0) → List (Option Kind) → programs.Bindings → Type 0
+  abbrev pub Over : Opened → ℕ → List Doing → List Frame → (List (Option Kind) → listed.Bindings → Type 0) → List (Option Kind) → listed.Bindings → Type 0
   Over own i ds fs below ks soon = (fs ≡ []) × (ks ≡ [])
   Over (arrived default name) i ds fs below ks soon =
       (k : Option Kind) × (rest : List (Option Kind)) × (ks ≡ k ∷ rest) × Returning default i ds k soon × below rest (bound_as name k)
   Over taken i ds fs below ks soon = (k : Option Kind) × (rest : List (Option Kind)) × (ks ≡ k ∷ rest) × below rest []
 
   -- frames, what they return, the innermost first, and what is bound soon in the innermost
-  abbrev pub StackTyped : List Frame → List (Option Kind) → programs.Bindings → Type 0
+  abbrev pub StackTyped : List Frame → List (Option Kind) → listed.Bindings → Type 0
   StackTyped [] ks soon = ks ≡ []
   StackTyped (f ∷ fs) ks soon = Over f.opened f.instance f.doing fs (λ rest s. StackTyped fs rest s) ks soon
 
   -- ---- changes of the innermost frame
 
-  changed : (o : Opened) (i : ℕ) (ds es : List Doing) (fs : List Frame) (ks : List (Option Kind)) (soon later : programs.Bindings)
+  changed : (o : Opened) (i : ℕ) (ds es : List Doing) (fs : List Frame) (ks : List (Option Kind)) (soon later : listed.Bindings)
       → ((default : Option Value) (name : Option (List ℕ)) → o ≡ arrived default name → (k : Option Kind) → DoingsTyped t i k soon ds → DoingsTyped t i k later es)
       → StackTyped (record { instance = i; doing = ds; opened = o } ∷ fs) ks soon → StackTyped (record { instance = i; doing = es; opened = o } ∷ fs) ks later
   changed own i ds es fs ks soon later f h = h
@@ -70,7 +72,7 @@ module _ (t : Described) where
       (h.0, h.1, h.2, record { default_is = h.3.default_is; default_fits = h.3.default_fits; typed = f default name refl h.0 h.3.typed }, h.4)
   changed taken i ds es fs ks soon later f h = h
 
-  pub in_frame_typed : (g : List Doing → List Doing) (fs : List Frame) (ks : List (Option Kind)) (soon later : programs.Bindings)
+  pub in_frame_typed : (g : List Doing → List Doing) (fs : List Frame) (ks : List (Option Kind)) (soon later : listed.Bindings)
       → ((f : Frame) (rest : List Frame) → fs ≡ f ∷ rest → (default : Option Value) (name : Option (List ℕ)) → f.opened ≡ arrived default name
       → (k : Option Kind) → DoingsTyped t f.instance k soon f.doing → DoingsTyped t f.instance k later (g f.doing))
       → StackTyped fs ks soon → StackTyped (in_frame g fs) ks later
@@ -78,11 +80,11 @@ module _ (t : Described) where
   in_frame_typed g (x ∷ fs) ks soon later f h = changed x.opened x.instance x.doing (g x.doing) fs ks soon later (f x fs refl) h
 
   -- what the first action of the innermost frame binds soon, where the frame is of an arrival
-  abbrev pub Binds : List Frame → programs.Bindings → Type 0
+  abbrev pub Binds : List Frame → listed.Bindings → Type 0
   Binds fs soon = (f : Frame) (rest : List Frame) → fs ≡ f ∷ rest → (default : Option Value) (name : Option (List ℕ)) → f.opened ≡ arrived default name
-      → (x : Act) (b : Bindings) → first_action f.doing ≡ Some (act x, b) → programs.binds t f.instance x ≡ soon
+      → (x : Act) (b : Bindings) → first_action f.doing ≡ Some (act x, b) → listed.binds t f.instance x ≡ soon
 
-  pub removed_typed : (fs : List Frame) (ks : List (Option Kind)) (soon : programs.Bindings) → Binds fs soon → StackTyped fs ks [] → StackTyped (removed fs) ks soon
+  pub removed_typed : (fs : List Frame) (ks : List (Option Kind)) (soon : listed.Bindings) → Binds fs soon → StackTyped fs ks [] → StackTyped (removed fs) ks soon
   removed_typed fs ks soon binds h =
       in_frame_typed without_first fs ks [] soon
       (λ f rest is default name way k typed. without_first_typed t f.instance k soon f.doing (λ x b first. binds f rest is default name way x b first) typed) h
@@ -94,12 +96,12 @@ module _ (t : Described) where
   -- ---- what the first action binds
 
   binds_call : (i : ℕ) (subject : End) (name : ℕ) (with : List Arg) (given : Option (List ℕ))
-      → programs.binds t i (record { verb = verb.Call; subject = subject; name = name; with = with; bind = given }) ≡ bound_as given (programs.result_at t i subject.port)
+      → listed.binds t i (record { verb = verb.Call; subject = subject; name = name; with = with; bind = given }) ≡ bound_as given (result_at t i subject.port)
   binds_call i subject name with None = refl
-  binds_call i subject name with (Some given) = go (programs.result_at t i subject.port) refl
+  binds_call i subject name with (Some given) = go (result_at t i subject.port) refl
     where
-      go : (k : Option Kind) → programs.result_at t i subject.port ≡ k
-          → programs.binds t i (record { verb = verb.Call; subject = subject; name = name; with = with; bind = Some given }) ≡ bound_as (Some given) (programs.result_at t i subject.port)
+      go : (k : Option Kind) → result_at t i subject.port ≡ k
+          → listed.binds t i (record { verb = verb.Call; subject = subject; name = name; with = with; bind = Some given }) ≡ bound_as (Some given) (result_at t i subject.port)
       go None is = rw is refl
       go (Some k) is = rw is refl
 
@@ -108,10 +110,10 @@ module _ (t : Described) where
   BindsBy i x d = of d.1
     where
       of : Ask → Type 0
-      of (ask.Arrive r) = programs.binds t i x ≡ bound_as (as_name x.verb x.bind) (result_of_point t d.0 r.point)
+      of (ask.Arrive r) = listed.binds t i x ≡ bound_as (as_name x.verb x.bind) (result_of_point t d.0 r.point)
       of (ask.Leave v) = Unit {0}
       of (ask.Read param) = Unit {0}
-      of _ = programs.binds t i x ≡ []
+      of _ = listed.binds t i x ≡ []
 
   module _ (program : Program) (sound : IsSoundFor t.model (Some t.topology)) where
     BindsDue : ℕ → Act → Option (ℕ × Ask) → Type 0
