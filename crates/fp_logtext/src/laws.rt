@@ -1,9 +1,25 @@
 ghost use Rattle.std.specs.Prelude.{◌≡◌, [], ◌∷◌, List, Some, codes, true};
+ghost use Rattle.fp_tables.specs.Lookup.{Described};
+ghost use Rattle.fp_tables.specs.Sound.{IsSoundFor};
+ghost use Rattle.fp_tables.specs.SoundPrograms.{IsSoundProgram};
+ghost use Rattle.fp_tables.specs.declared.program.Program.{Program};
+ghost use Rattle.fp_events.specs.declared.event.Entry.{Entry};
 ghost use Rattle.fp_events.specs.declared.event.Finish.TheVariants as finish;
 ghost use Rattle.fp_events.specs.declared.event.What.TheVariants as what;
 ghost use Rattle.fp_tables.specs.declared.component.Full.TheVariants as full;
 ghost use Rattle.fp_events.specs.FullQueue.{first_put, full_queue, second, two_calls};
+ghost use Rattle.fp_events.specs.Run.{IsRun};
+ghost use Rattle.fp_logtext.specs.Named.{are_named, set_and_save_commands};
+ghost use Rattle.fp_logtext.specs.Fitting.{IsFitting};
 ghost use Rattle.fp_logtext.specs.Log.{Log};
+
+/// A run of sound tables and a sound program is fitting, and so meets the conditions of `print_log`.
+pub fn fitting_runs()
+    ensures fitting { (tables : Described) (program : Program) → IsSoundFor tables.model (Some tables.topology) → IsSoundProgram tables program
+        → (es : List Entry) → IsRun tables program es → IsFitting tables program es }
+    ensures printable { (tables : Described) (program : Program) → IsSoundFor tables.model (Some tables.topology) → IsSoundProgram tables program
+        → (es : List Entry) → IsRun tables program es → (are_named tables program es ≡ true) × (set_and_save_commands tables es ≡ true) }
+{}
 
 /// Two calls at a queue of one, as their log says it.
 pub fn full_queue_texts()

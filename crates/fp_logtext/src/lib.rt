@@ -9,7 +9,7 @@ mod names;
 mod parts;
 mod words;
 
-pub use laws::full_queue_texts;
+pub use laws::{fitting_runs, full_queue_texts};
 pub use log::print_log;
 
 #[cfg(test)]

@@ -1,0 +1,151 @@
+-- The points of sets and saves are set and save commands.
+use Rattle.std.proofs.Common.{◌≡◌, ℕ, true, length, Option, Some, None, option_map, is_some, refl, sym, ap, ◌∙◌, subst, slice_get, nat_lt}
+use Rattle.fp_tables.proofs.Alls.{both, all_get}
+use Rattle.fp_tables.specs.Components.{set_parameter, saved_parameter}
+use Rattle.fp_tables.specs.Lookup.{Described, component_of}
+use Rattle.fp_tables.specs.Positions.{command_lies, part_lies}
+use Rattle.fp_tables.specs.Sound.{IsSound}
+use Rattle.fp_tables.specs.declared.component.Command.{Command}
+use Rattle.fp_tables.specs.declared.component.Component.{Component}
+use Rattle.fp_tables.specs.declared.component.Param.{Param}
+use Rattle.fp_tables.specs.declared.component.Part.{Part}
+use Rattle.fp_tables.specs.declared.component.Part.TheVariants as part
+use Rattle.fp_tables.specs.declared.component.Port.{Port as PortOf}
+use Rattle.fp_tables.specs.declared.component.Running.{Running}
+use Rattle.fp_tables.specs.declared.component.Role.{Role}
+use Rattle.fp_tables.specs.declared.component.Role.TheVariants as role
+use Rattle.fp_tables.specs.declared.component.Way.{Way}
+use Rattle.fp_tables.specs.declared.component.Way.TheVariants.{Later, Sync, Guarded}
+use Rattle.fp_events.specs.Answers.{arrival_in, suits, same_arrival, answers}
+use Rattle.fp_base.specs.Same.{same_option}
+use Rattle.fp_events.specs.Lookup.{component}
+use Rattle.fp_events.specs.Manners.{Manner, by, sets, saves, manner, input_manner, internal_manner, command_manner}
+use Rattle.fp_events.specs.declared.event.Point.{Point}
+use Rattle.fp_events.specs.declared.event.Point.TheVariants.{Port, Command as OfCommand, Post, Signal}
+use Rattle.fp_events.specs.declared.event.Arrival.{Arrival}
+use Rattle.fp_events.specs.declared.event.Ask.{Ask}
+use Rattle.fp_events.specs.declared.event.Ask.TheVariants as ask
+use Rattle.fp_events.specs.declared.event.What.{What}
+use Rattle.fp_events.specs.declared.event.What.TheVariants as what
+use Rattle.fp_events.proofs.SameArrival.{arrival_option_same}
+use Rattle.fp_events.proofs.StepLaws.{mapped_some, then_some, some_is}
+use Rattle.fp_logtext.specs.Names.{command_at, param_name, set_name, saved_name}
+use Rattle.fp_logtext.proofs.Lists.{get_below}
+use Rattle.fp_logtext.proofs.Components.{command_in, commands_lie_at}
+
+-- ---- what an entry with an arrival answers
+
+module _ (t : Described) (i : ℕ) where
+  pub answered_arrival : (w : What) (q : Ask) (r : Arrival) → arrival_in w ≡ Some r → answers t i w q ≡ true → (q ≡ ask.Arrive r) × (suits (manner t i r.point) w ≡ true)
+  unfolding answers
+  answered_arrival w (ask.Arrive q) r is h =
+      let b = both (same_option same_arrival (arrival_in w) (Some q)) (suits (manner t i q.point) w) h in
+      let e : arrival_in w ≡ Some q = arrival_option_same.equal (arrival_in w) (Some q) b.0 in
+      let s : q ≡ r = some_is q r (sym e ∙ is) in
+      (ap ask.Arrive s, subst (λ (x : Arrival). suits (manner t i x.point) w ≡ true) s b.1)
+  answered_arrival (what.Enter x) _ r is h = absurd (cc)
+  answered_arrival (what.Guard x) _ r is h = absurd (cc)
+  answered_arrival (what.Set x) _ r is h = absurd (cc)
+  answered_arrival (what.Save x v) _ r is h = absurd (cc)
+  answered_arrival (what.Put number x) _ r is h = absurd (cc)
+  answered_arrival (what.Dropped x) _ r is h = absurd (cc)
+  answered_arrival (what.Hooked x) _ r is h = absurd (cc)
+  answered_arrival (what.Asserted x) _ r is h = absurd (cc)
+  answered_arrival _ _ r is h = absurd (cc)
+
+pub set_manner : (m : Option Manner) (r : Arrival) → suits m (what.Set r) ≡ true → (k : ℕ) × (m ≡ Some (sets k))
+set_manner None r h = absurd (cc)
+set_manner (Some (by Sync)) r h = absurd (cc)
+set_manner (Some (by Guarded)) r h = absurd (cc)
+set_manner (Some (by (Later priority policy))) r h = absurd (cc)
+set_manner (Some (sets k)) r h = (k, refl)
+set_manner (Some (saves k)) r h = absurd (cc)
+
+pub save_manner : (m : Option Manner) (r : Arrival) (v : _) → suits m (what.Save r v) ≡ true → (k : ℕ) × (m ≡ Some (saves k))
+save_manner None r v h = absurd (cc)
+save_manner (Some (by Sync)) r v h = absurd (cc)
+save_manner (Some (by Guarded)) r v h = absurd (cc)
+save_manner (Some (by (Later priority policy))) r v h = absurd (cc)
+save_manner (Some (sets k)) r v h = absurd (cc)
+save_manner (Some (saves k)) r v h = (k, refl)
+
+-- ---- which commands are treated so
+
+-- a manner that isn't a way
+pub data IsImplied : Manner → Type 0 where
+  of_set : (k : ℕ) → IsImplied (sets k)
+  of_save : (k : ℕ) → IsImplied (saves k)
+
+no_way : (way : Way) (m : Manner) → IsImplied m → by way ≡ m → ⊥
+no_way way (by other) h e = elim h [ ]
+no_way way (sets k) h e = cc
+no_way way (saves k) h e = cc
+
+no_input : (ro : Role) (m : Manner) → IsImplied m → input_manner ro ≡ Some m → ⊥
+no_input (role.Input way) m h e = no_way way m h (some_is (by way) m e)
+no_input _ m h e = cc
+
+no_internal : (ro : Role) (m : Manner) → IsImplied m → internal_manner ro ≡ Some m → ⊥
+no_internal (role.Internal way) m h e = no_way way m h (some_is (by way) m e)
+no_internal _ m h e = cc
+
+sets_part : (way : Way) (p : Part) (k : ℕ) → command_manner way p ≡ sets k → p ≡ part.SetParam k
+sets_part way part.Plain k h = absurd (cc)
+sets_part way (part.SetParam j) k h = cc
+sets_part way (part.SaveParam j) k h = absurd (cc)
+
+pub saves_part : (way : Way) (p : Part) (k : ℕ) → command_manner way p ≡ saves k → p ≡ part.SaveParam k
+saves_part way part.Plain k h = absurd (cc)
+saves_part way (part.SetParam j) k h = absurd (cc)
+saves_part way (part.SaveParam j) k h = cc
+
+-- a command that sets or saves a parameter
+pub record Implied (t : Described) (i : ℕ) (point : Point) (m : Manner) : Type 0 where
+  pub number : ℕ
+  pub command : Command
+  pub is : point ≡ OfCommand number
+  pub found : command_at t.model i number ≡ Some command
+  pub treated : command_manner command.way command.part ≡ m
+
+pub implied : (t : Described) (i : ℕ) (point : Point) (m : Manner) → IsImplied m → manner t i point ≡ Some m → Implied t i point m
+implied t i (Port n number) m h e = let p = then_some (λ (p : PortOf). input_manner p.role) (slice_get (component t i).ports n) m e in absurd (no_input p.0.role m h p.2)
+implied t i (OfCommand n) m h e =
+    let c = mapped_some (λ (c : Command). command_manner c.way c.part) (slice_get (component t i).commands n) m e in
+    record { number = n; command = c.0; is = refl; found = sym (command_in t i n) ∙ c.1; treated = c.2 }
+implied t i (Post n) m h e = let p = then_some (λ (p : PortOf). internal_manner p.role) (slice_get (component t i).ports n) m e in absurd (no_internal p.0.role m h p.2)
+implied t i (Signal running signal) m h e =
+    let r = mapped_some (λ (r : Running). by r.way) (slice_get (component t i).machines running) m e in
+    absurd (no_way r.0.way m h r.2)
+
+-- ---- their parameters
+
+module _ (t : Described) (sound : IsSound t.model) (i : ℕ) where
+  part_lies_at : (c : Component) (n : ℕ) (x : Command) → component_of t.model i ≡ Some c → slice_get c.commands n ≡ Some x → part_lies (length c.params) x.part ≡ true
+  part_lies_at c n x e f = (both _ _ (all_get (command_lies (length t.model.types) (length c.params)) c.commands n x (commands_lie_at t.model sound i c e) f)).1
+
+  param_named : (c : Component) (k : ℕ) → component_of t.model i ≡ Some c → nat_lt k (length c.params) ≡ true → is_some (param_name t.model i k) ≡ true
+  param_named c k e below = rw e (named (slice_get c.params k) (get_below c.params k below))
+    where
+      named : (o : Option Param) → is_some o ≡ true → is_some (option_map (λ (p : Param). p.name) o) ≡ true
+      named None h = h
+      named (Some p) h = refl
+
+  pub set_is_named : (point : Point) (k : ℕ) → manner t i point ≡ Some (sets k) → is_some (set_name t.model i point) ≡ true
+  set_is_named point k h =
+      let m = implied t i point (sets k) (of_set k) h in
+      let c = then_some (λ (c : Component). slice_get c.commands m.number) (component_of t.model i) m.command m.found in
+      let p : m.command.part ≡ part.SetParam k = sets_part m.command.way m.command.part k m.treated in
+      let lies : part_lies (length c.0.params) (part.SetParam k) ≡ true = subst (λ q. part_lies (length c.0.params) q ≡ true) p (part_lies_at c.0 m.number m.command c.1 c.2) in
+      let named : is_some (param_name t.model i k) ≡ true = param_named c.0 k c.1 lies in
+      let parameter : set_parameter m.command ≡ Some k = ap (λ (q : Part). set_parameter (record m.command { part = q })) p in
+      rw (m.is, m.found, parameter) named
+
+  pub save_is_named : (point : Point) (k : ℕ) → manner t i point ≡ Some (saves k) → is_some (saved_name t.model i point) ≡ true
+  save_is_named point k h =
+      let m = implied t i point (saves k) (of_save k) h in
+      let c = then_some (λ (c : Component). slice_get c.commands m.number) (component_of t.model i) m.command m.found in
+      let p : m.command.part ≡ part.SaveParam k = saves_part m.command.way m.command.part k m.treated in
+      let lies : part_lies (length c.0.params) (part.SaveParam k) ≡ true = subst (λ q. part_lies (length c.0.params) q ≡ true) p (part_lies_at c.0 m.number m.command c.1 c.2) in
+      let named : is_some (param_name t.model i k) ≡ true = param_named c.0 k c.1 lies in
+      let parameter : saved_parameter m.command ≡ Some k = ap (λ (q : Part). saved_parameter (record m.command { part = q })) p in
+      rw (m.is, m.found, parameter) named
