@@ -18,13 +18,13 @@ use Rattle.fp_parse_defs.proofs.Parts.{separator_accepts, separator_refuses}
 use Rattle.fp_parse_defs.proofs.elements.formal.Goals as goal
 
 pub returns-in_err-name : goal.returns-in_err-name
-returns-in_err-name c = passing _ _ (λ to p. stop_first (next (under (begin _ _ (F.formal_fits _))) c.ref_part.ensures) p) c.in_err-name.ensures c.from_residual.ensures.1
+returns-in_err-name c = passing _ _ (λ to p. stop_first (next (under (begin _ _ (F.formal_fits _))) c.ref_part-by_ref.ensures) p) c.in_err-name.ensures c.from_residual.ensures.1
 
 pub returns-in_err-at : goal.returns-in_err-at
-returns-in_err-at c = passing _ _ (λ to p. stop_first (under (next (next (under (begin _ _ (F.formal_fits _))) c.ref_part.ensures) c.in_ok-name.ensures)) p) c.in_err-at.ensures c.from_residual-in_err-at.ensures.1
+returns-in_err-at c = passing _ _ (λ to p. stop_first (under (next (next (under (begin _ _ (F.formal_fits _))) c.ref_part-by_ref.ensures) c.in_ok-name.ensures)) p) c.in_err-at.ensures c.from_residual-in_err-at.ensures.1
 
 pub returns-in_err-of : goal.returns-in_err-of
-returns-in_err-of c = passing _ _ (λ to p. stop (next (under (next (next (under (begin _ _ (F.formal_fits _))) c.ref_part.ensures) c.in_ok-name.ensures)) c.in_ok-at.ensures.1) p) c.in_err-of.ensures c.from_residual-in_err-of.ensures.1
+returns-in_err-of c = passing _ _ (λ to p. stop (next (under (next (next (under (begin _ _ (F.formal_fits _))) c.ref_part-by_ref.ensures) c.in_ok-name.ensures)) c.in_ok-at.ensures.1) p) c.in_err-of.ensures c.from_residual-in_err-of.ensures.1
 
 pub returns : goal.returns
-returns c = as_value (sym c.formal_of.ensures) (done (next (under (next (next (under (begin _ _ (F.formal_fits _))) c.ref_part.ensures) c.in_ok-name.ensures)) c.in_ok-at.ensures.1) c.in_ok-of.ensures)
+returns c = as_value (sym c.formal_of.ensures) (done (next (under (next (next (under (begin _ _ (F.formal_fits _))) c.ref_part-by_ref.ensures) c.in_ok-name.ensures)) c.in_ok-at.ensures.1) c.in_ok-of.ensures)
