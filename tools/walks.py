@@ -15,7 +15,7 @@ A part is the name that the code gives it, and the clause of the call that says 
 import pathlib
 
 HEAD = """\
-use Rattle.std.proofs.Common.{rules, ◌≡◌, ◌<◌, ◌≤◌, ◌+◌, ◌-◌, suc, arith, refl, sym, ap, subst, ◌∙◌, ◌++◌, ◌∷◌, []}
+use Rattle.std.proofs.Common.{rules, ◌≡◌, ◌<◌, ◌≤◌, ◌-◌, suc, arith, refl, sym, ap, subst, ◌∙◌, ◌∷◌, []}
 use Rattle.std.proofs.lemmas.Bool.{lt-ltb, le-ltb}
 use Rattle.fp_grammar.specs.Grammar.Grammar.{alt}
 use Rattle.fp_grammar.proofs.Answering.{passing, handing, absent_now, refused_later, as_value, absent_map, absent_both}
@@ -28,7 +28,7 @@ use Rattle.fp_grammar.proofs.ChainSteps.{chain_begin, chain_first_refused, chain
 use Rattle.fp_parse_defs.specs.Kinds.{k_name, k_minus, k_open, k_open_bracket}
 use Rattle.fp_parse_defs.specs.Words.{nesting, literal, named}
 use Rattle.fp_parse_defs.specs.Lists.{gathered, separated_by, commas}
-use Rattle.fp_parse_defs.specs.Lists.Piece.{element, separator}
+use Rattle.fp_parse_defs.specs.Lists.Piece.{element}
 use Rattle.fp_parse_defs.specs.Language
 use Rattle.fp_parse_defs.specs.Language.{with_item, with_member}
 use Rattle.fp_parse_defs.proofs.WordsFit.{each_kind, building_as}
@@ -127,7 +127,7 @@ def unless(node, test, refs):
 
 def factor():
     refs = f"(factor_fits {DEPTH}).refs"
-    nest = f"(Language.nested {DEPTH})"[1:-1]
+    nest = f"Language.nested {DEPTH}"
     return [
         answer("factor-returns-then-name_at-clause-parses", handing([("first", beside("literal", "(k_name ∷ [])", "name_at", refs + ".0")), ("third", beside(nest, "(k_name ∷ [])", "name_at", refs + ".1.1"))], [("second", "first"), ("first", "third")], "c.named.ensures", True)),
         answer("factor-returns-then-nested_at-clause-parses", handing([("first", beside("literal", "nesting", "nested_at", refs + ".0")), ("second", beside("named", "nesting", "nested_at", refs + ".1.0"))], [("second", "first"), ("second", "second")], "c.nested.ensures.parses", True)),

@@ -1,10 +1,10 @@
 -- The grammar of expressions passes the test for one token of lookahead, at each depth.
-use Rattle.std.proofs.Common.{◌≡◌, ℕ, zero, suc, ◌<◌, Bool, true, false, ◌&&◌, List, [], ◌∷◌, refl, sym, ◌∙◌, ap, subst, arith}
+use Rattle.std.proofs.Common.{◌≡◌, ℕ, zero, suc, ◌<◌, true, false, List, [], ◌∷◌, refl, sym, subst, arith}
 use Rattle.std.specs.Prelude.{Result}
 use Rattle.fp_lexer.specs.declared.token.Token.{Token}
 use Rattle.fp_grammar.specs.declared.halt.Halt.{Halt}
-use Rattle.fp_grammar.specs.Grammar.{Grammar, Language, Spells, after}
-use Rattle.fp_grammar.specs.Grammar.Grammar.{seq, token, map, chain, ref}
+use Rattle.fp_grammar.specs.Grammar.{Language}
+use Rattle.fp_grammar.specs.Grammar.Grammar.{seq}
 use Rattle.fp_grammar.specs.Promises.{IsGood, RefsGood, Fits}
 use Rattle.fp_grammar.specs.Parses.{Accepts, Refuses, Parses}
 use Rattle.fp_grammar.proofs.Fits.{good_of}
@@ -12,10 +12,10 @@ use Rattle.fp_grammar.proofs.Sealed.{sealed_good}
 use Rattle.fp_grammar.proofs.Nesting.{closed_good, nested_good, closed_refuses, open_accepts, open_refuses}
 use Rattle.fp_grammar.proofs.Answering.{handing}
 use Rattle.fp_parse_defs.specs.declared.measured.Measured.{Measured}
-use Rattle.fp_parse_defs.specs.Kinds.{kind, k_dot, k_times, k_over, k_plus, k_minus, k_equals}
-use Rattle.fp_parse_defs.specs.Words.{nesting, plus_minus, times_over, name}
+use Rattle.fp_parse_defs.specs.Kinds.{kind, k_dot, k_times, k_over, k_plus, k_minus}
+use Rattle.fp_parse_defs.specs.Words.{nesting, plus_minus, times_over}
 use Rattle.fp_parse_defs.specs.Lists.{noted}
-use Rattle.fp_parse_defs.specs.Language.{begins, is_left, Level, level, factor_body, factor_of, operand_of, term_body, term_of, expr_body, expr_of, nested, factor, term, expr, inside, negated, group, array, structure, items, setting, some_members, members}
+use Rattle.fp_parse_defs.specs.Language.{begins, is_left, Level, level, factor_body, factor_of, operand_of, term_body, term_of, expr_body, expr_of, nested, factor, term, expr, inside, negated, group, array, structure, items, setting, some_members}
 use Rattle.fp_parse_defs.proofs.WordsFit.{each_kind}
 
 left_some : (depth : ℕ) → 0 < depth → is_left depth ≡ true

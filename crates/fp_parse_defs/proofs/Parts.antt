@@ -1,9 +1,9 @@
 -- Steps that several parsers take.
-use Rattle.std.proofs.Common.{◌≡◌, ℕ, ◌+◌, ◌-◌, ◌<◌, ◌≤◌, List, [], ◌∷◌, ◌++◌, ◌∙◌, ap, refl, sym, arith}
+use Rattle.std.proofs.Common.{ℕ, ◌+◌, ◌-◌, ◌<◌, ◌≤◌, List, ◌++◌, ◌∙◌, ap, refl, arith}
 use Rattle.std.specs.Prelude.{max}
 use Rattle.std.proofs.Math.Nat.{max-le}
 use Rattle.fp_lexer.specs.declared.token.Token.{Token}
-use Rattle.fp_grammar.specs.Grammar.{Grammar, Spells}
+use Rattle.fp_grammar.specs.Grammar.{Grammar}
 use Rattle.fp_grammar.specs.Grammar.Grammar.{one_of, seq}
 use Rattle.fp_grammar.specs.Promises.{Fits}
 use Rattle.fp_grammar.specs.Parses.{Accepts, Refuses, NextAmong}

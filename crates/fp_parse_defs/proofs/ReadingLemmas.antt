@@ -1,14 +1,13 @@
 -- From what was read at the depth that is allowed, and at one more, to what a parse answers.
-use Rattle.std.proofs.Common.{◌≡◌, ℕ, ◌+◌, ◌-◌, ◌<◌, ◌≤◌, List, [], ◌∷◌, ◌++◌, ◌⊎◌, Option, Some, None, length, take, drop, refl, sym, ◌∙◌, ap, subst, inl, inr, arith, length-append, length-drop, append_assoc}
+use Rattle.std.proofs.Common.{◌≡◌, ℕ, ◌+◌, ◌<◌, ◌≤◌, List, [], ◌∷◌, ◌++◌, Option, Some, None, length, take, drop, refl, sym, ◌∙◌, ap, subst, inl, inr, arith, length-append, append_assoc}
 use Rattle.std.specs.Prelude.{Ok, Err}
 use Rattle.fp_base.specs.declared.refusal.Refusal.{Refusal}
 use Rattle.fp_base.specs.declared.refusal.Stop.TheVariants.{Broken}
 use Rattle.fp_base.specs.declared.rule.Rule.TheVariants.{NestingTooDeep}
 use Rattle.fp_lexer.specs.declared.token.Token.{Token}
-use Rattle.fp_tree.specs.declared.expression.Expr.{Expr}
 use Rattle.fp_grammar.specs.declared.halt.Halt.TheVariants.{Unexpected}
 use Rattle.fp_grammar.specs.Grammar.{Grammar, Spells}
-use Rattle.fp_grammar.specs.Longest.{IsLongestViable, IsViable}
+use Rattle.fp_grammar.specs.Longest.{IsLongestViable}
 use Rattle.fp_grammar.specs.Promises.{Fits}
 use Rattle.fp_grammar.specs.Parses.{Accepts, Refuses}
 use Rattle.fp_grammar.proofs.Lists.{Cuts, cuts_of}
@@ -23,7 +22,7 @@ use Rattle.fp_parse_defs.specs.Definitions.{definition}
 use Rattle.fp_parse_defs.proofs.DefinitionsFit.{definition_fits}
 use Rattle.fp_parse_defs.specs.Reading.{limit, unexpected, Deeper, BeginsAt, NodeOf, Reads, Answers}
 use Rattle.fp_parse_defs.proofs.WordsFit.{each_kind}
-use Rattle.fp_parse_defs.proofs.Levels.{Kept, kept}
+use Rattle.fp_parse_defs.proofs.Levels.{kept}
 
 pub expression_fits : (depth : ℕ) → Fits kind (expression depth)
 expression_fits depth = let e = (kept depth).exprs in record { ll1 = refl; some = refl; refs = assumption (each_kind, e) }

@@ -1,13 +1,13 @@
 -- What single tokens spell passes the test for one token of lookahead.
-use Rattle.std.proofs.Common.{◌≡◌, ℕ, zero, suc, ◌+◌, ◌*◌, ◌⊎◌, [], ◌∷◌, List, Some, refl, inl, inr, arith, subst}
-use Rattle.std.specs.Prelude.{pos, true, Bool}
+use Rattle.std.proofs.Common.{◌≡◌, ℕ, zero, suc, ◌+◌, ◌*◌, ◌⊎◌, [], ◌∷◌, List, refl, inl, inr, arith, subst}
+use Rattle.std.specs.Prelude.{pos, Bool}
 use Rattle.fp_base.specs.declared.place.Place.{Place}
 use Rattle.fp_base.specs.declared.place.Span.{Span}
 use Rattle.fp_lexer.specs.declared.token.Word.{Word}
 use Rattle.fp_lexer.specs.declared.token.Word.TheVariants as word
 use Rattle.fp_lexer.specs.declared.token.Token.{Token}
-use Rattle.fp_grammar.specs.Grammar.{Grammar, Among, after}
-use Rattle.fp_grammar.specs.Grammar.Grammar.{token, seq, map}
+use Rattle.fp_grammar.specs.Grammar.{Grammar, after}
+use Rattle.fp_grammar.specs.Grammar.Grammar.{token, seq}
 use Rattle.fp_grammar.specs.Promises.{HasEachKind, Fits}
 use Rattle.fp_grammar.specs.Parses.{Accepts, Refuses, NextAmong}
 use Rattle.fp_grammar.proofs.Steps.{token_accepts, map_accepts, map_refuses}

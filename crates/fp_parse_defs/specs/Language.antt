@@ -7,13 +7,12 @@ use Rattle.fp_tree.specs.declared.name.Name.{Name}
 use Rattle.fp_tree.specs.declared.expression.Expr.{Expr}
 use Rattle.fp_tree.specs.declared.expression.Form.TheVariants as form
 use Rattle.fp_tree.specs.declared.expression.Operator.{Operator}
-use Rattle.fp_tree.specs.declared.expression.Assignment.{Assignment}
 use Rattle.fp_parse_defs.specs.declared.measured.Measured.{Measured}
 use Rattle.fp_parse_defs.specs.declared.measured.Setting.{Setting}
 use Rattle.fp_parse_defs.specs.declared.measured.Items.{Items}
 use Rattle.fp_parse_defs.specs.declared.measured.Members.{Members}
-use Rattle.fp_grammar.specs.Grammar.{Grammar, Language, Nonterminal, Spells, after}
-use Rattle.fp_grammar.specs.Grammar.Grammar.{token, one_of, seq, map, alt, optional, many, alternating, chain, ref}
+use Rattle.fp_grammar.specs.Grammar.{Grammar, Language, Spells}
+use Rattle.fp_grammar.specs.Grammar.Grammar.{seq, map, alt, optional, chain, ref}
 use Rattle.fp_grammar.specs.Seal.{seal}
 use Rattle.fp_parse_defs.specs.Kinds.{kind, k_name, k_number, k_float, k_string, k_true, k_false, k_open, k_close, k_open_bracket, k_close_bracket, k_open_brace, k_close_brace, k_times, k_over, k_plus, k_minus, k_dot, k_equals}
 use Rattle.fp_parse_defs.specs.Words.{between, bare, at, name, literal, named, plus_minus, times_over, nesting}

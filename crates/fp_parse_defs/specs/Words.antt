@@ -1,5 +1,5 @@
 -- What single tokens spell: names, literals, operators and the places of marks.
-use Rattle.std.specs.Prelude.{ℕ, ℤ, pos, List, [], ◌∷◌, ◌++◌, true, cond, ◌==◌}
+use Rattle.std.specs.Prelude.{ℕ, List, [], ◌∷◌, ◌++◌, true, cond, ◌==◌}
 use Rattle.fp_base.specs.declared.place.Span.{Span}
 use Rattle.fp_lexer.specs.declared.token.Word.{Word}
 use Rattle.fp_lexer.specs.declared.token.Word.TheVariants as word
@@ -13,7 +13,7 @@ use Rattle.fp_tree.specs.declared.expression.Operator.{Operator}
 use Rattle.fp_tree.specs.declared.expression.Operator.TheVariants as operator
 use Rattle.fp_parse_defs.specs.declared.measured.Measured.{Measured}
 use Rattle.fp_grammar.specs.Grammar.{Grammar, after}
-use Rattle.fp_grammar.specs.Grammar.Grammar.{token, one_of, seq, map, chain}
+use Rattle.fp_grammar.specs.Grammar.Grammar.{token, one_of, map, chain}
 use Rattle.fp_parse_defs.specs.Kinds.{k_name, k_number, k_float, k_string, k_true, k_false, k_dot, k_times, k_over, k_plus, k_minus, k_open, k_open_bracket, k_open_brace}
 
 -- from the first byte of one to the last of another

@@ -35,6 +35,7 @@ pub fn expression(
         match plus_minus_at(tokens, at) {
             None => return Ok((sum, at)),
             Some(operator) => {
+                // The operator would nest what stands before it too deep.
                 if sum.height >= depth {
                     return Ok((sum, at));
                 }
@@ -56,6 +57,7 @@ fn term(alloc: Global, tokens: &[Token], from: usize, depth: u32) -> Result<(Mea
         match times_over_at(tokens, at) {
             None => return Ok((product, at)),
             Some(operator) => {
+                // The operator would nest what stands before it too deep.
                 if product.height >= depth {
                     return Ok((product, at));
                 }

@@ -1,4 +1,4 @@
-use Rattle.std.proofs.Common.{rules, ◌≡◌, ◌<◌, ◌≤◌, ◌+◌, ◌-◌, suc, arith, refl, sym, ap, subst, ◌∙◌, ◌++◌, ◌∷◌, []}
+use Rattle.std.proofs.Common.{rules, ◌≡◌, ◌<◌, ◌≤◌, ◌-◌, suc, arith, refl, sym, ap, subst, ◌∙◌, ◌∷◌, []}
 use Rattle.std.proofs.lemmas.Bool.{lt-ltb, le-ltb}
 use Rattle.fp_grammar.specs.Grammar.Grammar.{alt}
 use Rattle.fp_grammar.proofs.Answering.{passing, handing, absent_now, refused_later, as_value, absent_map, absent_both}
@@ -11,7 +11,7 @@ use Rattle.fp_grammar.proofs.ChainSteps.{chain_begin, chain_first_refused, chain
 use Rattle.fp_parse_defs.specs.Kinds.{k_name, k_minus, k_open, k_open_bracket}
 use Rattle.fp_parse_defs.specs.Words.{nesting, literal, named}
 use Rattle.fp_parse_defs.specs.Lists.{gathered, separated_by, commas}
-use Rattle.fp_parse_defs.specs.Lists.Piece.{element, separator}
+use Rattle.fp_parse_defs.specs.Lists.Piece.{element}
 use Rattle.fp_parse_defs.specs.Language
 use Rattle.fp_parse_defs.specs.Language.{with_item, with_member}
 use Rattle.fp_parse_defs.proofs.WordsFit.{each_kind, building_as}
