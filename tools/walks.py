@@ -9,6 +9,9 @@ PRODUCTIONS, in the form of its parse function:
   elements(..)                        at least one element between separators, with annotations
   chain(..)                           operators that group to the left, up to a depth
 
+It writes the walks of `src/expression.rt` alone. Those of definitions, names of types and elements are kept by hand, a file for each
+function, in the same forms.
+
 A part is the name that the code gives it, and the clause of the call that says what it read ('' where the call has one clause).
 """
 

@@ -1,4 +1,5 @@
 mod WordsFit
 mod Levels
+mod DefinitionsFit
 mod Parts
 mod ReadingLemmas

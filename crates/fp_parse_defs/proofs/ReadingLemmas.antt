@@ -17,6 +17,9 @@ use Rattle.fp_grammar.proofs.LongestLemmas.{answers_longest}
 use Rattle.fp_parse_defs.specs.declared.measured.Measured.{Measured}
 use Rattle.fp_parse_defs.specs.Kinds.{kind}
 use Rattle.fp_parse_defs.specs.Language.{expr, expression}
+use Rattle.fp_tree.specs.declared.definition.Def.{Def}
+use Rattle.fp_parse_defs.specs.Definitions.{definition}
+use Rattle.fp_parse_defs.proofs.DefinitionsFit.{definition_fits}
 use Rattle.fp_parse_defs.specs.Reading.{limit, unexpected, Deeper, BeginsAt, NodeOf, Reads, Answers}
 use Rattle.fp_parse_defs.proofs.WordsFit.{each_kind}
 use Rattle.fp_parse_defs.proofs.Levels.{kept}
@@ -32,6 +35,16 @@ read_some depth tokens from m to p =
 pub read_none : (depth : ℕ) (tokens : List Token) (from to : ℕ) → Refuses kind (expr depth) tokens from to → Reads (expression depth) tokens from None to
 read_none depth tokens from to p =
     let a = answers_longest (expression depth) tokens from (Err (Unexpected to)) (expression_fits depth) (map_refuses p) in
+    (a.0, a.1, a.3, a.2)
+
+pub read_definition : (depth : ℕ) (tokens : List Token) (from : ℕ) (x : Def) (to : ℕ) → Accepts kind (definition depth) tokens from x to → Reads (definition depth) tokens from (Some x) to
+read_definition depth tokens from x to p =
+    let a = answers_longest (definition depth) tokens from (Ok (x, to)) (definition_fits depth) p in
+    (a.0, a.1, a.3, a.2)
+
+pub no_definition : (depth : ℕ) (tokens : List Token) (from to : ℕ) → Refuses kind (definition depth) tokens from to → Reads (definition depth) tokens from None to
+no_definition depth tokens from to p =
+    let a = answers_longest (definition depth) tokens from (Err (Unexpected to)) (definition_fits depth) p in
     (a.0, a.1, a.3, a.2)
 
 module _ {X : Type 0} (g : ℕ → Grammar Token X) where

@@ -4,14 +4,17 @@ ghost use Rattle.fp_tree.specs.declared.expression.Expr.{Expr};
 ghost use Rattle.fp_grammar.specs.Grammar.{Spells};
 ghost use Rattle.fp_parse_defs.specs.Kinds.{kind};
 ghost use Rattle.fp_parse_defs.specs.Language;
+ghost use Rattle.fp_parse_defs.specs.Definitions as D;
+ghost use Rattle.fp_tree.specs.declared.definition.Def.{Def};
 ghost use Rattle.fp_parse_defs.specs.Reading.{Answers, BeginsAt, Reads, left_out, limit, unexpected};
 
+use crate::definition::definition;
 use crate::expression::expression;
 use crate::measured::Measured;
 use fp_base::{NoMemory, Refusal, Row, Rule, Stop};
 use fp_grammar::Halt;
 use fp_lexer::{Token, Word};
-use fp_tree::Expr;
+use fp_tree::{Def, Expr};
 use std::alloc::Global;
 
 /// How deep expressions nest at most.
@@ -56,6 +59,47 @@ fn read(
             let Measured { expr, height: _ } = found;
             Ok((Some(expr), to))
         }
+        Err(Halt::Unexpected(to)) => Ok((None, to)),
+        Err(Halt::NoMemory) => Err(NoMemory),
+    }
+}
+
+/// Reads a definition from a position on.
+pub fn parse_def(alloc: Global, tokens: &Row<Token>, from: u32) -> Result<(Def, u32), Stop>
+    requires some { 0 < length tokens.now }
+    requires short { length tokens.now < 2 ^ 32 }
+    requires within { from ≤ length tokens.now }
+    ensures { Answers D.definition tokens.now from result }
+{
+    let tokens = tokens.as_slice();
+    let from = from as usize;
+    let (node, to) = read_definition(alloc, tokens, from, LIMIT)?;
+    let (_, deeper) = read_definition(alloc, tokens, from, LIMIT + 1)?;
+    if to < deeper {
+        return Err(Stop::Broken(refusal(tokens, to, Rule::NestingTooDeep)));
+    }
+    match node {
+        Some(definition) => Ok((definition, to as u32)),
+        None => {
+            let rule = unexpected(tokens, to);
+            Err(Stop::Broken(refusal(tokens, to, rule)))
+        }
+    }
+}
+
+// The definition, if there is one, and the position at which what was read of it ends.
+fn read_definition(
+    alloc: Global,
+    tokens: &[Token],
+    from: usize,
+    depth: u32,
+) -> Result<(Option<Def>, usize), NoMemory>
+    requires { from ≤ length tokens.now }
+    ensures reads { IfOk result (λ p. Reads (D.definition depth) tokens.now from p.0 p.1) }
+    ensures within { IfOk result (λ p. p.1 ≤ length tokens.now) }
+{
+    match definition(alloc, tokens, from, depth) {
+        Ok((found, to)) => Ok((Some(found), to)),
         Err(Halt::Unexpected(to)) => Ok((None, to)),
         Err(Halt::NoMemory) => Err(NoMemory),
     }
@@ -111,4 +155,9 @@ fn refusal(tokens: &[Token], at: usize, rule: Rule) -> Refusal
 /// A token list spells at most one expression.
 pub fn one_expr()
     ensures { (w : List Token) (x y : Expr) → Spells kind (Language.expression limit) w x → Spells kind (Language.expression limit) w y → x ≡ y }
+{}
+
+/// A token list spells at most one definition.
+pub fn one_def()
+    ensures { (w : List Token) (x y : Def) → Spells kind (D.definition limit) w x → Spells kind (D.definition limit) w y → x ≡ y }
 {}

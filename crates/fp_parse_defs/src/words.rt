@@ -1,6 +1,6 @@
 ghost use Rattle.std.specs.Prelude.{◌≡◌, ◌∷◌, ◌+◌, ◌<◌, [], length, MatchBool, MatchOption, IfOk};
-ghost use Rattle.fp_grammar.specs.Parses.{Accepts, NextAmong, Parses, ParsesHere, Refuses};
-ghost use Rattle.fp_parse_defs.specs.Kinds.{kind, word_kind, k_mark, k_name};
+ghost use Rattle.fp_grammar.specs.Parses.{Accepts, NextAmong, Parses, ParsesHere, ParsesToken, Refuses};
+ghost use Rattle.fp_parse_defs.specs.Kinds.{kind, word_kind, k_mark, k_name, k_reserved};
 ghost use Rattle.fp_parse_defs.specs.Words as W;
 ghost use Rattle.fp_parse_defs.specs.Lists as L;
 
@@ -235,4 +235,71 @@ pub fn named(alloc: Global, tokens: &[Token], from: usize) -> Result<(Measured, 
     let (qual, to) = qualified_name(alloc, tokens, from)?;
     let at = qual.at;
     Ok((leaf(alloc, Form::Use(qual), at), to))
+}
+
+fn is_reserved(word: &Word, reserved: u8) -> bool
+    ensures { MatchBool result (word_kind word.now ≡ k_reserved reserved) (word_kind word.now ≡ k_reserved reserved → ⊥) }
+{
+    match word {
+        Word::Reserved(found) => *found == reserved,
+        _ => false,
+    }
+}
+
+/// Reads this mark, named by its place in the table of marks.
+pub fn skip_mark(tokens: &[Token], from: usize, mark: u8) -> Result<usize, Halt>
+    ensures { ParsesToken kind (k_mark mark) tokens.now from result }
+{
+    match tokens.get(from) {
+        Some(token) => {
+            if is_mark(&token.what, mark) {
+                Ok(from + 1)
+            } else {
+                Err(Halt::Unexpected(from))
+            }
+        }
+        None => Err(Halt::Unexpected(from)),
+    }
+}
+
+/// Reads this reserved word, named by its place in the table of reserved words, and says where it stands.
+pub fn expect_word(tokens: &[Token], from: usize, word: u8) -> Result<(Span, usize), Halt>
+    ensures { Parses kind (W.at (k_reserved word)) tokens.now from result }
+{
+    match tokens.get(from) {
+        Some(token) => {
+            if is_reserved(&token.what, word) {
+                Ok((token.at, from + 1))
+            } else {
+                Err(Halt::Unexpected(from))
+            }
+        }
+        None => Err(Halt::Unexpected(from)),
+    }
+}
+
+/// Whether this reserved word is at a position.
+pub fn word_at(tokens: &[Token], at: usize, word: u8) -> bool
+    ensures { MatchBool result (NextAmong kind (k_reserved word ∷ []) tokens.now at) (NextAmong kind (k_reserved word ∷ []) tokens.now at → ⊥) }
+{
+    match tokens.get(at) {
+        Some(token) => is_reserved(&token.what, word),
+        None => false,
+    }
+}
+
+/// Where this reserved word stands, if it is at a position.
+pub fn span_at(tokens: &[Token], at: usize, word: u8) -> Option<Span>
+    ensures { ParsesHere kind (W.at (k_reserved word)) tokens.now at result }
+{
+    match tokens.get(at) {
+        Some(token) => {
+            if is_reserved(&token.what, word) {
+                Some(token.at)
+            } else {
+                None
+            }
+        }
+        None => None,
+    }
 }

@@ -1,0 +1,15 @@
+use Rattle.std.proofs.Common.{◌∷◌, length, drop}
+use Rattle.fp_grammar.specs.Grammar.Grammar.{alternating}
+use Rattle.fp_grammar.proofs.Walk.{Reached}
+use Rattle.fp_parse_defs.specs.Kinds.{kind}
+use Rattle.fp_parse_defs.specs.Lists.{gathered, annotated, separated_by, commas}
+use Rattle.fp_parse_defs.specs.Lists.Piece.{element}
+use Rattle.fp_parse_defs.specs.Definitions as D
+use Rattle.fp_parse_defs.proofs.elements.some_formals.Given as goal
+
+-- what was read are the elements so far and one more, and a separator may follow
+abbrev pub invariant-separators : goal.invariant-separators
+invariant-separators l = Reached kind (D.some_formals l.depth) (alternating (separated_by commas) (annotated (D.formal l.depth))) (λ rest. gathered D.with_formal l.all_formals (element l.item l.lines ∷ rest)) l.tokens l.from l.at
+
+abbrev pub decreases-separators : goal.decreases-separators
+decreases-separators l = length (drop l.at l.tokens)
