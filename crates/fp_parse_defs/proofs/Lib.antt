@@ -1,5 +1,5 @@
-mod WordsFit
+pub mod WordsFit
 mod Levels
-mod DefinitionsFit
+pub mod DefinitionsFit
 mod Parts
 mod ReadingLemmas

@@ -2,7 +2,7 @@
 #![tactic(auto)]
 
 mod build;
-mod definition;
+pub mod definition;
 mod elements;
 mod expression;
 mod measured;
@@ -13,4 +13,7 @@ mod tests;
 mod type_names;
 mod words;
 
+pub use notes::{after_lines, appended, before_lines, join};
 pub use reading::{one_def, one_expr, parse_def, parse_expr};
+pub use type_names::literal_string;
+pub use words::{expect_mark, expect_name, expect_word, qualified_name, skip_mark, word_at};

@@ -1,0 +1,6 @@
+mod WordsBelow
+mod MembersFit
+mod Semicolons
+mod Reaching
+mod Breaking
+mod Following

@@ -1,0 +1,66 @@
+-- The grammar of members passes the test for one token of lookahead, at each depth.
+use Rattle.std.proofs.Common.{ℕ, zero, suc, false, [], ◌∷◌, List, refl, sym, subst}
+use Rattle.std.specs.Prelude.{◌≡◌, Result}
+use Rattle.fp_lexer.specs.declared.token.Token.{Token}
+use Rattle.fp_parse_parts.specs.declared.bare.BareMember.{BareMember}
+use Rattle.fp_grammar.specs.declared.halt.Halt.{Halt}
+use Rattle.fp_grammar.specs.Seal.{seal}
+use Rattle.fp_grammar.specs.Promises.{IsGood, RefsGood, Fits}
+use Rattle.fp_grammar.specs.Parses.{Refuses, Parses}
+use Rattle.fp_grammar.proofs.Fits.{good_of}
+use Rattle.fp_grammar.proofs.Sealed.{sealed_good}
+use Rattle.fp_grammar.proofs.Nesting.{closed_good, nested_good, closed_refuses, open_accepts, open_refuses}
+use Rattle.fp_grammar.proofs.Answering.{handing}
+use Rattle.fp_parse_defs.specs.Kinds.{kind}
+use Rattle.fp_parse_defs.specs.Lists.{noted}
+use Rattle.fp_parse_defs.specs.Definitions.{definition}
+use Rattle.fp_parse_defs.proofs.WordsFit.{each_kind}
+use Rattle.fp_parse_defs.proofs.DefinitionsFit.{definition_fits}
+use Rattle.fp_parse_parts.specs.Members as M
+use Rattle.fp_parse_parts.specs.Members.{definition_begins, definition_goes_on, k_module, modules}
+use Rattle.fp_parse_parts.specs.Units.{unit}
+
+pub definition_good : (expressions : ℕ) → RefsGood kind (seal kind (definition expressions) definition_begins definition_goes_on)
+definition_good expressions = sealed_good (definition expressions) definition_begins definition_goes_on (definition_fits expressions).ll1 refl refl refl (definition_fits expressions).refs
+
+-- the sets of modules hold what they promise
+pub modules_good : (expressions depth : ℕ) → IsGood kind (modules expressions depth) false false (k_module ∷ []) []
+modules_good expressions zero = closed_good (λ w x s. s)
+modules_good expressions (suc depth) =
+    let g = modules_good expressions depth in
+    let d = definition_good expressions in
+    nested_good (good_of (M.opened_module expressions depth) refl (assumption (each_kind, g, d)))
+
+pub include_fits : Fits kind M.include
+include_fits = record { ll1 = refl; some = refl; refs = assumption each_kind }
+
+pub locate_words_fits : Fits kind M.locate_words
+locate_words_fits = record { ll1 = refl; some = refl; refs = assumption each_kind }
+
+pub locate_fits : Fits kind M.locate
+locate_fits = record { ll1 = refl; some = refl; refs = assumption each_kind }
+
+pub member_fits : (expressions depth : ℕ) → Fits kind (M.member expressions depth)
+member_fits expressions depth = let g = modules_good expressions depth in let d = definition_good expressions in record { ll1 = refl; some = refl; refs = assumption (each_kind, g, d) }
+
+pub noted_member_fits : (expressions depth : ℕ) → Fits kind (noted (M.member expressions depth))
+noted_member_fits expressions depth = let g = modules_good expressions depth in let d = definition_good expressions in record { ll1 = refl; some = refl; refs = assumption (each_kind, g, d) }
+
+pub some_members_fits : (expressions depth : ℕ) → Fits kind (M.some_members expressions depth)
+some_members_fits expressions depth = let g = modules_good expressions depth in let d = definition_good expressions in record { ll1 = refl; some = refl; refs = assumption (each_kind, g, d) }
+
+pub opened_module_fits : (expressions depth : ℕ) → Fits kind (M.opened_module expressions depth)
+opened_module_fits expressions depth = let g = modules_good expressions depth in let d = definition_good expressions in record { ll1 = refl; some = refl; refs = assumption (each_kind, g, d) }
+
+pub unit_fits : (depth : ℕ) → Fits kind (unit depth)
+unit_fits depth = let g = modules_good depth depth in let d = definition_good depth in record { ll1 = refl; some = refl; refs = assumption (each_kind, g, d) }
+
+-- no depth is left: there are no modules
+pub no_modules : (expressions depth : ℕ) (tokens : List Token) (from : ℕ) → depth ≡ 0 → Refuses kind (M.nested_module expressions depth) tokens from from
+no_modules expressions zero tokens from e = closed_refuses (λ w x s. s) tokens from
+no_modules expressions (suc depth) tokens from e = cc
+
+-- a module has one depth less inside it
+pub module_inside : (expressions depth inner : ℕ) (tokens : List Token) (from : ℕ) (r : Result (BareMember × ℕ) Halt) → depth ≡ suc inner → Parses kind (M.opened_module expressions inner) tokens from r → Parses kind (M.nested_module expressions depth) tokens from r
+module_inside expressions depth inner tokens from r e p =
+    subst (λ d. Parses kind (M.nested_module expressions d) tokens from r) (sym e) (handing (λ x to i. open_accepts (λ w y s. s) (λ w y s. s) i) (λ to i. open_refuses (λ w y s. s) (λ w y s. s) i) r p)

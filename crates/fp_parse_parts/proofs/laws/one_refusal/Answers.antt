@@ -1,0 +1,8 @@
+use Rattle.fp_parse_parts.proofs.Breaking.{one_break, broken_no_unit}
+use Rattle.fp_parse_parts.proofs.laws.one_refusal.Goals as goal
+
+pub returns-clause-one : goal.returns-clause-one
+returns-clause-one c = one_break
+
+pub returns-clause-none : goal.returns-clause-none
+returns-clause-none c = broken_no_unit

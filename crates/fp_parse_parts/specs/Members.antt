@@ -1,0 +1,157 @@
+-- The grammar of the members of files and modules. FPP Language Specification, "Translation Units and Models", "Module Definitions",
+-- "Include Specifiers" and "Location Specifiers". This profile: components, state machines, instances and topologies aren't read yet.
+use Rattle.std.specs.Prelude.{ℕ, zero, suc, ltb, Bool, false, Option, Some, None, List, [], ◌∷◌, ◌++◌}
+use Rattle.fp_base.specs.declared.place.Span.{Span}
+use Rattle.fp_lexer.specs.declared.token.Word.{Word}
+use Rattle.fp_lexer.specs.declared.token.Word.TheVariants as word
+use Rattle.fp_lexer.specs.declared.token.Token.{Token}
+use Rattle.fp_tree.specs.declared.name.Name.{Name}
+use Rattle.fp_tree.specs.declared.name.Qual.{Qual}
+use Rattle.fp_tree.specs.declared.name.Str.{Str}
+use Rattle.fp_tree.specs.declared.definition.Def.{Def}
+use Rattle.fp_tree.specs.declared.definition.Def.TheVariants as def
+use Rattle.fp_tree.specs.declared.member.Member.{Member}
+use Rattle.fp_tree.specs.declared.member.Member.TheVariants as node
+use Rattle.fp_parse_parts.specs.declared.bare.BareMember.{BareMember}
+use Rattle.fp_parse_parts.specs.declared.bare.BareMember.TheVariants as bare
+use Rattle.fp_grammar.specs.Grammar.{Grammar, Language, Spells, after}
+use Rattle.fp_grammar.specs.Grammar.Grammar.{one_of, seq, map, alt, optional, many, ref}
+use Rattle.fp_grammar.specs.Seal.{seal}
+use Rattle.fp_parse_defs.specs.Kinds.{kind, k_mark, k_reserved, k_newline, k_open, k_open_brace, k_close_brace, k_equals}
+use Rattle.fp_parse_defs.specs.Words.{between, at, name, qual}
+use Rattle.fp_parse_defs.specs.Lists.{joined, some_of}
+use Rattle.fp_parse_defs.specs.Definitions.{definition, literal_string, or_none, expr_goes_on, k_array, k_arrow, k_constant, k_default, k_enum, k_format, k_port, k_size, k_struct, k_type}
+
+abbrev pub k_semicolon : ℕ
+k_semicolon = k_mark 14
+
+-- the reserved words of members
+abbrev pub k_at : ℕ
+k_at = k_reserved 7
+
+abbrev pub k_include : ℕ
+k_include = k_reserved 51
+
+abbrev pub k_locate : ℕ
+k_locate = k_reserved 57
+
+abbrev pub k_module : ℕ
+k_module = k_reserved 61
+
+-- what separates members
+abbrev pub semicolons : List ℕ
+semicolons = k_semicolon ∷ k_newline ∷ []
+
+-- what definitions begin with
+abbrev pub definition_begins : List ℕ
+definition_begins = k_constant ∷ k_type ∷ k_array ∷ k_struct ∷ k_enum ∷ k_port ∷ []
+
+-- what definitions go on with
+abbrev pub definition_goes_on : List ℕ
+definition_goes_on = k_equals ∷ k_size ∷ k_default ∷ k_format ∷ k_open ∷ k_arrow ∷ expr_goes_on
+
+-- Def
+abbrev pub definition_member : ℕ → Grammar Token BareMember
+definition_member expressions = map bare.Def (seal kind (definition expressions) definition_begins definition_goes_on)
+
+abbrev pub made_include : Span × Str → BareMember
+made_include (at, file) = bare.Include file (between at file.at)
+
+-- Include = 'include' Str
+abbrev pub include : Grammar Token BareMember
+include = map made_include (seq (at k_include) literal_string)
+
+-- the reserved words at places below this one of their table
+abbrev pub words_below : ℕ → List ℕ
+words_below zero = []
+words_below (suc n) = k_reserved n ∷ words_below n
+
+-- how many reserved words there are
+abbrev pub word_count : ℕ
+word_count = 113
+
+abbrev pub is_reserved : Word → Bool
+is_reserved (word.Reserved r) = ltb r word_count
+is_reserved _ = false
+
+abbrev pub reserved_word : Grammar Token Token
+reserved_word = one_of (words_below word_count)
+
+abbrev pub first_span : Span × (Token × List Token) → Span
+first_span p = p.0
+
+-- 'locate' (reserved word)+
+abbrev pub locate_words : Grammar Token Span
+locate_words = map first_span (seq (at k_locate) (seq reserved_word (many reserved_word)))
+
+abbrev pub made_locate : Span × (Qual × (Span × Str)) → BareMember
+made_locate (at, (of, (before_file, file))) = bare.Locate of file (between at file.at)
+
+-- Locate = 'locate' (reserved word)+ Qual 'at' Str
+abbrev pub locate : Grammar Token BareMember
+locate = map made_locate (seq locate_words (seq qual (seq (at k_at) literal_string)))
+
+-- a definition with this annotation
+abbrev pub noted_definition : Def → List ℕ → Def
+noted_definition (def.Constant d) note = def.Constant (record { name = d.name; value = d.value; at = d.at; note = note })
+noted_definition (def.Abstract d) note = def.Abstract (record { name = d.name; at = d.at; note = note })
+noted_definition (def.Alias d) note = def.Alias (record { name = d.name; target = d.target; at = d.at; note = note })
+noted_definition (def.Array d) note = def.Array (record { name = d.name; size = d.size; element = d.element; default = d.default; format = d.format; at = d.at; note = note })
+noted_definition (def.Struct d) note = def.Struct (record { name = d.name; fields = d.fields; default = d.default; at = d.at; note = note })
+noted_definition (def.Enum d) note = def.Enum (record { name = d.name; repr = d.repr; constants = d.constants; default = d.default; at = d.at; note = note })
+noted_definition (def.Port d) note = def.Port (record { name = d.name; formals = d.formals; result = d.result; at = d.at; note = note })
+
+-- a member with this annotation
+abbrev pub noted_member : BareMember → List ℕ → Member
+noted_member (bare.Module name members at) note = node.Module (record { name = name; members = members; at = at; note = note })
+noted_member (bare.Def d) note = node.Def (noted_definition d note)
+noted_member (bare.Include file at) note = node.Include (record { file = file; at = at; note = note })
+noted_member (bare.Locate of file at) note = node.Locate (record { of = of; file = file; at = at; note = note })
+
+abbrev pub with_member : List Member → BareMember → List (List ℕ) → List Member
+with_member members m lines = members ++ noted_member m (joined lines) ∷ []
+
+-- a module, of which this is the language
+abbrev pub module_from : Language Token BareMember → Grammar Token BareMember
+module_from modules = ref (record { spells = modules; productive = false; first = k_module ∷ []; extends = [] })
+
+-- Member = Module | Def | Include | Locate
+abbrev pub member_of : ℕ → Language Token BareMember → Grammar Token BareMember
+member_of expressions modules = alt (module_from modules) (alt (definition_member expressions) (alt include locate))
+
+-- Member+;
+abbrev pub some_members_of : ℕ → Language Token BareMember → Grammar Token (List Member)
+some_members_of expressions modules = some_of semicolons with_member [] (member_of expressions modules)
+
+-- Member*;
+abbrev pub members_of : ℕ → Language Token BareMember → Grammar Token (List Member)
+members_of expressions modules = map or_none (optional (some_members_of expressions modules))
+
+abbrev pub made_module : Span × (Name × (List Member × Span)) → BareMember
+made_module (at, (name, (members, closing))) = bare.Module name members (between at closing)
+
+-- Module = 'module' name '{' Member*; '}'
+abbrev pub module_of : ℕ → Language Token BareMember → Grammar Token BareMember
+module_of expressions modules = map made_module (seq (at k_module) (seq name (after k_open_brace (seq (members_of expressions modules) (at k_close_brace)))))
+
+-- modules, of which at most so many nest: with no depth left there are none; else what stands in one has one depth less
+abbrev pub modules : ℕ → ℕ → Language Token BareMember
+modules expressions zero = λ w x. ⊥
+modules expressions (suc depth) = Spells kind (module_of expressions (modules expressions depth))
+
+-- these, where expressions and modules nest at most so deep
+abbrev pub nested_module : ℕ → ℕ → Grammar Token BareMember
+nested_module expressions depth = module_from (modules expressions depth)
+
+abbrev pub member : ℕ → ℕ → Grammar Token BareMember
+member expressions depth = member_of expressions (modules expressions depth)
+
+abbrev pub some_members : ℕ → ℕ → Grammar Token (List Member)
+some_members expressions depth = some_members_of expressions (modules expressions depth)
+
+abbrev pub members : ℕ → ℕ → Grammar Token (List Member)
+members expressions depth = members_of expressions (modules expressions depth)
+
+-- a module with this much depth left inside it
+abbrev pub opened_module : ℕ → ℕ → Grammar Token BareMember
+opened_module expressions depth = module_of expressions (modules expressions depth)

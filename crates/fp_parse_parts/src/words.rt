@@ -1,0 +1,77 @@
+ghost use Rattle.std.specs.Prelude.{◌≡◌, MatchBool};
+ghost use Rattle.fp_grammar.specs.Parses.{NextAmong, Parses};
+ghost use Rattle.fp_parse_defs.specs.Kinds.{kind};
+ghost use Rattle.fp_parse_parts.specs.Members as M;
+ghost use Rattle.fp_parse_parts.specs.Members.{word_count, words_below};
+
+use fp_base::Span;
+use fp_grammar::Halt;
+use fp_lexer::{Token, Word};
+use fp_parse_defs::expect_word;
+
+// Places in the lexer's tables of marks and of reserved words.
+pub const OPEN_BRACE: u8 = 4;
+
+pub const CLOSE_BRACE: u8 = 5;
+
+const SEMICOLON: u8 = 14;
+
+pub const AT: u8 = 7;
+
+pub const INCLUDE: u8 = 51;
+
+pub const LOCATE: u8 = 57;
+
+pub const MODULE: u8 = 61;
+
+/// How many reserved words there are.
+const WORD_COUNT: u8 = 113;
+
+/// Whether what separates members is at a position.
+pub fn semicolon_at(tokens: &[Token], at: usize) -> bool
+    ensures { MatchBool result (NextAmong kind M.semicolons tokens.now at) (NextAmong kind M.semicolons tokens.now at → ⊥) }
+{
+    match tokens.get(at) {
+        Some(token) => match &token.what {
+            Word::Newline => true,
+            Word::Mark(mark) => *mark == SEMICOLON,
+            _ => false,
+        },
+        None => false,
+    }
+}
+
+fn is_reserved(word: &Word) -> bool
+    ensures { result ≡ M.is_reserved word.now }
+{
+    match word {
+        Word::Reserved(found) => *found < WORD_COUNT,
+        _ => false,
+    }
+}
+
+fn reserved_word_at(tokens: &[Token], at: usize) -> bool
+    ensures { MatchBool result (NextAmong kind (words_below word_count) tokens.now at) (NextAmong kind (words_below word_count) tokens.now at → ⊥) }
+{
+    match tokens.get(at) {
+        Some(token) => is_reserved(&token.what),
+        None => false,
+    }
+}
+
+/// Reads `locate` and the reserved words behind it, and says where `locate` stands.
+pub fn locate_words(tokens: &[Token], from: usize) -> Result<(Span, usize), Halt>
+    ensures { Parses kind M.locate_words tokens.now from result }
+{
+    let (word, first) = expect_word(tokens, from, LOCATE)?;
+    if !reserved_word_at(tokens, first) {
+        return Err(Halt::Unexpected(first));
+    }
+    let mut at = first + 1;
+    'words: loop {
+        if !reserved_word_at(tokens, at) {
+            return Ok((word, at));
+        }
+        at += 1;
+    }
+}
