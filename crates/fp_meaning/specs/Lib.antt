@@ -1,0 +1,7 @@
+pub mod Least
+pub mod Names
+pub mod Meaning
+pub mod Broken
+pub mod Origins
+pub mod Values
+pub mod ConstantFaults

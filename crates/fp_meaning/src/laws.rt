@@ -1,0 +1,23 @@
+ghost use Rattle.std.specs.Prelude.{◌≡◌, ℕ, List};
+ghost use Rattle.fp_base.specs.declared.refusal.Refusal.{Refusal};
+ghost use Rattle.fp_meaning.specs.Broken.{IsUndefined, IsWrongKind};
+ghost use Rattle.fp_meaning.specs.Meaning.{IsScopeOf, Means};
+ghost use Rattle.fp_meaning.specs.Names.{Path};
+ghost use Rattle.fp_meaning.specs.declared.group.Group.{Group};
+ghost use Rattle.fp_meaning.specs.declared.names.Definition.{Definition};
+ghost use Rattle.fp_meaning.specs.declared.names.Mention.{Mention};
+
+/// A use is looked up behind one prefix of its scope.
+pub fn one_scope()
+    ensures { (ds : List Definition) (scope : Path) (group : Group) (first : List ℕ) (a b : Path) → IsScopeOf ds scope group first a → IsScopeOf ds scope group first b → a ≡ b }
+{}
+
+/// A use means at most one definition of a group.
+pub fn one_meaning()
+    ensures { (ds : List Definition) (scope name : Path) (group : Group) (a b : ℕ) → Means ds scope name group a → Means ds scope name group b → a ≡ b }
+{}
+
+/// No use is undefined and of the wrong kind.
+pub fn undefined_or_wrong_kind()
+    ensures { (ds : List Definition) (m : Mention) (f g : Refusal) → IsUndefined ds m f → IsWrongKind ds m g → ⊥ }
+{}

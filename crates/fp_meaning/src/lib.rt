@@ -1,0 +1,12 @@
+//! What names mean: the definitions and the uses of a source, the rules of names that it breaks, and the least of what is broken.
+#![tactic(auto)]
+
+mod group;
+mod laws;
+mod least;
+mod names;
+
+pub use group::Group;
+pub use laws::{one_meaning, one_scope, undefined_or_wrong_kind};
+pub use least::{earlier, lesser, refusal, refusal_if, stands_no_later};
+pub use names::{Definition, Mention};

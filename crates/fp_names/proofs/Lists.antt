@@ -1,0 +1,121 @@
+-- What lists have at an index, and their parts.
+use Rattle.std.proofs.Common.{◌≡◌, ℕ, zero, suc, ◌+◌, ◌≤◌, ◌⊎◌, List, [], ◌∷◌, ◌++◌, length, take, slice_get, Some, inl, inr, refl, sym, ap, ◌∙◌, arith}
+use Rattle.fp_meaning.specs.Names.{Path}
+
+pub some_same : {A : Type 0} {x y : A} → Some x ≡ Some y → x ≡ y
+some_same e = cc
+
+pub get_front : {A : Type 0} (xs ys : List A) (k : ℕ) (x : A) → slice_get xs k ≡ Some x → slice_get (xs ++ ys) k ≡ Some x
+get_front [] ys k x e = cc
+get_front (y ∷ xs) ys zero x e = e
+get_front (y ∷ xs) ys (suc k) x e = get_front xs ys k x e
+
+pub get_last : {A : Type 0} (xs : List A) (x : A) → slice_get (xs ++ x ∷ []) (length xs) ≡ Some x
+get_last [] x = refl
+get_last (y ∷ xs) x = get_last xs x
+
+pub get_cases : {A : Type 0} (xs : List A) (x : A) (k : ℕ) (y : A) → slice_get (xs ++ x ∷ []) k ≡ Some y → (slice_get xs k ≡ Some y) ⊎ ((k ≡ length xs) × (y ≡ x))
+get_cases [] x zero y e = inr (refl, sym (some_same e))
+get_cases [] x (suc k) y e = cc
+get_cases (z ∷ xs) x zero y e = inl e
+get_cases (z ∷ xs) x (suc k) y e = elim (get_cases xs x k y e) [ inl h ↦ inl h | inr h ↦ inr (ap suc h.0, h.1) ]
+
+pub nat_or_not : (m n : ℕ) → (m ≡ n) ⊎ (m ≡ n → ⊥)
+nat_or_not zero zero = inl refl
+nat_or_not zero (suc n) = inr (λ e. omega arith)
+nat_or_not (suc m) zero = inr (λ e. omega arith)
+nat_or_not (suc m) (suc n) = elim (nat_or_not m n) [ inl e ↦ inl (ap suc e) | inr d ↦ inr (λ e. d (omega arith)) ]
+
+pub text_or_not : (s t : List ℕ) → (s ≡ t) ⊎ (s ≡ t → ⊥)
+text_or_not [] [] = inl refl
+text_or_not [] (y ∷ t) = inr (λ e. cc)
+text_or_not (x ∷ s) [] = inr (λ e. cc)
+text_or_not (x ∷ s) (y ∷ t) = elim (nat_or_not x y) [
+  | inl e ↦ elim (text_or_not s t) [ inl f ↦ inl (λ i. e i ∷ f i) | inr d ↦ inr (λ f. let g : s ≡ t = cc in d g) ]
+  | inr d ↦ inr (λ f. let g : x ≡ y = cc in d g)
+]
+
+pub both_or_not : (k n : ℕ) (s t : List ℕ) → ((k ≡ n) × (s ≡ t)) ⊎ (k ≡ n → s ≡ t → ⊥)
+both_or_not k n s t = elim (nat_or_not k n) [
+  | inl e ↦ elim (text_or_not s t) [ inl f ↦ inl (e, f) | inr d ↦ inr (λ _ f. d f) ]
+  | inr d ↦ inr (λ e _. d e)
+]
+
+-- names with one more at their end
+pub snoc_more : (p r : Path) (t : List ℕ) → (p ++ t ∷ []) ++ r ≡ p ++ t ∷ r
+snoc_more [] r t = refl
+snoc_more (x ∷ p) r t = ap (λ (q : Path). x ∷ q) (snoc_more p r t)
+
+pub with_none : (p : Path) → p ++ [] ≡ p
+with_none [] = refl
+with_none (x ∷ p) = ap (λ (q : Path). x ∷ q) (with_none p)
+
+pub not_nil : (p : Path) (t : List ℕ) → p ++ t ∷ [] ≡ [] → ⊥
+not_nil [] t e = cc
+not_nil (x ∷ p) t e = cc
+
+pub snoc_same : (p q : Path) (s t : List ℕ) → p ++ s ∷ [] ≡ q ++ t ∷ [] → (p ≡ q) × (s ≡ t)
+snoc_same [] [] s t e = (refl, cc)
+snoc_same [] (y ∷ q) s t e = let f : q ++ t ∷ [] ≡ [] = cc in absurd (not_nil q t f)
+snoc_same (x ∷ p) [] s t e = let f : p ++ s ∷ [] ≡ [] = cc in absurd (not_nil p s f)
+snoc_same (x ∷ p) (y ∷ q) s t e =
+    let h : x ≡ y = cc in
+    let f : p ++ s ∷ [] ≡ q ++ t ∷ [] = cc in
+    let r = snoc_same p q s t f in
+    ((λ i. h i ∷ r.0 i), r.1)
+
+pub not_longer : (p : Path) (t : List ℕ) → p ++ t ∷ [] ≡ p → ⊥
+not_longer [] t e = cc
+not_longer (x ∷ p) t e = let f : p ++ t ∷ [] ≡ p = cc in not_longer p t f
+
+pub nil_parts : (q r : Path) → q ++ r ≡ [] → (q ≡ []) × (r ≡ [])
+nil_parts [] r e = (refl, e)
+nil_parts (x ∷ q) r e = cc
+
+-- what begins names with one more at their end begins them without it, or is all of them
+pub split_last : (q r p : Path) (t : List ℕ) → q ++ r ≡ p ++ t ∷ [] → ((more : Path) × (p ≡ q ++ more)) ⊎ ((r ≡ []) × (q ≡ p ++ t ∷ []))
+split_last [] r p t e = inl (p, refl)
+split_last (x ∷ q) r [] t e =
+    let h : x ≡ t = cc in
+    let f : q ++ r ≡ [] = cc in
+    let n = nil_parts q r f in
+    inr (n.1, (λ i. h i ∷ n.0 i))
+split_last (x ∷ q) r (y ∷ p) t e =
+    let h : x ≡ y = cc in
+    let f : q ++ r ≡ p ++ t ∷ [] = cc in
+    elim (split_last q r p t f) [
+      | inl m ↦ inl (m.0, (λ i. sym h i ∷ m.1 i))
+      | inr m ↦ inr (m.0, (λ i. h i ∷ m.1 i))
+    ]
+
+-- what begins names that go on begins the first part, or has the next name too
+pub split_more : (q r p : Path) (t : List ℕ) (ts : Path) → q ++ r ≡ p ++ t ∷ ts → ((more : Path) × (p ≡ q ++ more)) ⊎ ((more : Path) × (q ≡ (p ++ t ∷ []) ++ more))
+split_more [] r p t ts e = inl (p, refl)
+split_more (x ∷ q) r [] t ts e = let h : x ≡ t = cc in inr (q, (λ i. h i ∷ q))
+split_more (x ∷ q) r (y ∷ p) t ts e =
+    let h : x ≡ y = cc in
+    let f : q ++ r ≡ p ++ t ∷ ts = cc in
+    elim (split_more q r p t ts f) [
+      | inl m ↦ inl (m.0, (λ i. sym h i ∷ m.1 i))
+      | inr m ↦ inr (m.0, (λ i. h i ∷ m.1 i))
+    ]
+
+-- the parts of a list at one of its elements
+pub whole : {A : Type 0} (xs : List A) (i : ℕ) (t : A) → slice_get xs i ≡ Some t → (rest : List A) × (xs ≡ (take i xs ++ t ∷ []) ++ rest)
+whole [] i t e = cc
+whole (x ∷ xs) zero t e = (xs, (λ j. some_same e j ∷ xs))
+whole {A = A} (x ∷ xs) (suc i) t e = let w = whole xs i t e in (w.0, ap (λ (q : List A). x ∷ q) w.1)
+
+pub one_more : {A : Type 0} (xs : List A) (i : ℕ) (t : A) → slice_get xs i ≡ Some t → take (suc i) xs ≡ take i xs ++ t ∷ []
+one_more [] i t e = cc
+one_more (x ∷ xs) zero t e = λ j. some_same e j ∷ []
+one_more {A = A} (x ∷ xs) (suc i) t e = ap (λ (q : List A). x ∷ q) (one_more xs i t e)
+
+pub next_taken : {A : Type 0} (xs : List A) (i : ℕ) (t : A) → slice_get xs i ≡ Some t → take i xs ++ t ∷ [] ≡ take (i + 1) xs
+next_taken xs i t e = let suc_is : suc i ≡ i + 1 = omega arith in sym (one_more xs i t e) ∙ ap (λ k. take k xs) suc_is
+
+pub all_taken : {A : Type 0} (xs : List A) (n : ℕ) → length xs ≤ n → take n xs ≡ xs
+all_taken [] zero h = refl
+all_taken [] (suc n) h = refl
+all_taken (x ∷ xs) zero h = absurd (omega arith)
+all_taken {A = A} (x ∷ xs) (suc n) h = ap (λ (q : List A). x ∷ q) (all_taken xs n (omega arith))

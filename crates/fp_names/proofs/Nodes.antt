@@ -1,0 +1,90 @@
+-- Nodes after one is added, and after one is changed.
+use Rattle.std.proofs.Common.{◌≡◌, ℕ, zero, suc, ◌+◌, ◌<◌, Bool, true, false, cond, List, [], ◌∷◌, ◌++◌, length, set, get_or, slice_get, Some, None, inl, inr, refl, sym, ap, ◌∙◌, arith}
+use Rattle.std.specs.HashMap.{get_by_text}
+use Rattle.std.specs.Str.{bytes_eq}
+use Rattle.std.proofs.lemmas.Option.{slice_get_read}
+use Rattle.std.proofs.lemmas.List.{length-set, length-append}
+use Rattle.std.proofs.lemmas.Slice.Eq.{bytes_eq-Decides}
+use Rattle.fp_names.specs.declared.tree.Node.{Node}
+use Rattle.fp_names.specs.Tree.{next_of, meaning_of, step, meaning_at, IsLeaf, Leads, Grows}
+use Rattle.fp_names.proofs.Lists.{nat_or_not}
+
+pub get_set_same : {A : Type 0} (xs : List A) (i : ℕ) (v : A) → i < length xs → slice_get (set xs i v) i ≡ Some v
+get_set_same [] i v h = absurd (omega arith)
+get_set_same (x ∷ xs) zero v h = refl
+get_set_same (x ∷ xs) (suc i) v h = get_set_same xs i v (omega arith)
+
+pub get_set_other : {A : Type 0} (xs : List A) (i j : ℕ) (v : A) → (j ≡ i → ⊥) → slice_get (set xs i v) j ≡ slice_get xs j
+get_set_other [] i j v h = refl
+get_set_other (x ∷ xs) zero zero v h = absurd (h refl)
+get_set_other (x ∷ xs) zero (suc j) v h = refl
+get_set_other (x ∷ xs) (suc i) zero v h = refl
+get_set_other (x ∷ xs) (suc i) (suc j) v h = get_set_other xs i j v (λ e. h (ap suc e))
+
+-- a leaf at the end changes nothing
+pub leaf_steps : (nodes : List Node) (leaf : Node) (k : ℕ) (name : List ℕ) → IsLeaf leaf → step (nodes ++ leaf ∷ []) k name ≡ step nodes k name
+leaf_steps [] leaf zero name l = l.next name
+leaf_steps [] leaf (suc k) name l = refl
+leaf_steps (x ∷ nodes) leaf zero name l = refl
+leaf_steps (x ∷ nodes) leaf (suc k) name l = leaf_steps nodes leaf k name l
+
+pub leaf_meanings : (nodes : List Node) (leaf : Node) (k : ℕ) → IsLeaf leaf → meaning_at (nodes ++ leaf ∷ []) k ≡ meaning_at nodes k
+leaf_meanings [] leaf zero l = l.meaning
+leaf_meanings [] leaf (suc k) l = refl
+leaf_meanings (x ∷ nodes) leaf zero l = refl
+leaf_meanings (x ∷ nodes) leaf (suc k) l = leaf_meanings nodes leaf k l
+
+same_text : (s : List ℕ) → bytes_eq s s ≡ true
+same_text s = (bytes_eq-Decides s s).1 refl
+
+other_text : (s t : List ℕ) → (t ≡ s → ⊥) → bytes_eq s t ≡ false
+other_text s t d = go (bytes_eq s t) refl
+  where
+    go : (b : Bool) → bytes_eq s t ≡ b → b ≡ false
+    go true e = absurd (d (sym ((bytes_eq-Decides s t).0 e)))
+    go false e = refl
+
+-- a leaf at the end, and a name that leads to it
+pub grows : (old pushed : List Node) (leaf node after : Node) (from to : ℕ) (name key : List ℕ)
+    → step old from name ≡ None → pushed ≡ old ++ leaf ∷ [] → IsLeaf leaf → node ≡ get_or pushed from node → from < length old → Leads node after key to → key ≡ name → to ≡ length old
+    → Grows old (set pushed from after) from name
+grows old pushed leaf node after from to name key none is l value small leads same last = record {
+  absent = none;
+  longer =
+      (let a = length-set pushed from after in
+      let b = ap length is in
+      let c : length (old ++ leaf ∷ []) ≡ length old + 1 = length-append old (leaf ∷ []) in
+      a ∙ b ∙ c);
+  here =
+      ap (λ o. next_of o name) (get_set_same pushed from after within) ∙ leads.next name
+      ∙ ap (λ b. cond b (Some to) (get_by_text node.next name)) (ap (λ k. bytes_eq k name) same ∙ same_text name) ∙ ap (λ (i : ℕ). Some i) last;
+  others = λ k other apart. elim (nat_or_not k from) [
+    | inl e ↦
+        let differs : other ≡ key → ⊥ = λ f. apart e (f ∙ same) in
+        ap (λ i. step (set pushed from after) i other) e ∙ ap (λ o. next_of o other) (get_set_same pushed from after within) ∙ leads.next other
+        ∙ ap (λ b. cond b (Some to) (get_by_text node.next other)) (other_text key other differs)
+        ∙ ap (λ o. next_of o other) (sym at) ∙ ap (λ i. step pushed i other) (sym e) ∙ before k other
+    | inr d ↦ ap (λ o. next_of o other) (get_set_other pushed from k after d) ∙ before k other
+  ];
+  meanings = λ k. elim (nat_or_not k from) [
+    | inl e ↦
+        ap (λ i. meaning_at (set pushed from after) i) e ∙ ap meaning_of (get_set_same pushed from after within) ∙ leads.meaning
+        ∙ ap meaning_of (sym at) ∙ ap (λ i. meaning_at pushed i) (sym e) ∙ before_meaning k
+    | inr d ↦ ap meaning_of (get_set_other pushed from k after d) ∙ before_meaning k
+  ];
+}
+  where
+    within : from < length pushed
+    within =
+        let a = ap length is in
+        let b : length (old ++ leaf ∷ []) ≡ length old + 1 = length-append old (leaf ∷ []) in
+        omega arith
+
+    at : slice_get pushed from ≡ Some node
+    at = slice_get_read pushed (length pushed) from node refl within value
+
+    before : (k : ℕ) (other : List ℕ) → step pushed k other ≡ step old k other
+    before k other = ap (λ ns. step ns k other) is ∙ leaf_steps old leaf k other l
+
+    before_meaning : (k : ℕ) → meaning_at pushed k ≡ meaning_at old k
+    before_meaning k = ap (λ ns. meaning_at ns k) is ∙ leaf_meanings old leaf k l
