@@ -1,0 +1,5 @@
+pub mod Operators
+pub mod Wholes
+pub mod Sizes
+pub mod Walks
+pub mod Given
