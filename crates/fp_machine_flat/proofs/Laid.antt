@@ -34,7 +34,7 @@ module _ {X : Type 0} (q : X → Bool) where
       go true e = refl
       go false e = e
 
-  find_holds : (r : X → Bool) (xs : List X) (x : X) → list_all r xs ≡ true → find q xs ≡ Some x → r x ≡ true
+  pub find_holds : (r : X → Bool) (xs : List X) (x : X) → list_all r xs ≡ true → find q xs ≡ Some x → r x ≡ true
   find_holds r [] x h e = absurd (cc)
   find_holds r (y ∷ xs) x h e = go (q y) e (find_holds r xs x (both (r y) (list_all r xs) h).1)
     where
@@ -59,7 +59,7 @@ module _ (m : Machine) where
   on_signal signal p = eqb p.1.signal signal
 
   -- the nearest transition is the first that is inherited
-  nearest_found : (signal : ℕ) (vs : List ℕ) → nearest m signal vs ≡ find (λ (p : ℕ × On). eqb p.1.signal signal) (inherited m vs)
+  pub nearest_found : (signal : ℕ) (vs : List ℕ) → nearest m signal vs ≡ find (λ (p : ℕ × On). eqb p.1.signal signal) (inherited m vs)
   nearest_found signal [] = refl
   nearest_found signal (v ∷ vs) =
       let q : ℕ × On → Bool = λ p. eqb p.1.signal signal in
@@ -73,7 +73,7 @@ module _ (m : Machine) where
       of_node None = refl
       of_node (Some x) = refl
 
-  transitions_lie : IsSoundMachine m → (v : ℕ) → list_all (on_lies m) (transitions_at m v) ≡ true
+  pub transitions_lie : IsSoundMachine m → (v : ℕ) → list_all (on_lies m) (transitions_at m v) ≡ true
   transitions_lie sound v = go (node m v) refl
     where
       go : (o : Option Node) → node m v ≡ o → list_all (on_lies m) (unwrap_or (option_map transitions_of o) []) ≡ true
@@ -81,12 +81,20 @@ module _ (m : Machine) where
       go (Some (State initial entry exit on)) is = on_low m v initial entry exit on sound is
       go (Some (Choice guard positive negative)) is = refl
 
-  inherited_lie : IsSoundMachine m → (vs : List ℕ) → list_all (λ (p : ℕ × On). on_lies m p.1) (inherited m vs) ≡ true
-  inherited_lie sound [] = refl
-  inherited_lie sound (v ∷ vs) =
-      let r : ℕ × On → Bool = λ p. on_lies m p.1 in
-      list_all-append r (map (λ (o : On). (v, o)) (transitions_at m v)) (inherited m vs)
-      ∙ rw (list_all_map r (λ (o : On). (v, o)) (transitions_at m v) (transitions_lie sound v), inherited_lie sound vs) refl
+  -- what holds of each state's transitions holds of those that are inherited
+  pub inherited_all : (r : On → Bool) → ((v : ℕ) → list_all r (transitions_at m v) ≡ true) → (vs : List ℕ) → list_all (λ (p : ℕ × On). r p.1) (inherited m vs) ≡ true
+  inherited_all r each [] = refl
+  inherited_all r each (v ∷ vs) =
+      let t : ℕ × On → Bool = λ p. r p.1 in
+      list_all-append t (map (λ (o : On). (v, o)) (transitions_at m v)) (inherited m vs)
+      ∙ rw (list_all_map t (λ (o : On). (v, o)) (transitions_at m v) (each v), inherited_all r each vs) refl
+
+  pub leaf_within : (leaf : ℕ) → is_leaf m leaf ≡ true → leaf < length m.vertices
+  leaf_within leaf h = go (node m leaf) refl h
+    where
+      go : (o : Option Node) → node m leaf ≡ o → has_no_initial o ≡ true → leaf < length m.vertices
+      go None is h = absurd (cc)
+      go (Some x) is h = node_within m leaf x is
 
   -- what is found and what it stands for
   abbrev Agree : ℕ → List FlatNode → Option Counting → Option (ℕ × On) → Type 0
@@ -151,13 +159,6 @@ module _ (m : Machine) (sound : IsSoundMachine m) (nodes : List FlatNode) (place
   same_guards leaf (Some c) None h = absurd h
   same_guards leaf (Some c) (Some p) h = ap (λ (g : Option ℕ). Some g) h.0
 
-  leaf_within : (leaf : ℕ) → is_leaf m leaf ≡ true → leaf < length m.vertices
-  leaf_within leaf h = go (node m leaf) refl h
-    where
-      go : (o : Option Node) → node m leaf ≡ o → has_no_initial o ≡ true → leaf < length m.vertices
-      go None is h = absurd (cc)
-      go (Some x) is h = node_within m leaf x is
-
   is_target : (rows : List (List Counting)) → StandForLeaves m nodes (length m.vertices) rows → (leaf signal : ℕ) → IsTarget m nodes leaf signal (found rows leaf signal)
   is_target rows stand leaf signal = record {
     walks = λ h answers asked.
@@ -165,7 +166,7 @@ module _ (m : Machine) (sound : IsSoundMachine m) (nodes : List FlatNode) (place
         let a = agrees row.0 h row.1 in
         rw (row.1, nearest_found m signal (upward m (Some leaf)))
         (found_walk answers leaf asked _ _ a (λ x e. find_holds (λ (p : ℕ × On). eqb p.1.signal signal) (λ (p : ℕ × On). on_lies m p.1) (inherited m (upward m (Some leaf))) x
-        (inherited_lie m sound (upward m (Some leaf))) e));
+        (inherited_all m (on_lies m) (transitions_lie m sound) (upward m (Some leaf))) e));
     guards = λ h.
         let row = row_of h in
         rw (row.1, nearest_found m signal (upward m (Some leaf))) (same_guards leaf _ _ (agrees row.0 h row.1));
@@ -173,7 +174,7 @@ module _ (m : Machine) (sound : IsSoundMachine m) (nodes : List FlatNode) (place
   }
     where
       row_of : is_leaf m leaf ≡ true → (row : List Counting) × (slice_get rows leaf ≡ Some row)
-      row_of h = get_some rows leaf (let low = leaf_within leaf h in omega (arith, low, stand.0))
+      row_of h = get_some rows leaf (let low = leaf_within m leaf h in omega (arith, low, stand.0))
 
       agrees : (row : List Counting) → is_leaf m leaf ≡ true → slice_get rows leaf ≡ Some row →
           Agree m leaf nodes (find (λ (c : Counting). eqb c.signal signal) row) (find (λ (p : ℕ × On). eqb p.1.signal signal) (inherited m (upward m (Some leaf))))

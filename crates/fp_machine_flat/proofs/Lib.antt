@@ -1,7 +1,10 @@
 pub mod Climbing
+pub mod FittingMoves
 pub mod Followed
+pub mod Given
 pub mod Laid
 pub mod Ranks
 pub mod Settling
+pub mod SoundMachines
 pub mod SoundParts
 pub mod Standing

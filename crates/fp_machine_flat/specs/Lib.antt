@@ -1,3 +1,4 @@
+pub mod Fitting
 pub mod Flat
 pub mod Layout
 pub mod Moving

@@ -10,5 +10,5 @@ mod node;
 
 pub use flat::FlatMachine;
 pub use flattening::flatten;
-pub use laws::{sound_machines, walks_end};
+pub use laws::{moves_fit, sound_machines, starts_fit, walks_end};
 pub use node::{FlatNode, Next};
