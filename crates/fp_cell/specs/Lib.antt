@@ -1,4 +1,11 @@
+pub mod Askable
+pub mod Cells
+pub mod Kept
+pub mod Kinded
+pub mod Ready
+pub mod Replies
 pub mod Seen
+pub mod Settled
 pub mod Stepping
 pub mod Waiting
 pub mod Walked

@@ -27,3 +27,7 @@ inside s = record {
 pub record Steps (t : Described) (program : Program) (i actor : ℕ) (ask : Ask) (before : Inside) (what : What) (after : Inside) : Type 0 where
   pub told : tells t program i before ask ≡ Some what
   pub left : after ≡ leaves t program i before actor what
+
+-- the queue is as large, and of the same priorities
+abbrev pub HasSameQueue : State → State → Type 0
+HasSameQueue before after = (after.calls.size ≡ before.calls.size) × (after.calls.priorities ≡ before.calls.priorities)

@@ -7,7 +7,7 @@ ghost use Rattle.fp_events.specs.declared.event.Ask.TheVariants as ask;
 ghost use Rattle.fp_events.specs.Lookup.{machine, answers_of};
 ghost use Rattle.fp_events.specs.Machine.{Configuration, starts, moves};
 ghost use Rattle.fp_events.specs.Tells.{machine_of};
-ghost use Rattle.fp_cell.specs.Stepping.{Steps, inside};
+ghost use Rattle.fp_cell.specs.Stepping.{Steps, HasSameQueue, inside};
 
 use crate::records::put_at;
 use crate::state::State;
@@ -25,6 +25,7 @@ pub(crate) fn settle_start(
     walked: Walked,
 ) -> Result<Told, NoMemory>
     ensures ok { (t : Described) (program : Program) (i actor signal : ℕ) (value : Option Value) (m : Machine) → machine t i running ≡ Some m → machine_of (inside state.old) running ≡ None → walked ≡ starts m (answers_of program i running) → IfOk result (λ told. Steps t program i actor (ask.Advance running signal value) (inside state.old) told (inside state.new)) }
+    ensures queue { HasSameQueue state.old state.new }
     ensures err { OnErr result (state.new ≡ state.old) }
 {
     let (actions, reached) = walked.into_parts();
@@ -50,6 +51,7 @@ pub(crate) fn settle_move(
     walked: Walked,
 ) -> Result<Told, NoMemory>
     ensures ok { (t : Described) (program : Program) (i actor : ℕ) (value : Option Value) (m : Machine) (c : Configuration) → machine t i running ≡ Some m → machine_of (inside state.old) running ≡ Some c → walked ≡ moves m (answers_of program i running) c signal → IfOk result (λ told. Steps t program i actor (ask.Advance running signal value) (inside state.old) told (inside state.new)) }
+    ensures queue { HasSameQueue state.old state.new }
     ensures err { OnErr result (state.new ≡ state.old) }
 {
     let (actions, reached) = walked.into_parts();

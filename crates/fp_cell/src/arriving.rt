@@ -1,4 +1,4 @@
-ghost use Rattle.std.specs.Prelude.{◌≡◌, ℕ, List, Some, None, true, nat_lt, length, set, slice_get, IfOk, OnErr};
+ghost use Rattle.std.specs.Prelude.{◌≡◌, ℕ, ℤ, List, Some, None, true, false, nat_lt, length, set, slice_get, IfOk, OnErr};
 ghost use Rattle.fp_base.specs.declared.value.Value.{Value as Given};
 ghost use Rattle.std.specs.Option.{option_map_or};
 ghost use Rattle.std.specs.List.{Contains};
@@ -9,9 +9,9 @@ ghost use Rattle.fp_tables.specs.declared.component.Way.TheVariants as way;
 ghost use Rattle.fp_events.specs.declared.event.Ask.TheVariants as ask;
 ghost use Rattle.fp_events.specs.Leaves.{with_set};
 ghost use Rattle.fp_events.specs.Lookup.{queue_size};
-ghost use Rattle.fp_events.specs.Queue.{overflows};
+ghost use Rattle.fp_events.specs.Waits.{blocked};
 ghost use Rattle.fp_events.specs.Manners.{manner, by, sets, saves};
-ghost use Rattle.fp_cell.specs.Stepping.{Steps, inside};
+ghost use Rattle.fp_cell.specs.Stepping.{Steps, HasSameQueue, inside};
 
 use crate::calls::Call;
 use crate::guard::{taken_by, with_frame};
@@ -32,6 +32,7 @@ pub(crate) fn enter(
     arrival: &Arrival,
 ) -> Result<Told, NoMemory>
     ensures ok { (t : Described) (program : Program) (i : ℕ) → manner t i arrival.now.point ≡ Some (by way.Sync) → IfOk result (λ told. Steps t program i actor (ask.Arrive arrival.now) (inside state.old) told (inside state.new)) }
+    ensures queue { HasSameQueue state.old state.new }
     ensures err { OnErr result (state.new ≡ state.old) }
 {
     let guard = with_frame(state.guard, actor)?;
@@ -50,6 +51,7 @@ pub(crate) fn take_guard(
 ) -> Result<Told, NoMemory>
     requires { state.old.guard ≡ None }
     ensures ok { (t : Described) (program : Program) (i : ℕ) → manner t i arrival.now.point ≡ Some (by way.Guarded) → IfOk result (λ told. Steps t program i actor (ask.Arrive arrival.now) (inside state.old) told (inside state.new)) }
+    ensures queue { HasSameQueue state.old state.new }
     ensures err { OnErr result (state.new ≡ state.old) }
 {
     let told = Told::of(alloc, What::Guard(arrival.copy(alloc)?))?;
@@ -65,16 +67,16 @@ pub(crate) fn save(
     actor: u32,
     arrival: &Arrival,
     param: u32,
-    value: &Value,
+    value: Value,
 ) -> Result<Told, NoMemory>
-    requires { slice_get (inside state.old).params param ≡ Some value.now }
+    requires { slice_get (inside state.old).params param ≡ Some value }
     ensures ok { (t : Described) (program : Program) (i : ℕ) → manner t i arrival.now.point ≡ Some (saves param) → IfOk result (λ told. Steps t program i actor (ask.Arrive arrival.now) (inside state.old) told (inside state.new)) }
+    ensures queue { HasSameQueue state.old state.new }
     ensures err { OnErr result (state.new ≡ state.old) }
 {
     let _ = param;
     let guard = with_frame(state.guard, actor)?;
     let arrival = arrival.copy(alloc)?;
-    let value = value.copy(alloc)?;
     let told = Told::of(alloc, What::Save { arrival, value })?;
     state.guard = guard;
     Ok(told)
@@ -107,6 +109,7 @@ pub(crate) fn set_param(
     param: u32,
 ) -> Result<Told, NoMemory>
     ensures ok { (t : Described) (program : Program) (i : ℕ) → manner t i arrival.now.point ≡ Some (sets param) → IfOk result (λ told. Steps t program i actor (ask.Arrive arrival.now) (inside state.old) told (inside state.new)) }
+    ensures queue { HasSameQueue state.old state.new }
     ensures err { OnErr result (state.new ≡ state.old) }
 {
     let guard = with_frame(state.guard, actor)?;
@@ -128,6 +131,7 @@ pub(crate) fn put(
     requires room { nat_lt (length state.old.calls.pending) state.old.calls.size ≡ true }
     requires known { Contains state.old.calls.priorities priority }
     ensures ok { (t : Described) (program : Program) (i actor : ℕ) (policy : Policy) → queue_size t i ≡ state.old.calls.size → manner t i arrival.now.point ≡ Some (by (way.Later priority policy)) → IfOk result (λ told. Steps t program i actor (ask.Arrive arrival.now) (inside state.old) told (inside state.new)) }
+    ensures queue { HasSameQueue state.old state.new }
     ensures err { OnErr result (state.new ≡ state.old) }
 {
     let number = one_more(state.calls.puts())?;
@@ -146,19 +150,24 @@ pub(crate) fn put(
     Ok(told)
 }
 
-/// An asynchronous arrival at a full queue: None under `block`.
+/// An asynchronous arrival at a full queue, by the policy, which isn't to block.
+#[tactic(auto, unfolding(fp_events::specs::Tells::tells, fp_events::specs::Leaves::leaves))]
 pub(crate) fn overflow(
     alloc: Global,
+    state: &State,
     full: Full,
     arrival: &Arrival,
-) -> Result<Option<Told>, NoMemory>
-    ensures { IfOk result (λ told. told ≡ overflows arrival.now full) }
+) -> Result<Told, NoMemory>
+    requires full { nat_lt (length state.now.calls.pending) state.now.calls.size ≡ false }
+    requires free { blocked false full ≡ None }
+    ensures { (t : Described) (program : Program) (i actor : ℕ) (priority : ℤ) → queue_size t i ≡ state.now.calls.size → manner t i arrival.now.point ≡ Some (by (way.Later priority full)) → IfOk result (λ told. Steps t program i actor (ask.Arrive arrival.now) (inside state.now) told (inside state.now)) }
 {
+    let _ = state;
     let arrival = arrival.copy(alloc)?;
     match full {
-        Full::Dropped => Ok(Some(Told::of(alloc, What::Dropped(arrival))?)),
-        Full::Hook => Ok(Some(Told::of(alloc, What::Hooked(arrival))?)),
-        Full::Assert => Ok(Some(Told::of(alloc, What::Asserted(arrival))?)),
-        Full::Block => Ok(None),
+        Full::Dropped => Told::of(alloc, What::Dropped(arrival)),
+        Full::Hook => Told::of(alloc, What::Hooked(arrival)),
+        Full::Assert => Told::of(alloc, What::Asserted(arrival)),
+        Full::Block => unreachable!(),
     }
 }

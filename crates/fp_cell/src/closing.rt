@@ -2,7 +2,7 @@ ghost use Rattle.std.specs.Prelude.{◌≡◌, ℕ, IfOk, OnErr};
 ghost use Rattle.fp_tables.specs.Lookup.{Described};
 ghost use Rattle.fp_tables.specs.declared.program.Program.{Program};
 ghost use Rattle.fp_events.specs.declared.event.Ask.TheVariants as ask;
-ghost use Rattle.fp_cell.specs.Stepping.{Steps, inside};
+ghost use Rattle.fp_cell.specs.Stepping.{Steps, HasSameQueue, inside};
 
 use crate::guard::{turn_given_back, without_frame};
 use crate::state::State;
@@ -20,6 +20,7 @@ pub(crate) fn leave(
     value: &Option<Value>,
 ) -> Result<Told, NoMemory>
     ensures ok { (t : Described) (program : Program) (i : ℕ) → IfOk result (λ told. Steps t program i actor (ask.Leave value.now) (inside state.old) told (inside state.new)) }
+    ensures queue { HasSameQueue state.old state.new }
     ensures err { OnErr result (state.new ≡ state.old) }
 {
     let told = Told::of(alloc, What::Leave(copy_returned(alloc, value)?))?;
@@ -31,6 +32,7 @@ pub(crate) fn leave(
 #[tactic(auto, unfolding(fp_events::specs::Tells::tells, fp_events::specs::Leaves::leaves))]
 pub(crate) fn finish(alloc: Global, state: &mut State, actor: u32) -> Result<Told, NoMemory>
     ensures ok { (t : Described) (program : Program) (i : ℕ) → IfOk result (λ told. Steps t program i actor ask.Done (inside state.old) told (inside state.new)) }
+    ensures queue { HasSameQueue state.old state.new }
     ensures err { OnErr result (state.new ≡ state.old) }
 {
     let told = Told::of(alloc, What::Done)?;

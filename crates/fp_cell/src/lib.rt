@@ -3,14 +3,22 @@
 
 mod advancing;
 mod arriving;
+mod asking;
 mod calls;
 mod causes;
+mod cell;
 mod closing;
 mod guard;
+mod opening;
 mod places;
+mod priorities;
 mod records;
+mod setting;
 mod state;
 mod taking;
 mod telling;
 mod told;
 mod walking;
+mod wires;
+
+pub use cell::{Cell, Reply};

@@ -18,7 +18,7 @@ pub(crate) enum Manner {
     Saves(u32),
 }
 
-fn component_at(tables: &Tables, instance: u32) -> Option<&Component>
+pub(crate) fn component_at(tables: &Tables, instance: u32) -> Option<&Component>
     ensures { option_copied result ≡ component_of tables.now.model instance }
 {
     let model = tables.model();

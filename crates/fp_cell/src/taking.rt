@@ -2,7 +2,7 @@ ghost use Rattle.std.specs.Prelude.{◌≡◌, ℕ, [], None, IfOk, MatchOption}
 ghost use Rattle.fp_tables.specs.Lookup.{Described};
 ghost use Rattle.fp_tables.specs.declared.program.Program.{Program};
 ghost use Rattle.fp_events.specs.declared.event.Ask.TheVariants as ask;
-ghost use Rattle.fp_cell.specs.Stepping.{Steps, inside};
+ghost use Rattle.fp_cell.specs.Stepping.{Steps, HasSameQueue, inside};
 
 use crate::calls::Call;
 use crate::state::State;
@@ -16,6 +16,7 @@ pub(crate) fn take(state: &mut State, actor: u32) -> Option<Told>
     requires { state.old.turn ≡ None }
     ensures take { MatchOption result ((inside state.old).pending ≡ []) (λ told. (t : Described) (program : Program) (i : ℕ) → Steps t program i actor ask.Take (inside state.old) told (inside state.new)) }
     ensures dispatch { MatchOption result ((inside state.old).pending ≡ []) (λ told. (t : Described) (program : Program) (i : ℕ) → Steps t program i actor ask.Dispatch (inside state.old) told (inside state.new)) }
+    ensures queue { HasSameQueue state.old state.new }
 {
     let call = state.calls.take()?;
     state.turn = Some(actor);

@@ -8,7 +8,7 @@ ghost use Rattle.fp_tables.specs.declared.program.Program.{Program as Scenario};
 ghost use Rattle.fp_events.specs.declared.event.Ask.TheVariants as ask;
 ghost use Rattle.fp_events.specs.Lookup.{component, special_wire};
 ghost use Rattle.fp_formats.specs.Fits.{fits};
-ghost use Rattle.fp_cell.specs.Stepping.{Steps, inside};
+ghost use Rattle.fp_cell.specs.Stepping.{Steps, HasSameQueue, inside};
 
 use crate::records::{count_of, fate_on, is_last_written, is_throttled, one_more, put_at};
 use crate::state::State;
@@ -35,6 +35,7 @@ pub(crate) fn emit(
     requires wired { wired ≡ is_some (special_wire tables.now instance special.Event) }
     requires fits { fits known.now.fields.parts with.now ≡ true }
     ensures ok { (program : Scenario) (actor : ℕ) → IfOk result (λ told. Steps tables.now program instance actor (ask.Emit event with.now) (inside state.old) told (inside state.new)) }
+    ensures queue { HasSameQueue state.old state.new }
     ensures err { OnErr result (state.new ≡ state.old) }
 {
     let _ = tables;
@@ -66,6 +67,7 @@ pub(crate) fn write(
     requires known { slice_get (component tables.now instance).channels channel ≡ Some known.now }
     requires wired { wired ≡ is_some (special_wire tables.now instance special.Tlm) }
     ensures ok { (program : Scenario) (actor : ℕ) → IfOk result (λ told. Steps tables.now program instance actor (ask.Write channel value.now) (inside state.old) told (inside state.new)) }
+    ensures queue { HasSameQueue state.old state.new }
     ensures err { OnErr result (state.new ≡ state.old) }
 {
     let _ = tables;

@@ -1,4 +1,4 @@
-ghost use Rattle.std.specs.Prelude.{◌≡◌, IfOk};
+ghost use Rattle.std.specs.Prelude.{◌≡◌, Some, true, is_some, slice_get, IfOk};
 
 use fp_base::{NoMemory, Row, Value};
 use fp_events::What;
@@ -67,5 +67,15 @@ pub(crate) fn copy_returned(alloc: Global, value: &Option<Value>) -> Result<Opti
     match value {
         None => Ok(None),
         Some(value) => Ok(Some(value.copy(alloc)?)),
+    }
+}
+
+pub(crate) fn param_at(alloc: Global, params: &[Value], param: u32) -> Result<Value, NoMemory>
+    requires { is_some (slice_get params.now param) ≡ true }
+    ensures { IfOk result (λ value. slice_get params.now param ≡ Some value) }
+{
+    match params.get(param as usize) {
+        Some(value) => value.copy(alloc),
+        None => unreachable!(),
     }
 }
