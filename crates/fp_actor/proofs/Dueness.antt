@@ -23,7 +23,7 @@ pub due_from : (t : Described) (program : Program) (a : ℕ) (fs : List Frame) (
 due_from t program a fs f rest o e h =
     ap (due_in t program f) (sym h ∙ ap (λ (gs : List Frame). first_action (doing gs)) e) ∙ ap (due_of t program a) (sym e)
 
-settled_within : (n : ℕ) (m : Level) (p : Position) → IsWithin n m → IsWithin n (settled m p)
+pub settled_within : (n : ℕ) (m : Level) (p : Position) → IsWithin n m → IsWithin n (settled m p)
 settled_within n m p h = (go (eqb p.list m.next.list), h.1)
   where
     go : (b : Bool) → cond b m.first m.past ≤ m.past

@@ -18,9 +18,8 @@ use Rattle.fp_actor.specs.declared.level.Base.TheVariants as base
 use Rattle.fp_actor.specs.declared.level.Level.{Level}
 use Rattle.fp_actor.specs.declared.level.Binding.{Binding}
 use Rattle.fp_actor.specs.declared.lists.Deed.{Deed}
-use Rattle.fp_actor.specs.declared.lists.Deed.TheVariants as deed
 use Rattle.fp_actor.specs.declared.stack.First.{First}
-use Rattle.fp_actor.specs.Levels.{begun, advanced, action_of, bindings_of, lists_of, lists_in, value_at, default_of, default_in, instance_of, called, binding, made, left, over, frames, stacked, IsFirst, level_of_entry, IsOpening, IsRemoving, IsTaking, IsSending, IsStarting, IsMoving, IsAdvance}
+use Rattle.fp_actor.specs.Levels.{begun, advanced, action_of, bindings_of, lists_of, lists_in, value_at, default_of, default_in, instance_of, called, binding, made, left, over, frames, stacked, IsFirst, level_of_entry, IsOpening, IsRemoving, IsTaking, IsSending, IsStarting, IsMoving}
 use Rattle.fp_actor.proofs.Settling.{begun_nothing}
 use Rattle.fp_actor.proofs.Stacking.{snoc, drop_all}
 
@@ -181,25 +180,19 @@ module _ (t : Described) (program : Program) (number : ℕ) (trace : List Entry)
     placed_before ds [] y l h e = absurd (cc)
     placed_before ds (f ∷ fs) y l h e = ap (λ (cs : List Doing). record f { doing = cs ++ f.doing } ∷ fs) e
 
-    value_there : (d : Deed) (bs : Bindings) (fs : List Frame) → IsAdvance d v → first_action (doing fs) ≡ Some (action_of t program number trace d, bs) →
-        value_in (first_action (doing fs)) ≡ value_at t program number trace v
-    value_there (deed.Advance r s m) bs fs same h = ap value_in h ∙ ap (value_at t program number trace) same
-    value_there (deed.Act a) bs fs same h = absurd same
-    value_there (deed.Send s) bs fs same h = absurd same
-
-    pub starting_follows : (ls : List Level) (x : Thread) (d : Deed) (bs : Bindings) → IsStarting e.what → IsAdvance d v → first_action (doing x.frames) ≡ Some (action_of t program number trace d, bs) →
+    pub starting_follows : (ls : List Level) (x : Thread) (d : Deed) (bs : Bindings) → IsStarting e.what → value_in (Some (action_of t program number trace d, bs)) ≡ value_at t program number trace v → first_action (doing x.frames) ≡ Some (action_of t program number trace d, bs) →
         frames t program number trace bindings ls ≡ x.frames → frames t program number trace bindings (ls ++ level_of_entry base.Inside n v b ∷ []) ≡ (follows t program e.instance x e.what).frames
     starting_follows ls x d bs o is first h =
         snoc t program number trace bindings [] ls (level_of_entry base.Inside n v b) ∙ ap (over t program number trace bindings base.Inside (level_of_entry base.Inside n v b)) h
         ∙ placed_before (lists_of t program (value_at t program number trace v) e.instance e.what) x.frames _ (level_of_entry base.Inside n v b) first (left_there base.Inside)
-        ∙ starting x e.what o (value_there d bs x.frames is first)
+        ∙ starting x e.what o (ap value_in first ∙ is)
 
-    pub moving_follows : (ls : List Level) (x : Thread) (d : Deed) (bs : Bindings) → IsMoving e.what → IsAdvance d v → first_action (doing x.frames) ≡ Some (action_of t program number trace d, bs) →
+    pub moving_follows : (ls : List Level) (x : Thread) (d : Deed) (bs : Bindings) → IsMoving e.what → value_in (Some (action_of t program number trace d, bs)) ≡ value_at t program number trace v → first_action (doing x.frames) ≡ Some (action_of t program number trace d, bs) →
         frames t program number trace bindings ls ≡ removed x.frames → frames t program number trace bindings (ls ++ level_of_entry base.Inside n v b ∷ []) ≡ (follows t program e.instance x e.what).frames
     moving_follows ls x d bs o is first h =
         snoc t program number trace bindings [] ls (level_of_entry base.Inside n v b) ∙ ap (over t program number trace bindings base.Inside (level_of_entry base.Inside n v b)) h
         ∙ placed_over (lists_of t program (value_at t program number trace v) e.instance e.what) x.frames _ (level_of_entry base.Inside n v b) first (left_there base.Inside)
-        ∙ moving x e.what o (value_there d bs x.frames is first)
+        ∙ moving x e.what o (ap value_in first ∙ is)
 
   module _ (ls : List Level) (f : First) (i : IsFirst t program number trace bindings ls f) where
     name_there : called t program number trace (Some f.level.next) ≡ name_for (first_action (doing (frames t program number trace bindings ls)))

@@ -3,11 +3,11 @@ use Rattle.std.proofs.Common.{◌≡◌, ℕ, zero, suc, ◌<◌, List, [], ◌�
 use Rattle.std.specs.List.{slice_get}
 use Rattle.std.specs.Option.{option_and_then}
 use Rattle.std.proofs.lemmas.List.{reverse-append, map-append, take-map, drop-map}
-use Rattle.fp_base.specs.declared.value.Value.{Value, Opaque}
+use Rattle.fp_base.specs.declared.value.Value.{Opaque}
 use Rattle.fp_tables.specs.Lookup.{Described}
 use Rattle.fp_tables.specs.declared.program.Program.{Program}
 use Rattle.fp_events.specs.declared.event.Entry.{Entry}
-use Rattle.fp_events.specs.Actor.{Action, Bindings, Doing, Opened, arrived, Frame}
+use Rattle.fp_events.specs.Actor.{Action, Doing, arrived, Frame}
 use Rattle.fp_events.specs.Follows.{name_for, bound_name}
 use Rattle.fp_actor.specs.declared.level.Source.{Source}
 use Rattle.fp_actor.specs.declared.level.Source.TheVariants as source
@@ -49,7 +49,7 @@ module _ (t : Described) (program : Program) (number : ℕ) (trace more : List E
   value_grown : (m : ℕ) → m < length trace → value_at t program number grown m ≡ value_at t program number trace m
   value_grown m lt = ap (option_and_then (λ (e : Entry). signal_value e.what)) (before_end trace more m lt)
 
-  lists_grown : (s : Source) → IsBefore (length trace) s → lists_in t program number grown s ≡ lists_in t program number trace s
+  pub lists_grown : (s : Source) → IsBefore (length trace) s → lists_in t program number grown s ≡ lists_in t program number trace s
   lists_grown source.Own h = refl
   lists_grown (source.Entry n m) h = λ j. unwrap_or (option_map (λ (e : Entry). lists_of t program (value_grown m h.1 j) e.instance e.what) (before_end trace more n h.0 j)) []
 

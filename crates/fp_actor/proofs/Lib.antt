@@ -11,3 +11,8 @@ pub mod NextOf
 pub mod Following
 pub mod Bound
 pub mod Growing
+pub mod Keeping
+pub mod Advancing
+pub mod Awaiting
+pub mod Closing
+pub mod Accepting

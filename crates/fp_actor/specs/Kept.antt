@@ -1,11 +1,18 @@
 -- What an actor's fields keep.
-use Rattle.std.specs.Prelude.{◌≡◌, true, length}
+use Rattle.std.specs.Prelude.{◌≡◌, Bool, true, ◌&&◌, nat_lt, vec_len, vec_capacity}
 use Rattle.std.specs.List.{list_all}
 use Rattle.fp_tables.specs.Positions.{component_is_short}
 use Rattle.fp_events.specs.Lookup.{home}
-use Rattle.fp_actor.specs.Levels.{frames, AreWithin}
+use Rattle.fp_actor.specs.Levels.{frames}
+use Rattle.fp_actor.specs.Placed.{AreKept}
 use Rattle.fp_actor.specs.Acting.{Acting, IsToldOf}
 use Rattle.fp_actor.specs.declared.actor.Actor.TheInside.{Inside}
+
+-- room for an entry, a level and a binding
+abbrev pub has_room : Inside → Bool
+has_room a =
+    nat_lt (vec_len a.trace) (vec_capacity a.trace) && nat_lt (vec_len a.levels) (vec_capacity a.levels)
+    && nat_lt (vec_len a.bindings) (vec_capacity a.bindings)
 
 -- the actor that these fields are
 abbrev pub acting : Inside → Acting
@@ -14,15 +21,16 @@ acting a = record {
   program = a.program.now;
   number = a.number;
   state = record {
-    thread = record { frames = frames a.tables.now a.program.now a.number a.trace a.bindings.items a.levels.items; halted = a.halted };
+    thread = record { frames = frames a.tables.now a.program.now a.number a.trace.items a.bindings.items a.levels.items; halted = a.halted };
     last = a.last;
   };
-  trace = a.trace;
+  trace = a.trace.items;
+  has_room = has_room a;
 }
 
 pub record IsKept (a : Inside) : Type 0 where
   pub handlers : a.handlers ≡ a.program.now.handlers
   pub home : a.home ≡ home a.tables.now a.program.now a.number
   pub short : list_all component_is_short a.tables.now.model.components ≡ true
-  pub within : AreWithin (length a.bindings.items) a.levels.items
+  pub stack : AreKept a.tables.now a.program.now a.number a.trace.items a.bindings.items a.levels.items
   pub told : IsToldOf (acting a)

@@ -154,16 +154,16 @@ abbrev pub IsMoving : What → Type 0
 IsMoving (what.Move running signal actions leaf) = Unit {0}
 IsMoving _ = ⊥
 
--- an advance whose signal's value the entry at n has
-abbrev pub IsAdvance : Deed → ℕ → Type 0
-IsAdvance (deed.Advance running signal value) n = value ≡ n
-IsAdvance _ n = ⊥
-
 -- an entry that puts one list before its actor, if any
 abbrev pub IsOneList : What → Type 0
 IsOneList (what.Start running actions leaf) = ⊥
 IsOneList (what.Move running signal actions leaf) = ⊥
 IsOneList _ = Unit {0}
+
+-- the entry of a source, 0 where it has none
+abbrev pub entry_of : Source → ℕ
+entry_of source.Own = 0
+entry_of (source.Entry n m) = n
 
 module _ (t : Described) (program : Program) where
   abbrev pub event_name : ℕ → ℕ → List ℕ
@@ -222,6 +222,11 @@ module _ (t : Described) (program : Program) (number : ℕ) (trace : List Entry)
   -- the name to which what is returned for a call is bound
   abbrev pub called : Option Position → Option (List ℕ)
   called p = option_and_then (λ q. name_for (with_nothing q)) p
+
+  -- the same of the call that a frame answers
+  abbrev pub call_in : Base → Option (List ℕ)
+  call_in (base.Arrived p) = called p
+  call_in _ = None
 
   abbrev pub instance_of : Source → ℕ
   instance_of source.Own = 0

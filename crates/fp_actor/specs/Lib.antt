@@ -4,3 +4,4 @@ pub mod Acting
 pub mod Next
 pub mod Kept
 pub mod Placed
+pub mod Awaited

@@ -1,15 +1,17 @@
-ghost use Rattle.std.specs.Prelude.{◌≡◌, [], Some, IfOk, slice_get};
+ghost use Rattle.std.specs.Prelude.{◌≡◌, ◌<◌, ◌≤◌, true, false, [], ◌∷◌, ◌++◌, Some, IfOk, OnOk, slice_get};
 ghost use Rattle.fp_tables.specs.Sound.{IsSoundFor};
 ghost use Rattle.fp_events.specs.Actor.{opened_actor};
-ghost use Rattle.fp_actor.specs.Acting.{due_of_actor, IsToldOf};
+ghost use Rattle.fp_events.specs.Step.{actor_part};
+ghost use Rattle.fp_actor.specs.Acting.{due_of_actor, AnswersDue, IsSameActor, IsToldOf};
 ghost use Rattle.fp_actor.specs.Next.{next_of};
 ghost use Rattle.fp_actor.specs.Levels.{opening_of};
 
 use crate::handlers::Handlers;
 use crate::home::home_of;
 use crate::level::{Base, Binding, Level, Position, Source};
+use crate::step::is_assert;
 use crate::view::View;
-use fp_base::{NoMemory, Row};
+use fp_base::NoMemory;
 use fp_events::{Ask, Entry};
 use fp_tables::{Program, Tables};
 use std::alloc::Global;
@@ -34,7 +36,7 @@ pub struct Actor<'a> {
     home: Option<u32>,
     levels: Vec<Level>,
     bindings: Vec<Binding>,
-    trace: Row<Entry>,
+    trace: Vec<Entry>,
     halted: bool,
     last: u64,
 }
@@ -70,6 +72,7 @@ impl<'a> Actor<'a> {
           number = number;
           state = record { thread = opened_actor program.now number; last = 0 };
           trace = [];
+          has_room = false;
         }) }
     {
         let handlers = Handlers::of(alloc, program.handlers.as_slice())?;
@@ -82,7 +85,7 @@ impl<'a> Actor<'a> {
             home: home_of(tables, program, number),
             levels,
             bindings: Vec::new(alloc),
-            trace: Row::new(alloc),
+            trace: Vec::new(alloc),
             halted: false,
             last: 0,
         })
@@ -114,11 +117,46 @@ impl<'a> Actor<'a> {
         }
     }
 
-    pub fn trace(&self) -> &Row<Entry>
+    /// Makes room for one entry.
+    pub fn reserve(&mut self) -> Result<(), NoMemory>
+        ensures room { OnOk result (self.new.has_room ≡ true) }
+        ensures same { self.new ≡ record self.old { has_room = self.new.has_room } }
+    {
+        self.trace.reserve(1)?;
+        self.levels.reserve(1)?;
+        self.bindings.reserve(1)?;
+        Ok(())
+    }
+
+    /// Goes on by an entry. It takes no memory.
+    pub fn accept(&mut self, entry: Entry)
+        requires room { self.old.has_room ≡ true }
+        requires answers { AnswersDue self.old entry }
+        requires above { self.old.state.last < entry.stamp }
+        requires within { entry.stamp ≤ self.old.program.steps }
+        ensures state { actor_part self.old.tables self.old.program self.old.number self.old.state entry ≡ Some self.new.state }
+        ensures trace { self.new.trace ≡ self.old.trace ++ entry ∷ [] }
+        ensures same { IsSameActor self.old self.new }
+    {
+        let at = self.trace.len();
+        self.halted = is_assert(&entry.what);
+        self.last = entry.stamp;
+        self.trace.push_reserved(entry);
+        let view = View {
+            tables: self.tables,
+            program: self.program,
+            handlers: &self.handlers,
+            number: self.number,
+            trace: self.trace.as_slice(),
+        };
+        view.follow(&mut self.levels, &mut self.bindings, at);
+    }
+
+    pub fn trace(&self) -> &[Entry]
         ensures trace { result.now ≡ self.now.trace }
         ensures told { IsToldOf self.now }
     {
-        &self.trace
+        self.trace.as_slice()
     }
 }
 

@@ -1,9 +1,13 @@
 ghost use Rattle.std.specs.Prelude.{true, is_some, ◌≡◌, ◌<◌, ◌≤◌, ◌+◌, ◌^◌, Some, [], ◌∷◌, ◌++◌, List, take, length, slice_get, vec_len, vec_capacity};
-ghost use Rattle.fp_events.specs.Actor.{Frame, Thread};
-ghost use Rattle.fp_events.specs.Follows.{follows};
+ghost use Rattle.fp_events.specs.Due.{first_action};
+ghost use Rattle.fp_events.specs.Follows.{doing};
 ghost use Rattle.fp_events.specs.declared.event.Entry.{Entry};
 ghost use Rattle.fp_actor.specs.declared.level.Base.TheVariants as base;
-ghost use Rattle.fp_actor.specs.Levels.{advanced, raised, frames, level_of_entry, called, AreUpTo, IsWithin, IsBindable, IsReading, IsReturning, IsFirst, IsOpening, IsRemoving, IsSending, IsTaking, IsStarting, IsMoving, IsAdvance, IsBottom};
+ghost use Rattle.fp_actor.specs.declared.level.Level.{Level as LevelOf};
+ghost use Rattle.fp_actor.specs.declared.level.Binding.{Binding as BindingOf};
+ghost use Rattle.fp_actor.specs.Levels.{advanced, raised, frames, level_of_entry, called, entry_of, IsReading, IsReturning, IsFirst, IsOpening, IsRemoving, IsSending, IsTaking, IsStarting, IsMoving, IsBottom};
+ghost use Rattle.fp_actor.specs.Placed.{AreKept, Goes};
+ghost use Rattle.fp_actor.specs.Awaited.{is_advance};
 
 use crate::level::{Base, Binding, Level, Position, Source};
 use crate::stack::{Bottom, First};
@@ -18,6 +22,26 @@ fn after(at: Position) -> Position
         source: at.source,
         list: at.list,
         action: at.action + 1,
+    }
+}
+
+/// The entry that has the value of the signal that a list of this source advances on.
+fn value_of(source: Source) -> usize
+    ensures { result ≡ entry_of source }
+{
+    match source {
+        Source::Own => 0,
+        Source::Entry { entry, .. } => entry,
+    }
+}
+
+/// How many bindings are below the level on top and in it.
+fn past_of(levels: &[Level]) -> usize
+    ensures { (lower : List LevelOf) (top : LevelOf) → levels.now ≡ lower ++ top ∷ [] → result ≡ top.past }
+{
+    match levels.split_last() {
+        Some((top, _)) => top.past,
+        None => 0,
     }
 }
 
@@ -41,9 +65,7 @@ fn remove(levels: &mut Vec<Level>, below: usize, level: Level)
 /// A level of the entry at `at` on top.
 fn put(levels: &mut Vec<Level>, base: Base, at: usize, value: usize, past: usize)
     requires { vec_len levels.old < vec_capacity levels.old }
-    ensures items { levels.new.items ≡ levels.old.items ++ level_of_entry base at value past ∷ [] }
-    ensures capacity { vec_capacity levels.new ≡ vec_capacity levels.old }
-    ensures len { vec_len levels.new ≡ vec_len levels.old + 1 }
+    ensures { levels.new.items ≡ levels.old.items ++ level_of_entry base at value past ∷ [] }
 {
     levels.push_reserved(Level {
         base,
@@ -69,11 +91,7 @@ fn bind(
     requires past { level.past ≤ vec_len bindings.old }
     requires room { vec_len bindings.old < vec_capacity bindings.old }
     ensures levels { levels.new.items ≡ take below levels.old.items ++ raised level ∷ [] }
-    ensures len { vec_len levels.new ≡ below + 1 }
-    ensures capacity { vec_capacity levels.new ≡ vec_capacity levels.old }
     ensures bindings { bindings.new.items ≡ take level.past bindings.old.items ++ binding ∷ [] }
-    ensures bindings_len { vec_len bindings.new ≡ level.past + 1 }
-    ensures bindings_capacity { vec_capacity bindings.new ≡ vec_capacity bindings.old }
 {
     levels.truncate(below);
     bindings.truncate(level.past);
@@ -87,133 +105,106 @@ fn bind(
 }
 
 impl<'v> View<'v> {
-    /// What an arrival that opens a frame makes of the levels.
-    pub fn open_frame(&self, levels: &mut Vec<Level>, first: First<'v>, at: usize, past: usize)
-        ghost entry: { Entry }
-        requires first { (bindings : List Binding) → IsFirst self.now.tables.now self.now.program.now self.now.number self.now.trace.now bindings levels.old.items first }
-        requires there { slice_get self.now.trace.now at ≡ Some entry }
-        requires opening { IsOpening entry.what }
+    /// The levels with one of the entry at `at` in place of their first action.
+    fn replace_first(
+        &self,
+        levels: &mut Vec<Level>,
+        first: First<'v>,
+        base: Base,
+        at: usize,
+        value: usize,
+    )
+        requires first { (bindings : List BindingOf) → IsFirst self.now.tables.now self.now.program.now self.now.number self.now.trace.now bindings levels.old.items first }
         requires room { vec_len levels.old < vec_capacity levels.old }
-        ensures { (bindings : List Binding) (x : Thread)
-            → x.frames ≡ frames self.now.tables.now self.now.program.now self.now.number self.now.trace.now bindings levels.old.items
-            → frames self.now.tables.now self.now.program.now self.now.number self.now.trace.now bindings levels.new.items ≡ (follows self.now.tables.now self.now.program.now entry.instance x entry.what).frames }
+        ensures { levels.new.items ≡ (take first.entry.below levels.old.items ++ advanced first.entry.level ∷ []) ++ level_of_entry base at value first.entry.level.past ∷ [] }
     {
         remove(levels, first.below, first.level);
-        put(levels, Base::Arrived(Some(first.level.next)), at, at, past);
+        put(levels, base, at, value, first.level.past);
+    }
+
+    /// What an arrival that opens a frame makes of the levels.
+    pub fn open_frame(&self, levels: &mut Vec<Level>, first: First<'v>, at: usize)
+        requires first { (bindings : List BindingOf) → IsFirst self.now.tables.now self.now.program.now self.now.number self.now.trace.now bindings levels.old.items first }
+        requires room { vec_len levels.old < vec_capacity levels.old }
+        ensures { (bindings : List BindingOf) (entry : Entry) → slice_get self.now.trace.now at ≡ Some entry → IsOpening entry.what
+            → AreKept self.now.tables.now self.now.program.now self.now.number self.now.trace.now bindings levels.old.items → Goes self.now.tables.now self.now.program.now self.now.number self.now.trace.now entry bindings levels.old.items bindings levels.new.items }
+    {
+        self.replace_first(levels, first, Base::Arrived(Some(first.level.next)), at, at);
     }
 
     /// What an arrival that opens no frame, an empty queue, or an emission or a write that was not sent makes of the levels.
     pub fn remove_first(&self, levels: &mut Vec<Level>, first: First<'v>)
-        requires { (bindings : List Binding) → IsFirst self.now.tables.now self.now.program.now self.now.number self.now.trace.now bindings levels.old.items first }
-        ensures capacity { vec_capacity levels.new ≡ vec_capacity levels.old }
-        ensures len { vec_len levels.new ≤ vec_len levels.old }
-        ensures frames { (bindings : List Binding) (x : Thread) (entry : Entry) → IsRemoving entry.what
-            → x.frames ≡ frames self.now.tables.now self.now.program.now self.now.number self.now.trace.now bindings levels.old.items
-            → frames self.now.tables.now self.now.program.now self.now.number self.now.trace.now bindings levels.new.items ≡ (follows self.now.tables.now self.now.program.now entry.instance x entry.what).frames }
+        requires { (bindings : List BindingOf) → IsFirst self.now.tables.now self.now.program.now self.now.number self.now.trace.now bindings levels.old.items first }
+        ensures { (bindings : List BindingOf) (entry : Entry) → IsRemoving entry.what
+            → AreKept self.now.tables.now self.now.program.now self.now.number self.now.trace.now bindings levels.old.items → Goes self.now.tables.now self.now.program.now self.now.number self.now.trace.now entry bindings levels.old.items bindings levels.new.items }
     {
         remove(levels, first.below, first.level);
     }
 
     /// What an emission or a write that was sent makes of the levels.
-    pub fn send_first(&self, levels: &mut Vec<Level>, first: First<'v>, at: usize, past: usize)
-        ghost entry: { Entry }
-        requires first { (bindings : List Binding) → IsFirst self.now.tables.now self.now.program.now self.now.number self.now.trace.now bindings levels.old.items first }
-        requires there { slice_get self.now.trace.now at ≡ Some entry }
-        requires sending { IsSending entry.what }
+    pub fn send_first(&self, levels: &mut Vec<Level>, first: First<'v>, at: usize)
+        requires first { (bindings : List BindingOf) → IsFirst self.now.tables.now self.now.program.now self.now.number self.now.trace.now bindings levels.old.items first }
         requires room { vec_len levels.old < vec_capacity levels.old }
-        ensures { (bindings : List Binding) (x : Thread)
-            → x.frames ≡ frames self.now.tables.now self.now.program.now self.now.number self.now.trace.now bindings levels.old.items
-            → frames self.now.tables.now self.now.program.now self.now.number self.now.trace.now bindings levels.new.items ≡ (follows self.now.tables.now self.now.program.now entry.instance x entry.what).frames }
+        ensures { (bindings : List BindingOf) (entry : Entry) → slice_get self.now.trace.now at ≡ Some entry → IsSending entry.what
+            → AreKept self.now.tables.now self.now.program.now self.now.number self.now.trace.now bindings levels.old.items → Goes self.now.tables.now self.now.program.now self.now.number self.now.trace.now entry bindings levels.old.items bindings levels.new.items }
     {
-        remove(levels, first.below, first.level);
-        put(levels, Base::Inside, at, at, past);
+        self.replace_first(levels, first, Base::Inside, at, at);
     }
 
     /// What a take makes of the levels, where a dispatch asked for it.
-    pub fn take_from_frame(&self, levels: &mut Vec<Level>, first: First<'v>, at: usize, past: usize)
-        ghost entry: { Entry }
-        requires first { (bindings : List Binding) → IsFirst self.now.tables.now self.now.program.now self.now.number self.now.trace.now bindings levels.old.items first }
-        requires there { slice_get self.now.trace.now at ≡ Some entry }
-        requires taking { IsTaking entry.what }
+    pub fn take_from_frame(&self, levels: &mut Vec<Level>, first: First<'v>, at: usize)
+        requires first { (bindings : List BindingOf) → IsFirst self.now.tables.now self.now.program.now self.now.number self.now.trace.now bindings levels.old.items first }
         requires room { vec_len levels.old < vec_capacity levels.old }
-        ensures { (bindings : List Binding) (x : Thread)
-            → x.frames ≡ frames self.now.tables.now self.now.program.now self.now.number self.now.trace.now bindings levels.old.items
-            → frames self.now.tables.now self.now.program.now self.now.number self.now.trace.now bindings levels.new.items ≡ (follows self.now.tables.now self.now.program.now entry.instance x entry.what).frames }
+        ensures { (bindings : List BindingOf) (entry : Entry) → slice_get self.now.trace.now at ≡ Some entry → IsTaking entry.what
+            → AreKept self.now.tables.now self.now.program.now self.now.number self.now.trace.now bindings levels.old.items → Goes self.now.tables.now self.now.program.now self.now.number self.now.trace.now entry bindings levels.old.items bindings levels.new.items }
     {
-        remove(levels, first.below, first.level);
-        put(levels, Base::Taken, at, at, past);
+        self.replace_first(levels, first, Base::Taken, at, at);
     }
 
     /// What a take makes of no levels.
-    pub fn take_frame(&self, levels: &mut Vec<Level>, at: usize, past: usize)
-        ghost entry: { Entry }
-        requires empty { levels.old.items ≡ [] }
-        requires there { slice_get self.now.trace.now at ≡ Some entry }
-        requires taking { IsTaking entry.what }
-        requires room { vec_len levels.old < vec_capacity levels.old }
-        ensures { (bindings : List Binding) (x : Thread)
-            → x.frames ≡ frames self.now.tables.now self.now.program.now self.now.number self.now.trace.now bindings levels.old.items
-            → frames self.now.tables.now self.now.program.now self.now.number self.now.trace.now bindings levels.new.items ≡ (follows self.now.tables.now self.now.program.now entry.instance x entry.what).frames }
+    pub fn take_frame(&self, levels: &mut Vec<Level>, at: usize)
+        requires { vec_len levels.old < vec_capacity levels.old }
+        ensures { (bindings : List BindingOf) (entry : Entry) → slice_get self.now.trace.now at ≡ Some entry → IsTaking entry.what → levels.old.items ≡ []
+            → AreKept self.now.tables.now self.now.program.now self.now.number self.now.trace.now bindings levels.old.items → Goes self.now.tables.now self.now.program.now self.now.number self.now.trace.now entry bindings levels.old.items bindings levels.new.items }
     {
-        put(levels, Base::Taken, at, at, past);
-    }
-
-    /// The levels without the innermost frame.
-    pub fn close(&self, levels: &mut Vec<Level>, bottom: Bottom)
-        requires { (bindings : List Binding) → IsBottom self.now.tables.now self.now.program.now self.now.number self.now.trace.now bindings levels.old.items bottom }
-        ensures capacity { vec_capacity levels.new ≡ vec_capacity levels.old }
-        ensures len { vec_len levels.new ≤ vec_len levels.old }
-        ensures frames { (bindings : List Binding) (f : Frame) (rest : List Frame)
-            → frames self.now.tables.now self.now.program.now self.now.number self.now.trace.now bindings levels.old.items ≡ f ∷ rest → frames self.now.tables.now self.now.program.now self.now.number self.now.trace.now bindings levels.new.items ≡ rest }
-    {
-        levels.truncate(bottom.below);
+        put(levels, Base::Taken, at, at, 0);
     }
 
     /// What a start makes of the levels: the lists of its actions stand before the advance.
-    pub fn start(
-        &self,
-        levels: &mut Vec<Level>,
-        first: First<'v>,
-        at: usize,
-        value: usize,
-        past: usize,
-    )
-        ghost entry: { Entry }
-        requires first { (bindings : List Binding) → IsFirst self.now.tables.now self.now.program.now self.now.number self.now.trace.now bindings levels.old.items first }
-        requires there { slice_get self.now.trace.now at ≡ Some entry }
-        requires starting { IsStarting entry.what }
-        requires advance { IsAdvance first.deed value }
+    pub fn start(&self, levels: &mut Vec<Level>, first: First<'v>, at: usize)
+        requires first { (bindings : List BindingOf) → IsFirst self.now.tables.now self.now.program.now self.now.number self.now.trace.now bindings levels.old.items first }
         requires room { vec_len levels.old < vec_capacity levels.old }
-        ensures { (bindings : List Binding) (x : Thread)
-            → x.frames ≡ frames self.now.tables.now self.now.program.now self.now.number self.now.trace.now bindings levels.old.items
-            → frames self.now.tables.now self.now.program.now self.now.number self.now.trace.now bindings levels.new.items ≡ (follows self.now.tables.now self.now.program.now entry.instance x entry.what).frames }
+        ensures { (bindings : List BindingOf) (entry : Entry) → slice_get self.now.trace.now at ≡ Some entry → IsStarting entry.what
+            → is_advance (first_action (doing (frames self.now.tables.now self.now.program.now self.now.number self.now.trace.now bindings levels.old.items))) ≡ true
+            → AreKept self.now.tables.now self.now.program.now self.now.number self.now.trace.now bindings levels.old.items → Goes self.now.tables.now self.now.program.now self.now.number self.now.trace.now entry bindings levels.old.items bindings levels.new.items }
     {
-        let _ = first;
-        put(levels, Base::Inside, at, value, past);
+        let past = past_of(levels.as_slice());
+        put(
+            levels,
+            Base::Inside,
+            at,
+            value_of(first.level.next.source),
+            past,
+        );
     }
 
     /// What a move makes of the levels: the lists of its actions stand in place of the advance.
-    pub fn move_on(
-        &self,
-        levels: &mut Vec<Level>,
-        first: First<'v>,
-        at: usize,
-        value: usize,
-        past: usize,
-    )
-        ghost entry: { Entry }
-        requires first { (bindings : List Binding) → IsFirst self.now.tables.now self.now.program.now self.now.number self.now.trace.now bindings levels.old.items first }
-        requires there { slice_get self.now.trace.now at ≡ Some entry }
-        requires moving { IsMoving entry.what }
-        requires advance { IsAdvance first.deed value }
+    pub fn move_on(&self, levels: &mut Vec<Level>, first: First<'v>, at: usize)
+        requires first { (bindings : List BindingOf) → IsFirst self.now.tables.now self.now.program.now self.now.number self.now.trace.now bindings levels.old.items first }
         requires room { vec_len levels.old < vec_capacity levels.old }
-        ensures { (bindings : List Binding) (x : Thread)
-            → x.frames ≡ frames self.now.tables.now self.now.program.now self.now.number self.now.trace.now bindings levels.old.items
-            → frames self.now.tables.now self.now.program.now self.now.number self.now.trace.now bindings levels.new.items ≡ (follows self.now.tables.now self.now.program.now entry.instance x entry.what).frames }
+        ensures { (bindings : List BindingOf) (entry : Entry) → slice_get self.now.trace.now at ≡ Some entry → IsMoving entry.what
+            → is_advance (first_action (doing (frames self.now.tables.now self.now.program.now self.now.number self.now.trace.now bindings levels.old.items))) ≡ true
+            → AreKept self.now.tables.now self.now.program.now self.now.number self.now.trace.now bindings levels.old.items → Goes self.now.tables.now self.now.program.now self.now.number self.now.trace.now entry bindings levels.old.items bindings levels.new.items }
     {
-        remove(levels, first.below, first.level);
-        put(levels, Base::Inside, at, value, past);
+        self.replace_first(
+            levels,
+            first,
+            Base::Inside,
+            at,
+            value_of(first.level.next.source),
+        );
     }
+
     /// What a read makes of the levels and the bindings: the entry's value is bound where the action stood.
     pub fn read(
         &self,
@@ -222,16 +213,11 @@ impl<'v> View<'v> {
         first: First<'v>,
         at: usize,
     )
-        ghost entry: { Entry }
         requires first { IsFirst self.now.tables.now self.now.program.now self.now.number self.now.trace.now bindings.old.items levels.old.items first }
-        requires there { slice_get self.now.trace.now at ≡ Some entry }
-        requires reading { IsReading entry.what }
-        requires within { IsWithin (length bindings.old.items) first.level }
-        requires lower { AreUpTo first.level.past (take first.below levels.old.items) }
+        requires kept { AreKept self.now.tables.now self.now.program.now self.now.number self.now.trace.now bindings.old.items levels.old.items }
         requires room { vec_len bindings.old < vec_capacity bindings.old }
-        ensures { (x : Thread)
-            → x.frames ≡ frames self.now.tables.now self.now.program.now self.now.number self.now.trace.now bindings.old.items levels.old.items
-            → frames self.now.tables.now self.now.program.now self.now.number self.now.trace.now bindings.new.items levels.new.items ≡ (follows self.now.tables.now self.now.program.now entry.instance x entry.what).frames }
+        ensures { (entry : Entry) → slice_get self.now.trace.now at ≡ Some entry → IsReading entry.what
+            → Goes self.now.tables.now self.now.program.now self.now.number self.now.trace.now entry bindings.old.items levels.old.items bindings.new.items levels.new.items }
     {
         let level = Level {
             base: first.level.base,
@@ -246,6 +232,13 @@ impl<'v> View<'v> {
         bind(levels, bindings, first.below, level, binding);
     }
 
+    /// The levels without the innermost frame.
+    pub fn close(&self, levels: &mut Vec<Level>, bottom: Bottom)
+        ensures { levels.new.items ≡ take bottom.below levels.old.items }
+    {
+        levels.truncate(bottom.below);
+    }
+
     /// What a leave that returns a value makes of the levels and the bindings, where the call binds that: the innermost frame is
     /// closed, and the value is bound in the one below, if there is one.
     pub fn close_and_bind(
@@ -256,19 +249,15 @@ impl<'v> View<'v> {
         call: Position,
         at: usize,
     )
-        ghost entry: { Entry }
         requires bottom { IsBottom self.now.tables.now self.now.program.now self.now.number self.now.trace.now bindings.old.items levels.old.items bottom }
         requires base { bottom.level.base ≡ base.Arrived (Some call) }
         requires named { is_some (called self.now.tables.now self.now.program.now self.now.number self.now.trace.now (Some call)) ≡ true }
-        requires there { slice_get self.now.trace.now at ≡ Some entry }
-        requires returning { IsReturning entry.what }
-        requires lower { IsBindable self.now.tables.now self.now.program.now self.now.number self.now.trace.now bindings.old.items (take bottom.below levels.old.items) }
+        requires kept { AreKept self.now.tables.now self.now.program.now self.now.number self.now.trace.now bindings.old.items levels.old.items }
         requires room { vec_len bindings.old < vec_capacity bindings.old }
-        ensures { (x : Thread)
-            → x.frames ≡ frames self.now.tables.now self.now.program.now self.now.number self.now.trace.now bindings.old.items levels.old.items
-            → frames self.now.tables.now self.now.program.now self.now.number self.now.trace.now bindings.new.items levels.new.items ≡ (follows self.now.tables.now self.now.program.now entry.instance x entry.what).frames }
+        ensures { (entry : Entry) → slice_get self.now.trace.now at ≡ Some entry → IsReturning entry.what
+            → Goes self.now.tables.now self.now.program.now self.now.number self.now.trace.now entry bindings.old.items levels.old.items bindings.new.items levels.new.items }
     {
-        levels.truncate(bottom.below);
+        self.close(levels, bottom);
         let Some((level, below)) = levels.as_slice().split_last() else {
             return;
         };

@@ -5,12 +5,14 @@ mod actor;
 mod asks;
 mod due;
 mod follow;
+mod going;
 mod handlers;
 mod home;
 mod level;
 mod lists;
 mod sends;
 mod stack;
+mod step;
 mod values;
 mod view;
 

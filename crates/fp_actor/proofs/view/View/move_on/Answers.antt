@@ -1,31 +1,29 @@
-use Rattle.std.proofs.Common.{◌<◌, ◌∷◌, ◌++◌, take, length, arith, [], sym, ap, ◌∙◌}
+use Rattle.std.proofs.Common.{◌<◌, ◌∷◌, ◌++◌, [], take, length, sym, ap, ◌∙◌}
 use Rattle.std.proofs.lemmas.Option.{slice_get_within}
 use Rattle.fp_events.specs.Due.{first_action}
 use Rattle.fp_events.specs.Follows.{doing, removed}
-use Rattle.fp_actor.specs.Levels.{advanced}
+use Rattle.fp_actor.specs.declared.level.Base.TheVariants as base
+use Rattle.fp_actor.specs.Levels.{advanced, bindings_of, entry_of}
+use Rattle.fp_actor.specs.Awaited.{is_advance}
 use Rattle.fp_actor.proofs.Following.{moving_follows}
+use Rattle.fp_actor.proofs.Advancing.{deed_value}
+use Rattle.fp_actor.proofs.Keeping.{stands_first, entry_before, kept_replaced}
 use Rattle.fp_actor.proofs.view.View.move_on.Goals as goal
 
-pub remove-requires-clause-below : goal.remove-requires-clause-below
-remove-requires-clause-below g c =
-    let i = c.requires.0 [] in
-    let lt : c.args.first.below < length c.args.levels.now.items = slice_get_within _ _ i.level i.there in
-    omega (arith, lt, c.args.levels.now.ok.0)
-
-pub remove-requires-clause-few : goal.remove-requires-clause-few
-remove-requires-clause-few g c = (c.requires.0 []).few
-
-pub put-requires : goal.put-requires
-put-requires g c =
-    let i = c.requires.0 [] in
-    let lt : c.args.first.below < length c.args.levels.now.items = slice_get_within _ _ i.level i.there in
-    omega (arith, lt, c.args.levels.now.ok.0, c.remove.ensures.len, c.remove.ensures.capacity, c.requires.1.1.1.1)
-
 pub returns : goal.returns
-returns g c = λ bindings x h.
+returns c = λ bindings entry there o advance kept.
     let v = c.args.self.now in
-    let i = c.requires.0 bindings in
-    rw (c.put.ensures.items, c.remove.ensures.items)
-    (moving_follows v.tables.now v.program.now v.number v.trace.now bindings c.args.at c.args.value c.args.past g.entry c.requires.1.0
-    (take c.args.first.below c.args.levels.now.items ++ advanced c.args.first.level ∷ []) x c.args.first.deed _ c.requires.1.1.0 c.requires.1.1.1.0
-    (ap (λ fs. first_action (doing fs)) h ∙ i.first) (i.rest ∙ ap removed (sym h)))
+    let ls = c.args.levels.now.items in
+    let f = c.args.first in
+    let i = c.requires.first bindings in
+    let lt : c.args.at < length v.trace.now = slice_get_within _ _ entry there in
+    let from = f.level.next.source in
+    let bound = bindings_of v.tables.now v.program.now v.number v.trace.now bindings f.level in
+    let value = deed_value v.tables.now v.program.now v.number v.trace.now f.level.next f.deed bound i.action (sym (ap is_advance i.first) ∙ advance) in
+    rw (c.replace_first.ensures, c.value_of.ensures)
+    (record {
+      follow =
+          λ x h. moving_follows v.tables.now v.program.now v.number v.trace.now bindings c.args.at (entry_of from) f.level.past entry there (take f.below ls ++ advanced f.level ∷ []) x f.deed bound o value
+          (ap (λ fs. first_action (doing fs)) h ∙ i.first) (i.rest ∙ ap removed (sym h));
+      kept = kept_replaced v.tables.now v.program.now v.number v.trace.now bindings ls kept f i base.Inside c.args.at (entry_of from) tt lt (entry_before v.tables.now v.program.now v.number v.trace.now c.args.at from lt (stands_first v.tables.now v.program.now v.number v.trace.now bindings ls kept f i).placed);
+    })

@@ -1,26 +1,19 @@
-use Rattle.std.proofs.Common.{◌<◌, length, arith, []}
+use Rattle.std.proofs.Common.{◌<◌, Some, length}
 use Rattle.std.proofs.lemmas.Option.{slice_get_within}
+use Rattle.fp_actor.specs.declared.level.Base.TheVariants as base
 use Rattle.fp_actor.proofs.Following.{opening_follows}
+use Rattle.fp_actor.proofs.Keeping.{stands_first, kept_replaced}
 use Rattle.fp_actor.proofs.view.View.open_frame.Goals as goal
 
-pub remove-requires-clause-below : goal.remove-requires-clause-below
-remove-requires-clause-below g c =
-    let i = c.requires.0 [] in
-    let lt : c.args.first.below < length c.args.levels.now.items = slice_get_within _ _ i.level i.there in
-    omega (arith, lt, c.args.levels.now.ok.0)
-
-pub remove-requires-clause-few : goal.remove-requires-clause-few
-remove-requires-clause-few g c = (c.requires.0 []).few
-
-pub put-requires : goal.put-requires
-put-requires g c =
-    let i = c.requires.0 [] in
-    let lt : c.args.first.below < length c.args.levels.now.items = slice_get_within _ _ i.level i.there in
-    omega (arith, lt, c.args.levels.now.ok.0, c.remove.ensures.len, c.remove.ensures.capacity, c.requires.1.1.1)
-
 pub returns : goal.returns
-returns g c = λ bindings x h.
+returns c = λ bindings entry there o kept.
     let v = c.args.self.now in
-    rw (c.put.ensures.items, c.remove.ensures.items)
-    (opening_follows v.tables.now v.program.now v.number v.trace.now bindings c.args.levels.now.items c.args.first (c.requires.0 bindings) c.args.at c.args.past g.entry
-    c.requires.1.0 x c.requires.1.1.0 h)
+    let ls = c.args.levels.now.items in
+    let f = c.args.first in
+    let i = c.requires.first bindings in
+    let lt : c.args.at < length v.trace.now = slice_get_within _ _ entry there in
+    rw c.replace_first.ensures
+    (record {
+      follow = λ x h. opening_follows v.tables.now v.program.now v.number v.trace.now bindings ls f i c.args.at f.level.past entry there x o h;
+      kept = kept_replaced v.tables.now v.program.now v.number v.trace.now bindings ls kept f i (base.Arrived (Some f.level.next)) c.args.at c.args.at (stands_first v.tables.now v.program.now v.number v.trace.now bindings ls kept f i).placed lt lt;
+    })
