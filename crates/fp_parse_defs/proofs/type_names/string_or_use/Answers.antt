@@ -19,10 +19,10 @@ use Rattle.fp_parse_defs.proofs.type_names.string_or_use.Goals as goal
 
 pub returns-then-word_at : goal.returns-then-word_at
 returns-then-word_at c =
-    let others = absent_beside {b = D.used_type} (D.k_string_word ∷ []) c.if-word_at.ensures refl refl refl (F.type_body_fits c.args.depth).refs.1.1 in
-    handing (λ x to p. (alt_first_accepts others p)) (λ to p. (alt_first_refuses others p)) _ c.string_type.ensures
+    let second = absent_beside {b = D.used_type} (D.k_string_word ∷ []) c.if-word_at.ensures refl refl refl (F.type_body_fits c.args.depth).refs.1.1 in
+    handing (λ x to p. alt_first_accepts second p) (λ to p. alt_first_refuses second p) _ c.string_type.ensures
 
 pub returns : goal.returns
 returns c =
-    let n0 = absent_unless {b = D.string_type c.args.depth} c.if-word_at.ensures refl refl (F.type_body_fits c.args.depth).refs.1.0 in
-    handing (λ x to p. (alt_second_accepts n0 p)) (λ to p. (alt_second_refuses n0 p)) _ c.used_type.ensures
+    let first = absent_unless {b = D.string_type c.args.depth} c.if-word_at.ensures refl refl (F.type_body_fits c.args.depth).refs.1.0 in
+    handing (λ x to p. alt_second_accepts first p) (λ to p. alt_second_refuses first p) _ c.used_type.ensures
