@@ -11,6 +11,3 @@ mod words;
 
 pub use laws::{fitting_runs, full_queue_texts};
 pub use log::print_log;
-
-#[cfg(test)]
-mod tests;

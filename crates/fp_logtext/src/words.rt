@@ -1,7 +1,7 @@
 ghost use Rattle.std.specs.Prelude.{◌≡◌, ◌++◌, ◌∷◌, [], ◌<◌, false, OnOk};
 ghost use Rattle.std.specs.Fmt.{digit_glyph};
 ghost use Rattle.std.specs.Option.{option_copied};
-ghost use Rattle.fp_base.specs.Rendered.{escaped, quoted};
+ghost use Rattle.fp_base.specs.Rendered.{escaped, quoted, value_text};
 ghost use Rattle.fp_logtext.specs.Names.{or_nothing};
 ghost use Rattle.fp_logtext.specs.Log.{fate_text, values_text};
 
@@ -11,6 +11,7 @@ use itoa::{Buffer, Integer};
 use std::alloc::Global;
 
 /// Adds a text.
+#[inline(always)]
 pub fn push_text(log: &mut Row<u8>, text: &str) -> Result<(), NoMemory>
     ensures { OnOk result (log.new ≡ log.old ++ text.now) }
 {
@@ -18,6 +19,7 @@ pub fn push_text(log: &mut Row<u8>, text: &str) -> Result<(), NoMemory>
 }
 
 /// Adds a number in decimal.
+#[inline]
 pub fn push_number<I: Integer>(log: &mut Row<u8>, number: I) -> Result<(), NoMemory>
     ensures { OnOk result (log.new ≡ log.old ++ I.text number) }
 {
@@ -26,12 +28,28 @@ pub fn push_number<I: Integer>(log: &mut Row<u8>, number: I) -> Result<(), NoMem
 }
 
 /// Adds a name, if there is one.
+#[inline]
 pub fn push_name(log: &mut Row<u8>, name: Option<&str>) -> Result<(), NoMemory>
     ensures { OnOk result (log.new ≡ log.old ++ or_nothing (option_copied name.entry)) }
 {
     match name {
         Some(name) => push_text(log, name),
         None => Ok(()),
+    }
+}
+
+/// Adds a value.
+fn push_printed(alloc: Global, log: &mut Row<u8>, value: &Value) -> Result<(), NoMemory>
+    ensures { OnOk result (log.new ≡ log.old ++ value_text value.now) }
+{
+    match value {
+        Value::Int(number) => push_number(log, *number),
+        Value::Bool(true) => push_text(log, "true"),
+        Value::Bool(false) => push_text(log, "false"),
+        Value::Text(text) => push_quoted(log, text.as_str()),
+        Value::Enumerated { constant, .. } => push_text(log, constant.as_str()),
+        Value::Opaque => push_text(log, "opaque"),
+        _ => value.print(alloc, log),
     }
 }
 
@@ -44,7 +62,7 @@ pub fn push_values(alloc: Global, log: &mut Row<u8>, values: &[Value]) -> Result
         if at > 0 {
             push_text(log, ", ")?;
         }
-        value.print(alloc, log)?;
+        push_printed(alloc, log, value)?;
     }
     push_text(log, ")")
 }
@@ -54,7 +72,7 @@ pub fn push_value(alloc: Global, log: &mut Row<u8>, value: &Value) -> Result<(),
     ensures { OnOk result (log.new ≡ log.old ++ values_text (value.now ∷ [])) }
 {
     push_text(log, "(")?;
-    value.print(alloc, log)?;
+    push_printed(alloc, log, value)?;
     push_text(log, ")")
 }
 
