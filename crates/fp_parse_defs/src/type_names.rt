@@ -17,6 +17,29 @@ use fp_lexer::{Token, Word};
 use fp_tree::{Expr, Str, TypeForm, TypeName};
 use std::alloc::Global;
 
+// Places in the lexer's tables of reserved words and of marks.
+const BOOL: u8 = 10;
+
+const F32: u8 = 32;
+
+const F64: u8 = 33;
+
+const I16: u8 = 44;
+
+const I32: u8 = 45;
+
+const I64: u8 = 46;
+
+const I8: u8 = 47;
+
+const U16: u8 = 104;
+
+const U32: u8 = 105;
+
+const U64: u8 = 106;
+
+const U8: u8 = 107;
+
 pub const DEFAULT: u8 = 19;
 
 pub const FORMAT: u8 = 36;
@@ -65,10 +88,10 @@ fn unsigned_at(tokens: &[Token], at: usize) -> Option<TypeName>
         return None;
     };
     let form = match &token.what {
-        Word::Reserved(107) => TypeForm::U8,
-        Word::Reserved(104) => TypeForm::U16,
-        Word::Reserved(105) => TypeForm::U32,
-        Word::Reserved(106) => TypeForm::U64,
+        Word::Reserved(U8) => TypeForm::U8,
+        Word::Reserved(U16) => TypeForm::U16,
+        Word::Reserved(U32) => TypeForm::U32,
+        Word::Reserved(U64) => TypeForm::U64,
         _ => return None,
     };
     Some(TypeName { form, at: token.at })
@@ -81,10 +104,10 @@ fn signed_at(tokens: &[Token], at: usize) -> Option<TypeName>
         return None;
     };
     let form = match &token.what {
-        Word::Reserved(47) => TypeForm::I8,
-        Word::Reserved(44) => TypeForm::I16,
-        Word::Reserved(45) => TypeForm::I32,
-        Word::Reserved(46) => TypeForm::I64,
+        Word::Reserved(I8) => TypeForm::I8,
+        Word::Reserved(I16) => TypeForm::I16,
+        Word::Reserved(I32) => TypeForm::I32,
+        Word::Reserved(I64) => TypeForm::I64,
         _ => return None,
     };
     Some(TypeName { form, at: token.at })
@@ -97,9 +120,9 @@ fn other_at(tokens: &[Token], at: usize) -> Option<TypeName>
         return None;
     };
     let form = match &token.what {
-        Word::Reserved(32) => TypeForm::F32,
-        Word::Reserved(33) => TypeForm::F64,
-        Word::Reserved(10) => TypeForm::Bool,
+        Word::Reserved(F32) => TypeForm::F32,
+        Word::Reserved(F64) => TypeForm::F64,
+        Word::Reserved(BOOL) => TypeForm::Bool,
         _ => return None,
     };
     Some(TypeName { form, at: token.at })
