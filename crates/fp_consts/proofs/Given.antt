@@ -1,5 +1,5 @@
 -- Uses whose meanings and values are given.
-use Rattle.std.proofs.Common.{◌≡◌, ℕ, ◌+◌, List, [], ◌∷◌, ◌++◌, length, slice_get, Option, Some, None, inl, inr, refl, sym, ap, subst, ◌∙◌, arith}
+use Rattle.std.proofs.Common.{◌≡◌, ℕ, ◌+◌, List, [], ◌∷◌, ◌++◌, length, slice_get, Option, Some, inl, inr, refl, sym, subst, arith}
 use Rattle.fp_base.specs.declared.value.Value.{Value}
 use Rattle.fp_tree.specs.declared.source.Source.{Source}
 use Rattle.fp_tree.specs.declared.name.Qual.{Qual}
@@ -9,7 +9,7 @@ use Rattle.fp_meaning.specs.declared.names.Mention.{Mention}
 use Rattle.fp_meaning.specs.Names.{Path, definitions}
 use Rattle.fp_meaning.specs.Meaning.{Means}
 use Rattle.fp_meaning.specs.Origins.{Origin, Constant, Enumerated, NoValue, origins}
-use Rattle.fp_meaning.specs.Values.{names_of, MeansOrigin, Val, constant, written, implied, IsValue, constant_value}
+use Rattle.fp_meaning.specs.Values.{names_of, MeansOrigin, Val, constant, written, implied, IsValue}
 use Rattle.fp_meaning.proofs.Meanings.{one_meaning}
 use Rattle.fp_consts.specs.declared.measured.Measured.{Measured}
 use Rattle.fp_consts.specs.Examined.{AreGiven, IsExact, HasValue, GivesValue, plain}

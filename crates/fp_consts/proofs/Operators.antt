@@ -1,23 +1,21 @@
 -- The value and the faults of a negation and of an operator, from those of the operands.
-use Rattle.std.proofs.Common.{◌≡◌, ℕ, zero, suc, ℤ, neg_ℤ, pos, FitsSigned, List, [], ◌∷◌, slice_get, Option, Some, None, option_map, SomeIff, refl, inl, inr, sym, ap, subst, ◌∙◌, ◌⊎◌}
+use Rattle.std.proofs.Common.{◌≡◌, ℤ, neg_ℤ, pos, FitsSigned, Option, Some, None, option_map, refl, inl, inr, sym, ap, subst, ◌∙◌}
 use Rattle.std.specs.Int.{w128}
 use Rattle.fp_base.specs.declared.place.Place.{Place}
 use Rattle.fp_base.specs.declared.refusal.Refusal.{Refusal}
-use Rattle.fp_base.specs.declared.rule.Rule.TheVariants.{Outside128Bits, ZeroDivisor, OperandKind}
 use Rattle.fp_base.specs.declared.value.Value.{Value, Int}
 use Rattle.fp_tree.specs.declared.source.Source.{Source}
 use Rattle.fp_tree.specs.declared.expression.Operator.{Operator}
 use Rattle.fp_tree.specs.declared.expression.Operator.TheVariants.{Divide}
 use Rattle.fp_tree.specs.declared.expression.Expr.{Expr}
 use Rattle.fp_tree.specs.declared.expression.Form.TheOpen as form
-use Rattle.fp_meaning.specs.Least.{IsLeast, broken_at, Either, InSome, lesser_of}
+use Rattle.fp_meaning.specs.Least.{Either}
 use Rattle.fp_meaning.specs.Names.{Path}
-use Rattle.fp_meaning.specs.Values.{Opened, opened, number_in, result_of, HasDivisor, HasResult, Val, negated, combined, IsValue}
-use Rattle.fp_meaning.specs.ConstantFaults.{BrokenHere, negation_outside, result_outside, zero_divisor, minus_kind, left_kind, right_kind, parts_of, BrokenIn, itself, within}
-use Rattle.fp_meaning.proofs.Calculus.{least_same, least_either}
+use Rattle.fp_meaning.specs.Values.{Opened, opened, number_in, result_of, HasResult, Val, negated, combined, IsValue}
+use Rattle.fp_meaning.specs.ConstantFaults.{BrokenHere, negation_outside, result_outside, zero_divisor, minus_kind, left_kind, right_kind}
 use Rattle.fp_consts.specs.declared.operand.Operand.{Operand}
 use Rattle.fp_consts.specs.declared.operand.Operand.TheVariants.{Missing, Number, Other}
-use Rattle.fp_consts.specs.Operands.{operand_with, operand_of, KindFault, NegationFault, ZeroFault, ResultFault, OperationFault, NegationIs, OperationIs}
+use Rattle.fp_consts.specs.Operands.{operand_with, operand_of, KindFault, NegationFault, OperationFault, NegationIs, OperationIs}
 
 -- a value by what an operand says of it
 with_number : (v : Value) (n : Option ℤ) (x : ℤ) → number_in v ≡ n → operand_with n ≡ Number x → number_in v ≡ Some x

@@ -1,6 +1,6 @@
 -- The leaves and levels of values.
-use Rattle.std.proofs.Common.{◌≡◌, ℕ, ◌+◌, ℤ, Bool, List, map, refl, sym, ap, ◌∙◌}
-use Rattle.fp_base.specs.declared.value.Value.{Value, fold-Value, fold-roll-Value, Int, Bool as Truth, Text, Array}
+use Rattle.std.proofs.Common.{◌≡◌, ℕ, ◌+◌, ℤ, Bool, List, map, sym, ap, ◌∙◌}
+use Rattle.fp_base.specs.declared.value.Value.{Value, fold-roll-Value, Int, Bool as Truth, Text, Array}
 use Rattle.fp_base.specs.declared.value.Value.TheOpen as value
 use Rattle.fp_base.specs.declared.value.Value.TheVariants.{rolls-Int, rolls-Text, rolls-Bool, rolls-Array}
 use Rattle.fp_meaning.specs.Values.{leaves, leaves_step, leaves_among, levels, levels_step, deepest}

@@ -1,9 +1,9 @@
 -- What is broken in an expression, from what its outermost production breaks and what its parts break.
-use Rattle.std.proofs.Common.{◌≡◌, ℕ, zero, suc, List, [], ◌∷◌, slice_get, Option, Some, None, refl, inl, inr, sym, ap, subst, ◌∙◌}
+use Rattle.std.proofs.Common.{◌≡◌, zero, suc, List, [], ◌∷◌, slice_get, Option, Some, None, refl, inl, inr, sym, subst}
 use Rattle.fp_base.specs.declared.refusal.Refusal.{Refusal}
 use Rattle.fp_tree.specs.declared.source.Source.{Source}
 use Rattle.fp_tree.specs.declared.expression.Expr.{Expr}
-use Rattle.fp_meaning.specs.Least.{IsLeast, Either, InSome, lesser_of}
+use Rattle.fp_meaning.specs.Least.{IsLeast, Either, lesser_of}
 use Rattle.fp_meaning.specs.Names.{Path}
 use Rattle.fp_meaning.specs.Values.{Opened, opened}
 use Rattle.fp_meaning.specs.ConstantFaults.{BrokenHere, parts_of, BrokenIn, itself, within}

@@ -1,12 +1,12 @@
 -- What is found of an expression, from the values of the definitions that its names mean.
 use Rattle.std.specs.Prelude.{◌≡◌, ℕ, ◌+◌, ◌-◌, ◌^◌, ◌<◌, ◌≤◌, ◌⊎◌, min, max, true, false, ◌++◌, ℤ, pos, List, [], ◌∷◌, length, map, flat_map, sum, slice_get, Option, Some, None, option_map}
 use Rattle.fp_base.specs.declared.refusal.Refusal.{Refusal}
-use Rattle.fp_base.specs.declared.value.Value.{Value, Array}
+use Rattle.fp_base.specs.declared.value.Value.{Value, Int}
 use Rattle.fp_base.specs.declared.rule.Rule.TheVariants.{ValueTooLarge}
 use Rattle.fp_base.specs.declared.place.Place.{Place}
 use Rattle.fp_tree.specs.declared.source.Source.{Source}
+use Rattle.fp_tree.specs.declared.expression.Operator.{Operator}
 use Rattle.fp_tree.specs.declared.expression.Expr.{Expr}
-use Rattle.fp_meaning.specs.declared.group.Group.TheVariants as group
 use Rattle.fp_meaning.specs.declared.names.Mention.{Mention}
 use Rattle.fp_meaning.specs.Least.{IsLeast, InSome, broken_at, lesser_of}
 use Rattle.fp_meaning.specs.Names.{Path, definitions, in_expression}
@@ -15,8 +15,10 @@ use Rattle.fp_meaning.specs.Origins.{Origin, Constant, Enumerated, NoValue, orig
 use Rattle.fp_meaning.specs.Values.{opened, number_in, constant_value, IsImplied, IsWithinSize, leaves, levels, deepest, Val, Vals, IsValue}
 use Rattle.fp_meaning.specs.ConstantFaults.{BrokenIn}
 use Rattle.fp_consts.specs.declared.measured.Measured.{Measured}
-use Rattle.fp_consts.specs.declared.examine.Found.{Found}
-use Rattle.fp_consts.specs.declared.examine.Gathered.{Gathered}
+use Rattle.fp_consts.specs.declared.found.Found.{Found}
+use Rattle.fp_consts.specs.declared.gathered.Gathered.{Gathered}
+use Rattle.fp_consts.specs.declared.gathered.Whole.{Whole}
+use Rattle.fp_consts.specs.Operands.{operand_of, KindFault, NegationFault, NegationIs, OperationFault, OperationIs}
 
 pub record IsMeasured (m : Measured) : Type 0 where
   pub of_leaves : m.leaves ≡ leaves m.value
@@ -76,14 +78,47 @@ pub record IsNext (before : Gathered) (found : Found) (after : Gathered) : Type 
   pub first : after.first ≡ lesser_of before.first found.first
   pub next : after.next ≡ found.next
 
--- a list from its items
-pub record IsListed (place : Place) (items : Gathered) (found : Found) : Type 0 where
-  pub some : items.complete ≡ true → items.leaves ≤ 65536 → items.levels < 64
-      → found.value ≡ Some (record { value = Array items.values; leaves = leaves_with items.leaves items.values; levels = items.levels + 1 })
-  pub none : (items.complete ≡ false) ⊎ ((items.leaves ≤ 65536) × (items.levels < 64) → ⊥) → found.value ≡ None
-  pub same : (items.complete ≡ false) ⊎ ((items.leaves ≤ 65536) × (items.levels < 64)) → found.first ≡ items.first
-  pub past : items.complete ≡ true → ((items.leaves ≤ 65536) × (items.levels < 64) → ⊥) → found.first ≡ lesser_of (Some (broken_at ValueTooLarge place)) items.first
-  pub next : found.next ≡ items.next
+-- a list or struct from its parts
+pub record IsSized (place : Place) (parts : Gathered) (whole : Whole) : Type 0 where
+  pub some : parts.complete ≡ true → parts.leaves ≤ 65536 → parts.levels < 64
+      → (whole.values ≡ Some parts.values) × (whole.leaves ≡ leaves_with parts.leaves parts.values) × (whole.levels ≡ parts.levels + 1)
+  pub none : (parts.complete ≡ false) ⊎ ((parts.leaves ≤ 65536) × (parts.levels < 64) → ⊥) → whole.values ≡ None
+  pub same : (parts.complete ≡ false) ⊎ ((parts.leaves ≤ 65536) × (parts.levels < 64)) → whole.first ≡ parts.first
+  pub past : parts.complete ≡ true → ((parts.leaves ≤ 65536) × (parts.levels < 64) → ⊥) → whole.first ≡ lesser_of (Some (broken_at ValueTooLarge place)) parts.first
+  pub next : whole.next ≡ parts.next
+
+abbrev pub measured_with : Value → ℕ → ℕ → Measured
+measured_with v n d = record { value = v; leaves = n; levels = d }
+
+-- the value that is made of the parts' values
+abbrev pub found_of : (List Value → Value) → Whole → Found
+found_of made s = record { value = option_map (λ vs. measured_with (made vs) s.leaves s.levels) s.values; first = s.first; next = s.next }
+
+-- a negation from its operand, which stands at `inner`
+pub record MinusFound (place inner : Place) (operand found : Found) : Type 0 where
+  pub number : Option ℤ
+  pub broken : Option Refusal
+  pub kind : Option Refusal
+  pub is_number : NegationIs (operand_of (plain operand.value)) number
+  pub is_broken : IsLeast (NegationFault place (operand_of (plain operand.value))) broken
+  pub is_kind : IsLeast (KindFault inner (operand_of (plain operand.value))) kind
+  pub value : found.value ≡ option_map (λ n. leaf_of (Int n)) number
+  pub first : found.first ≡ lesser_of (lesser_of broken kind) operand.first
+  pub next : found.next ≡ operand.next
+
+-- what an operator makes of its operands, which stand at `one` and `other`
+pub record BinaryFound (place : Place) (operator : Operator) (one other : Place) (left right found : Found) : Type 0 where
+  pub number : Option ℤ
+  pub broken : Option Refusal
+  pub left_kind : Option Refusal
+  pub right_kind : Option Refusal
+  pub is_number : OperationIs operator (operand_of (plain left.value)) (operand_of (plain right.value)) number
+  pub is_broken : IsLeast (OperationFault place operator (operand_of (plain left.value)) (operand_of (plain right.value))) broken
+  pub is_left : IsLeast (KindFault one (operand_of (plain left.value))) left_kind
+  pub is_right : IsLeast (KindFault other (operand_of (plain right.value))) right_kind
+  pub value : found.value ≡ option_map (λ n. leaf_of (Int n)) number
+  pub first : found.first ≡ lesser_of (lesser_of broken (lesser_of left_kind right_kind)) (lesser_of left.first right.first)
+  pub next : found.next ≡ right.next
 
 -- the table has the definition's value, if it has one
 pub record IsExact (source : Source) (number : ℕ) (o : Option Measured) : Type 0 where
@@ -121,3 +156,12 @@ pub record IsGathered (source : Source) (scope : Path) (es : List Expr) (from : 
   pub none : g.complete ≡ false → (vs : List Value) → Vals source scope es vs → ⊥
   pub first : IsLeast (PartsBroken source scope es) g.first
   pub next : g.next ≡ from + length (flat_map (in_expression scope) es)
+
+-- where the meanings and values of its uses are given, what is found is right
+abbrev pub Examines : List (Option Measured) → List ℕ → Expr → ℕ → Found → Type 0
+Examines table numbers e from found =
+    (source : Source) (scope : Path) → AreGiven source table numbers (in_expression scope e) from → IsFound source scope e from found
+
+abbrev pub ExaminesAll : List (Option Measured) → List ℕ → List Expr → ℕ → Gathered → Type 0
+ExaminesAll table numbers es from g =
+    (source : Source) (scope : Path) → AreGiven source table numbers (flat_map (in_expression scope) es) from → IsGathered source scope es from g

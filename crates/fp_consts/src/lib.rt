@@ -2,10 +2,33 @@
 #![tactic(auto)]
 
 mod arithmetic;
-mod examine;
+mod chains;
+mod components;
+mod counting;
+mod defining;
+mod depths;
+mod evaluating;
+mod examining;
+mod found;
+mod gathered;
+mod laws;
+mod laying;
+mod marking;
 mod measured;
 mod operand;
+mod pieces;
+mod scopes;
+mod stretch;
+mod tabling;
+mod visit;
 
-pub use examine::Found;
+pub use chains::chain_faults;
+pub use components::{Sorted, in_order};
+pub use depths::too_deep;
+pub use evaluating::{Marks, evaluate, evaluate_all};
+pub use examining::examine;
+pub use found::Found;
+pub use laws::{never_opaque, none_on_cycle, parts_are_whole, settled_is_exact};
 pub use measured::{Measured, leaf};
 pub use operand::{Operand, Outcome, kind_fault, negation, operand_in, operation};
+pub use stretch::Stretch;

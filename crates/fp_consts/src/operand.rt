@@ -1,8 +1,11 @@
 ghost use Rattle.std.specs.Prelude.{◌≡◌, Some, None};
 ghost use Rattle.fp_meaning.specs.Least.{broken_at, IsLeast};
-ghost use Rattle.fp_consts.specs.Operands.{operand_of, KindFault, NegationFault, NegationIs, OperationFault, OperationIs};
+ghost use Rattle.fp_meaning.specs.Values.{number_in};
+ghost use Rattle.fp_consts.specs.Examined.{plain};
+ghost use Rattle.fp_consts.specs.Operands.{operand_of, operand_with as operand_for, KindFault, NegationFault, NegationIs, OperationFault, OperationIs};
 
 use crate::arithmetic::{combined, divides_by_zero, negated};
+use crate::measured::Measured;
 use fp_base::{Place, Refusal, Rule, Value};
 use fp_meaning::refusal;
 use fp_tree::Operator;
@@ -26,14 +29,22 @@ pub struct Outcome {
 }
 
 /// An operand by its value.
-pub fn operand_in(value: &Option<Value>) -> Operand
-    ensures { result ≡ operand_of value.now }
+pub fn operand_in(value: &Option<Measured>) -> Operand
+    ensures { result ≡ operand_of (plain value.now) }
 {
     match value {
         None => Operand::Missing,
-        Some(Value::Int(number)) => Operand::Number(*number),
-        Some(Value::Enumerated { number, .. }) => Operand::Number(*number),
-        Some(_) => Operand::Other,
+        Some(measured) => operand_with(&measured.value),
+    }
+}
+
+fn operand_with(value: &Value) -> Operand
+    ensures { result ≡ operand_for (number_in value.now) }
+{
+    match value {
+        Value::Int(number) => Operand::Number(*number),
+        Value::Enumerated { number, .. } => Operand::Number(*number),
+        _ => Operand::Other,
     }
 }
 

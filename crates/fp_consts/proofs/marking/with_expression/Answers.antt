@@ -1,0 +1,8 @@
+use Rattle.fp_consts.proofs.Arms.{if_ok_then}
+use Rattle.fp_consts.proofs.Marked.{one_expression}
+use Rattle.fp_consts.proofs.marking.with_expression.Goals as goal
+
+pub returns : goal.returns
+returns c =
+    if_ok_then c.with_found.result _ _
+    (λ after adds. one_expression c.args.table.now c.args.meanings.now c.args.expression.now c.args.before c.in_ok-found.found after c.in_ok-found.ensures adds) c.with_found.ensures

@@ -1,0 +1,28 @@
+-- What `evaluate` answers.
+use Rattle.std.specs.Prelude.{◌≡◌, ℕ, ◌⊎◌, List, length, slice_get, Option, Some, unwrap_or}
+use Rattle.fp_base.specs.declared.refusal.Refusal.{Refusal}
+use Rattle.fp_base.specs.declared.refusal.Stop.{Stop}
+use Rattle.fp_base.specs.declared.refusal.Stop.TheVariants.{Broken, NoMemory}
+use Rattle.fp_base.specs.declared.value.Value.{Value, Opaque}
+use Rattle.fp_tree.specs.declared.source.Source.{Source}
+use Rattle.fp_meaning.specs.Least.{IsLeast}
+use Rattle.fp_meaning.specs.Origins.{Placed}
+use Rattle.fp_meaning.specs.Values.{opened, Val}
+
+-- the expression's value; where it has none, the value of an abstract type, which no production makes
+abbrev pub StandsFor : Source → Placed → Value → Type 0
+StandsFor source p v =
+    Val source p.scope (opened p.expression) v ⊎ ((v ≡ Opaque) × ((w : Value) → Val source p.scope (opened p.expression) w → ⊥))
+
+-- one value for each expression
+pub record StandFor (source : Source) (ps : List Placed) (vs : List Value) : Type 0 where
+  pub each : length vs ≡ length ps
+  pub exact : (k : ℕ) (p : Placed) (v : Value) → slice_get ps k ≡ Some p → slice_get vs k ≡ Some v → StandsFor source p v
+
+abbrev pub or_opaque : Option Value → Value
+or_opaque o = unwrap_or o Opaque
+
+-- a stop names the least of what is broken; for want of memory it may come at any time
+abbrev pub IsStop : (Refusal → Type 0) → Stop → Type 0
+IsStop broken (Broken f) = IsLeast broken (Some f)
+IsStop broken NoMemory = Unit {0}

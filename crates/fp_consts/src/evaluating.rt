@@ -1,0 +1,92 @@
+ghost use Rattle.std.specs.Prelude.{◌≡◌, map, IfErr, IfOk, OnOk};
+ghost use Rattle.fp_meaning.specs.ConstantFaults.{ConstantsBroken};
+ghost use Rattle.fp_meaning.specs.Least.{IsLeast, IsUnbroken};
+ghost use Rattle.fp_meaning.specs.Meaning.{AreMeanings};
+ghost use Rattle.fp_meaning.specs.Names.{definitions, mentions};
+ghost use Rattle.fp_meaning.specs.Origins.{expressions};
+ghost use Rattle.fp_consts.specs.Answered.{IsStop, StandFor, or_opaque};
+ghost use Rattle.fp_consts.specs.Marked.{AreValues};
+
+use crate::chains::chain_faults;
+use crate::components::in_order;
+use crate::depths::too_deep;
+use crate::laying::lay;
+use crate::marking::marked;
+use crate::pieces::pieces_of;
+use crate::tabling::table_of;
+use fp_base::{NoMemory, Refusal, Row, Stop, Value};
+use fp_meaning::lesser;
+use fp_tree::{Source, Uses, Values};
+use std::alloc::Global;
+
+/// The value of each expression of a source, in source order, where it has one, and the least of what is broken by constants.
+#[derive(Debug, Drop)]
+pub struct Marks {
+    pub at: Row<Option<Value>>,
+    pub first: Option<Refusal>,
+}
+
+/// The values of the expressions of a source, and the least rule that its constants break. Each definition is evaluated once, and each
+/// expression that gives a definition its value is examined once more.
+pub fn evaluate_all(alloc: Global, source: &Source, uses: &Uses) -> Result<Marks, NoMemory>
+    requires { AreMeanings (definitions source.now) (mentions source.now) uses.now.meanings }
+    ensures at { IfOk result (λ marks. AreValues source.now (expressions source.now) marks.at) }
+    ensures first { IfOk result (λ marks. IsLeast (ConstantsBroken source.now) marks.first) }
+{
+    let meanings = uses.meanings.as_slice();
+    let row = pieces_of(alloc, source)?;
+    let pieces = row.as_slice();
+    let limit = meanings.len();
+    let laid = lay(alloc, pieces, limit)?;
+    let spans = laid.spans.as_slice();
+    let sorted = in_order(alloc, spans, meanings)?;
+    let deep = too_deep(alloc, spans, meanings, &sorted)?;
+    let table = table_of(alloc, pieces, &laid, &sorted, meanings)?;
+    let values = table.as_slice();
+    let marking = marked(alloc, pieces, values, meanings)?;
+    let places = laid.places.as_slice();
+    let cyclic = sorted.cyclic.as_slice();
+    let flags = deep.as_slice();
+    let chains = chain_faults(places, cyclic, flags);
+    Ok(Marks {
+        at: marking.at,
+        first: lesser(marking.first, chains),
+    })
+}
+
+/// The value of each expression of a source, in source order, or the least rule that its constants break. Where an expression has no
+/// value though they break none, as a constant of an enumeration that is written in part, `Opaque` stands.
+pub fn evaluate(alloc: Global, source: &Source, uses: &Uses) -> Result<Values, Stop>
+    requires { AreMeanings (definitions source.now) (mentions source.now) uses.now.meanings }
+    ensures values { IfOk result (λ values. StandFor source.now (expressions source.now) values.at) }
+    ensures unbroken { OnOk result (IsUnbroken (ConstantsBroken source.now)) }
+    ensures stop { IfErr result (IsStop (ConstantsBroken source.now)) }
+{
+    let marks = evaluate_all(alloc, source, uses)?;
+    match marks.first {
+        None => {
+            let at = filled(alloc, marks.at)?;
+            Ok(Values { at })
+        }
+        Some(refusal) => Err(Stop::Broken(refusal)),
+    }
+}
+
+fn filled(alloc: Global, marks: Row<Option<Value>>) -> Result<Row<Value>, NoMemory>
+    ensures { IfOk result (λ row. row ≡ map or_opaque marks) }
+{
+    let mut row = Row::with_capacity(alloc, marks.len())?;
+    for mark in marks.into_vec() {
+        row.push(value_of(mark))?;
+    }
+    Ok(row)
+}
+
+fn value_of(mark: Option<Value>) -> Value
+    ensures { result ≡ or_opaque mark }
+{
+    match mark {
+        Some(value) => value,
+        None => Value::Opaque,
+    }
+}

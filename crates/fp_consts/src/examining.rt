@@ -1,0 +1,106 @@
+ghost use Rattle.std.specs.Prelude.{IfOk};
+ghost use Rattle.fp_meaning.specs.Values.{values_in};
+ghost use Rattle.fp_consts.specs.Examined.{Examines, ExaminesAll};
+
+use crate::found::{Found, binary, float, minus, simple, text, used};
+use crate::gathered::{Gathered, begun, extended, listed, sized, structured};
+use crate::measured::Measured;
+use fp_base::{NoMemory, Value};
+use fp_tree::{Assignment, Expr, Form};
+use std::alloc::Global;
+
+/// What is found of an expression, from the values of the definitions in `table`, what the uses mean, by their numbers, and the number of
+/// its first use. Each expression within is walked once.
+#[cycle(examine)]
+pub fn examine(
+    alloc: Global,
+    expression: &Expr,
+    table: &[Option<Measured>],
+    meanings: &[u32],
+    next: usize,
+) -> Result<Found, NoMemory>
+    ensures { IfOk result (Examines table.now meanings.now expression.now next) }
+{
+    let place = expression.at.first;
+    match &expression.form {
+        Form::Number(number) => Ok(simple(Value::Int(*number), next)),
+        Form::Float => Ok(float(place, next)),
+        Form::Text(words) => text(alloc, words, next),
+        Form::Truth(truth) => Ok(simple(Value::Bool(*truth), next)),
+        Form::Use(_) => used(alloc, table, meanings, next),
+        Form::Minus(operand) => {
+            let operand = operand.get();
+            let within = examine(alloc, operand, table, meanings, next)?;
+            Ok(minus(place, operand.at.first, within))
+        }
+        Form::Binary {
+            operator,
+            left,
+            right,
+        } => {
+            let left = left.get();
+            let right = right.get();
+            let one = examine(alloc, left, table, meanings, next)?;
+            let other = examine(alloc, right, table, meanings, one.next)?;
+            Ok(binary(place, *operator, left.at.first, right.at.first, one, other))
+        }
+        Form::Array(items) => {
+            let gathered = gather(alloc, items.as_slice(), table, meanings, next)?;
+            Ok(listed(sized(place, gathered)))
+        }
+        Form::Struct(members) => {
+            let members = members.as_slice();
+            let gathered = gather_members(alloc, members, table, meanings, next)?;
+            structured(alloc, members, sized(place, gathered))
+        }
+    }
+}
+
+#[cycle(examine)]
+fn gather(
+    alloc: Global,
+    items: &[Expr],
+    table: &[Option<Measured>],
+    meanings: &[u32],
+    next: usize,
+) -> Result<Gathered, NoMemory>
+    ensures { IfOk result (ExaminesAll table.now meanings.now items.now next) }
+{
+    let mut gathered = begun(alloc, next);
+    for item in items {
+        let found = examine(alloc, item, table, meanings, gathered.next)?;
+        gathered = extended(alloc, gathered, found)?;
+    }
+    Ok(gathered)
+}
+
+#[cycle(examine)]
+fn gather_members(
+    alloc: Global,
+    members: &[Assignment],
+    table: &[Option<Measured>],
+    meanings: &[u32],
+    next: usize,
+) -> Result<Gathered, NoMemory>
+    ensures { IfOk result (ExaminesAll table.now meanings.now (values_in members.now) next) }
+{
+    let mut gathered = begun(alloc, next);
+    for member in members {
+        let found = examine_member(alloc, member, table, meanings, gathered.next)?;
+        gathered = extended(alloc, gathered, found)?;
+    }
+    Ok(gathered)
+}
+
+#[cycle(examine)]
+fn examine_member(
+    alloc: Global,
+    member: &Assignment,
+    table: &[Option<Measured>],
+    meanings: &[u32],
+    next: usize,
+) -> Result<Found, NoMemory>
+    ensures { IfOk result (Examines table.now meanings.now member.now.value next) }
+{
+    examine(alloc, &member.value, table, meanings, next)
+}

@@ -1,0 +1,84 @@
+ghost use Rattle.std.specs.Prelude.{◌≡◌, ◌++◌, [], ◌∷◌, flat_map, IfOk};
+ghost use Rattle.fp_consts.specs.Pieces.{places_in};
+ghost use Rattle.fp_consts.specs.Laid.{spans_from, spots_from, IsLaidWith};
+
+use crate::counting::past_piece;
+use crate::pieces::Piece;
+use crate::stretch::Stretch;
+use fp_base::{NoMemory, Place, Row};
+use std::alloc::Global;
+
+/// For each definition of a source that is laid out flat: where its uses stand among all uses, which part it is, and where its name
+/// stands; and the number of the use behind.
+#[derive(Debug, Drop)]
+pub struct Laid {
+    pub spans: Row<Stretch>,
+    pub spots: Row<usize>,
+    pub places: Row<Place>,
+    pub next: usize,
+}
+
+pub fn lay(alloc: Global, pieces: &[Piece], limit: usize) -> Result<Laid, NoMemory>
+    ensures spans { IfOk result (λ laid. laid.spans ≡ spans_from limit 0 pieces.now) }
+    ensures spots { IfOk result (λ laid. laid.spots ≡ spots_from 0 pieces.now) }
+    ensures places { IfOk result (λ laid. laid.places ≡ flat_map places_in pieces.now) }
+{
+    let mut laid = nothing_laid(alloc);
+    for (index, piece) in pieces.iter().enumerate() {
+        laid = with_piece(laid, index, piece, limit)?;
+    }
+    Ok(laid)
+}
+
+fn nothing_laid(alloc: Global) -> Laid
+    ensures { result ≡ record { spans = []; spots = []; places = []; next = 0 } }
+{
+    Laid {
+        spans: Row::new(alloc),
+        spots: Row::new(alloc),
+        places: Row::new(alloc),
+        next: 0,
+    }
+}
+
+fn with_piece(before: Laid, index: usize, piece: &Piece, limit: usize) -> Result<Laid, NoMemory>
+    ensures { IfOk result (IsLaidWith limit index piece.now before) }
+{
+    let end = past_piece(piece, before.next, limit);
+    match piece {
+        Piece::Kind(_) => Ok(moved(before, end)),
+        Piece::Loose(_) => Ok(moved(before, end)),
+        Piece::Defined { place, .. } => with_definition(before, index, *place, end),
+    }
+}
+
+fn moved(before: Laid, end: usize) -> Laid
+    ensures { result ≡ record { spans = before.spans; spots = before.spots; places = before.places; next = end } }
+{
+    Laid {
+        spans: before.spans,
+        spots: before.spots,
+        places: before.places,
+        next: end,
+    }
+}
+
+fn with_definition(before: Laid, index: usize, place: Place, end: usize) -> Result<Laid, NoMemory>
+    ensures { IfOk result (λ laid. laid ≡ record { spans = before.spans ++ (record { first = before.next; end = end }) ∷ []; spots = before.spots ++ index ∷ []; places = before.places ++ place ∷ []; next = end }) }
+{
+    let Laid {
+        mut spans,
+        mut spots,
+        mut places,
+        next,
+    } = before;
+    spans.push(Stretch { first: next, end })?;
+    spots.push(index)?;
+    places.push(place)?;
+    Ok(Laid {
+        spans,
+        spots,
+        places,
+        next: end,
+    })
+}

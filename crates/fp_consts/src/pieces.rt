@@ -1,0 +1,421 @@
+ghost use Rattle.std.specs.Prelude.{◌≡◌, ◌++◌, ◌∷◌, [], flat_map, IfOk, OnOk};
+ghost use Rattle.std.specs.List.{list_all};
+ghost use Rattle.fp_tree.specs.declared.member.Unit.{Unit as File};
+ghost use Rattle.fp_tree.specs.declared.part.EnumConst.{EnumConst as Counted};
+ghost use Rattle.fp_meaning.specs.Names.{in_member, in_members, in_optional, in_source};
+ghost use Rattle.fp_consts.specs.Pieces.{bare, constant_piece, constants_from, defined, field_pieces, formal_pieces, has_no_value, kind_piece, located, loose, numbered, pieces_in, type_form_pieces, type_pieces};
+
+use crate::scopes::{behind, copy_scope, texts_of, with_dots};
+use fp_base::{NoMemory, Place, Row, Text};
+use fp_meaning::{Group, Mention};
+use fp_tree::{
+    Array, Def, Enum, EnumConst, Expr, Field, Formal, Member, Module, Name, Port, Qual, Source,
+    Struct, TypeForm, TypeName, Unit,
+};
+use std::alloc::Global;
+
+/// An expression in the scope in which its names are looked up.
+#[derive(Debug, Drop)]
+pub struct Located {
+    pub scope: Row<Text>,
+    pub expression: Expr,
+}
+
+/// What gives an enumerated constant its number.
+#[derive(Debug, Drop)]
+pub enum Numbered {
+    Written(Located),
+    /// Its position, where its enumeration has no value written.
+    Position(usize),
+    Missing,
+}
+
+/// What gives a definition its value.
+#[derive(Debug, Drop)]
+pub enum Basis {
+    Nothing,
+    Constant(Located),
+    /// The constant `constant` of the enumeration with the qualified name `of`.
+    Enumerated {
+        of: Text,
+        constant: Text,
+        number: Numbered,
+    },
+}
+
+/// A part of a source, where the source is laid out flat: what is a use of a name, a definition, or an expression that gives no
+/// definition its value.
+#[derive(Debug, Drop)]
+pub enum Piece {
+    Kind(Mention),
+    Loose(Located),
+    Defined { place: Place, basis: Basis },
+}
+
+/// The parts of a source, in source order.
+pub fn pieces_of(alloc: Global, source: &Source) -> Result<Row<Piece>, NoMemory>
+    ensures { IfOk result (λ row. row ≡ in_source pieces_in source.now) }
+{
+    let mut found = Row::new(alloc);
+    let root = Row::new(alloc);
+    of_units(alloc, source.units.as_slice(), &root, &mut found)?;
+    Ok(found)
+}
+
+fn of_units(
+    alloc: Global,
+    units: &[Unit],
+    root: &Row<Text>,
+    found: &mut Row<Piece>,
+) -> Result<(), NoMemory>
+    ensures { OnOk result (found.new ≡ found.old ++ flat_map (λ (u : File). in_members pieces_in root.now u.members) units.now) }
+{
+    for unit in units {
+        of_members(alloc, unit.members.as_slice(), root, found)?;
+    }
+    Ok(())
+}
+
+#[cycle(pieces)]
+fn of_members(
+    alloc: Global,
+    members: &[Member],
+    scope: &Row<Text>,
+    found: &mut Row<Piece>,
+) -> Result<(), NoMemory>
+    ensures { OnOk result (found.new ≡ found.old ++ in_members pieces_in scope.now members.now) }
+{
+    for member in members {
+        of_member(alloc, member, scope, found)?;
+    }
+    Ok(())
+}
+
+#[cycle(pieces)]
+fn of_member(
+    alloc: Global,
+    member: &Member,
+    scope: &Row<Text>,
+    found: &mut Row<Piece>,
+) -> Result<(), NoMemory>
+    ensures { OnOk result (found.new ≡ found.old ++ in_member pieces_in scope.now member.now) }
+{
+    match member {
+        Member::Module(module) => of_module(alloc, module, scope, found),
+        Member::Def(definition) => of_definition(alloc, definition, scope, found),
+        Member::Include(_) => Ok(()),
+        Member::Locate(_) => Ok(()),
+    }
+}
+
+#[cycle(pieces)]
+fn of_module(
+    alloc: Global,
+    opened: &Module,
+    scope: &Row<Text>,
+    found: &mut Row<Piece>,
+) -> Result<(), NoMemory>
+    ensures { OnOk result (found.new ≡ found.old ++ in_members pieces_in (scope.now ++ opened.now.name.text ∷ []) opened.now.members) }
+{
+    let within = behind(alloc, scope, &opened.name)?;
+    of_members(alloc, opened.members.as_slice(), &within, found)
+}
+
+fn of_definition(
+    alloc: Global,
+    definition: &Def,
+    scope: &Row<Text>,
+    found: &mut Row<Piece>,
+) -> Result<(), NoMemory>
+    ensures { OnOk result (found.new ≡ found.old ++ pieces_in scope.now definition.now) }
+{
+    match definition {
+        Def::Constant(constant) => {
+            let value = located_at(alloc, scope, &constant.value)?;
+            define(&constant.name, Basis::Constant(value), found)
+        }
+        Def::Abstract(kind) => define(&kind.name, Basis::Nothing, found),
+        Def::Alias(kind) => {
+            define(&kind.name, Basis::Nothing, found)?;
+            of_type(alloc, &kind.target, scope, found)
+        }
+        Def::Array(kind) => of_array(alloc, kind, scope, found),
+        Def::Struct(kind) => of_struct(alloc, kind, scope, found),
+        Def::Enum(kind) => of_enum(alloc, kind, scope, found),
+        Def::Port(port) => of_port(alloc, port, scope, found),
+    }
+}
+
+fn define(name: &Name, basis: Basis, found: &mut Row<Piece>) -> Result<(), NoMemory>
+    ensures { OnOk result (found.new ≡ found.old ++ defined name.now basis ∷ []) }
+{
+    found.push(Piece::Defined {
+        place: name.at.first,
+        basis,
+    })
+}
+
+fn located_at(alloc: Global, scope: &Row<Text>, expression: &Expr) -> Result<Located, NoMemory>
+    ensures { IfOk result (λ found. found ≡ located scope.now expression.now) }
+{
+    let scope = copy_scope(alloc, scope)?;
+    let expression = expression.copy(alloc)?;
+    Ok(Located { scope, expression })
+}
+
+/// Adds an expression that gives no definition its value.
+fn of_expression(
+    alloc: Global,
+    expression: &Expr,
+    scope: &Row<Text>,
+    found: &mut Row<Piece>,
+) -> Result<(), NoMemory>
+    ensures { OnOk result (found.new ≡ found.old ++ loose scope.now expression.now) }
+{
+    let value = located_at(alloc, scope, expression)?;
+    found.push(Piece::Loose(value))
+}
+
+fn of_optional(
+    alloc: Global,
+    expression: &Option<Expr>,
+    scope: &Row<Text>,
+    found: &mut Row<Piece>,
+) -> Result<(), NoMemory>
+    ensures { OnOk result (found.new ≡ found.old ++ in_optional (loose scope.now) expression.now) }
+{
+    match expression {
+        Some(expression) => of_expression(alloc, expression, scope, found),
+        None => Ok(()),
+    }
+}
+
+fn of_array(
+    alloc: Global,
+    kind: &Array,
+    scope: &Row<Text>,
+    found: &mut Row<Piece>,
+) -> Result<(), NoMemory>
+    ensures { OnOk result (found.new ≡ found.old ++ bare kind.now.name ∷ (loose scope.now kind.now.size ++ type_pieces scope.now kind.now.element ++ in_optional (loose scope.now) kind.now.default)) }
+{
+    define(&kind.name, Basis::Nothing, found)?;
+    of_expression(alloc, &kind.size, scope, found)?;
+    of_type(alloc, &kind.element, scope, found)?;
+    of_optional(alloc, &kind.default, scope, found)
+}
+
+fn of_struct(
+    alloc: Global,
+    kind: &Struct,
+    scope: &Row<Text>,
+    found: &mut Row<Piece>,
+) -> Result<(), NoMemory>
+    ensures { OnOk result (found.new ≡ found.old ++ bare kind.now.name ∷ (flat_map (field_pieces scope.now) kind.now.fields ++ in_optional (loose scope.now) kind.now.default)) }
+{
+    define(&kind.name, Basis::Nothing, found)?;
+    of_fields(alloc, kind.fields.as_slice(), scope, found)?;
+    of_optional(alloc, &kind.default, scope, found)
+}
+
+fn of_fields(
+    alloc: Global,
+    fields: &[Field],
+    scope: &Row<Text>,
+    found: &mut Row<Piece>,
+) -> Result<(), NoMemory>
+    ensures { OnOk result (found.new ≡ found.old ++ flat_map (field_pieces scope.now) fields.now) }
+{
+    for field in fields {
+        of_field(alloc, field, scope, found)?;
+    }
+    Ok(())
+}
+
+fn of_field(
+    alloc: Global,
+    field: &Field,
+    scope: &Row<Text>,
+    found: &mut Row<Piece>,
+) -> Result<(), NoMemory>
+    ensures { OnOk result (found.new ≡ found.old ++ field_pieces scope.now field.now) }
+{
+    of_optional(alloc, &field.size, scope, found)?;
+    of_type(alloc, &field.of, scope, found)
+}
+
+fn of_enum(
+    alloc: Global,
+    kind: &Enum,
+    scope: &Row<Text>,
+    found: &mut Row<Piece>,
+) -> Result<(), NoMemory>
+    ensures { OnOk result (found.new ≡ found.old ++ bare kind.now.name ∷ (in_optional (type_pieces scope.now) kind.now.repr ++ constants_from scope.now kind.now 0 kind.now.constants ++ in_optional (loose scope.now) kind.now.default)) }
+{
+    define(&kind.name, Basis::Nothing, found)?;
+    of_optional_type(alloc, &kind.repr, scope, found)?;
+    of_constants(alloc, kind, scope, found)?;
+    of_optional(alloc, &kind.default, scope, found)
+}
+
+fn of_constants(
+    alloc: Global,
+    kind: &Enum,
+    scope: &Row<Text>,
+    found: &mut Row<Piece>,
+) -> Result<(), NoMemory>
+    ensures { OnOk result (found.new ≡ found.old ++ constants_from scope.now kind.now 0 kind.now.constants) }
+{
+    let names = behind(alloc, scope, &kind.name)?;
+    let of = with_dots(alloc, names.as_slice())?;
+    let constants = kind.constants.as_slice();
+    let implied = none_written(constants);
+    for (position, constant) in constants.iter().enumerate() {
+        of_constant(alloc, &of, implied, position, constant, scope, found)?;
+    }
+    Ok(())
+}
+
+fn none_written(constants: &[EnumConst]) -> bool
+    ensures { result ≡ list_all has_no_value constants.now }
+{
+    constants.iter().all(|constant| constant.value.is_none())
+}
+
+fn of_constant(
+    alloc: Global,
+    of: &Text,
+    implied: bool,
+    position: usize,
+    constant: &EnumConst,
+    scope: &Row<Text>,
+    found: &mut Row<Piece>,
+) -> Result<(), NoMemory>
+    ensures { OnOk result (found.new ≡ found.old ++ constant_piece of.now scope.now implied position constant.now ∷ []) }
+{
+    let of = of.copy(alloc)?;
+    let name = constant.name.text.copy(alloc)?;
+    let number = number_of(alloc, implied, position, &constant.value, scope)?;
+    let basis = Basis::Enumerated {
+        of,
+        constant: name,
+        number,
+    };
+    define(&constant.name, basis, found)
+}
+
+fn number_of(
+    alloc: Global,
+    implied: bool,
+    position: usize,
+    value: &Option<Expr>,
+    scope: &Row<Text>,
+) -> Result<Numbered, NoMemory>
+    ensures { IfOk result (λ number. number ≡ numbered scope.now implied position value.now) }
+{
+    match value {
+        Some(expression) => Ok(Numbered::Written(located_at(alloc, scope, expression)?)),
+        None => {
+            if implied {
+                Ok(Numbered::Position(position))
+            } else {
+                Ok(Numbered::Missing)
+            }
+        }
+    }
+}
+
+fn of_port(
+    alloc: Global,
+    port: &Port,
+    scope: &Row<Text>,
+    found: &mut Row<Piece>,
+) -> Result<(), NoMemory>
+    ensures { OnOk result (found.new ≡ found.old ++ bare port.now.name ∷ (flat_map (formal_pieces scope.now) port.now.formals ++ in_optional (type_pieces scope.now) port.now.result)) }
+{
+    define(&port.name, Basis::Nothing, found)?;
+    of_formals(alloc, port.formals.as_slice(), scope, found)?;
+    of_optional_type(alloc, &port.result, scope, found)
+}
+
+fn of_formals(
+    alloc: Global,
+    formals: &[Formal],
+    scope: &Row<Text>,
+    found: &mut Row<Piece>,
+) -> Result<(), NoMemory>
+    ensures { OnOk result (found.new ≡ found.old ++ flat_map (formal_pieces scope.now) formals.now) }
+{
+    for formal in formals {
+        of_type(alloc, &formal.of, scope, found)?;
+    }
+    Ok(())
+}
+
+fn of_type(
+    alloc: Global,
+    name: &TypeName,
+    scope: &Row<Text>,
+    found: &mut Row<Piece>,
+) -> Result<(), NoMemory>
+    ensures { OnOk result (found.new ≡ found.old ++ type_pieces scope.now name.now) }
+{
+    of_type_form(alloc, &name.form, scope, found)
+}
+
+fn of_type_form(
+    alloc: Global,
+    form: &TypeForm,
+    scope: &Row<Text>,
+    found: &mut Row<Piece>,
+) -> Result<(), NoMemory>
+    ensures { OnOk result (found.new ≡ found.old ++ type_form_pieces scope.now form.now) }
+{
+    match form {
+        TypeForm::Text { size } => of_optional(alloc, size, scope, found),
+        TypeForm::Use(name) => of_kind(alloc, name, scope, found),
+        TypeForm::U8 => Ok(()),
+        TypeForm::U16 => Ok(()),
+        TypeForm::U32 => Ok(()),
+        TypeForm::U64 => Ok(()),
+        TypeForm::I8 => Ok(()),
+        TypeForm::I16 => Ok(()),
+        TypeForm::I32 => Ok(()),
+        TypeForm::I64 => Ok(()),
+        TypeForm::F32 => Ok(()),
+        TypeForm::F64 => Ok(()),
+        TypeForm::Bool => Ok(()),
+    }
+}
+
+/// Adds the use of a type's name.
+fn of_kind(
+    alloc: Global,
+    name: &Qual,
+    scope: &Row<Text>,
+    found: &mut Row<Piece>,
+) -> Result<(), NoMemory>
+    ensures { OnOk result (found.new ≡ found.old ++ kind_piece scope.now name.now ∷ []) }
+{
+    let scope = copy_scope(alloc, scope)?;
+    let texts = texts_of(alloc, name.names.as_slice())?;
+    found.push(Piece::Kind(Mention {
+        group: Group::Kind,
+        scope,
+        name: texts,
+        place: name.at.first,
+    }))
+}
+
+fn of_optional_type(
+    alloc: Global,
+    name: &Option<TypeName>,
+    scope: &Row<Text>,
+    found: &mut Row<Piece>,
+) -> Result<(), NoMemory>
+    ensures { OnOk result (found.new ≡ found.old ++ in_optional (type_pieces scope.now) name.now) }
+{
+    match name {
+        Some(name) => of_type(alloc, name, scope, found),
+        None => Ok(()),
+    }
+}

@@ -1,0 +1,86 @@
+ghost use Rattle.std.specs.Prelude.{◌≡◌, ◌<◌, IfOk, length, set};
+ghost use Rattle.fp_tree.specs.declared.source.Source.{Source as Whole};
+ghost use Rattle.fp_consts.specs.Graph.{IsSorted};
+ghost use Rattle.fp_consts.specs.Tabled.{AreExact, IsDefined, IsLaidOut};
+
+use crate::components::Sorted;
+use crate::defining::settled;
+use crate::depths::is_flagged;
+use crate::laying::Laid;
+use crate::measured::Measured;
+use crate::pieces::Piece;
+use fp_base::NoMemory;
+use std::alloc::Global;
+
+/// The values of the definitions of a source, by their numbers, where they have some. Each is evaluated once, behind those that it uses.
+pub fn table_of(
+    alloc: Global,
+    pieces: &[Piece],
+    laid: &Laid,
+    sorted: &Sorted,
+    meanings: &[u32],
+) -> Result<Vec<Option<Measured>>, NoMemory>
+    requires { IsSorted laid.now.spans meanings.now sorted.now.order.items sorted.now.cyclic.items }
+    ensures { IfOk result (λ table. (source : Whole) → IsLaidOut source pieces.now laid.now.spans laid.now.spots meanings.now → AreExact source table.items) }
+{
+    let mut table = no_values(alloc, laid.spans.len())?;
+    let order = sorted.order.as_slice();
+    for number in order {
+        let value = value_of(
+            alloc,
+            *number,
+            pieces,
+            laid,
+            sorted,
+            table.as_slice(),
+            meanings,
+        )?;
+        put(&mut table, *number, value);
+    }
+    Ok(table)
+}
+
+fn no_values(alloc: Global, count: usize) -> Result<Vec<Option<Measured>>, NoMemory>
+    ensures { IfOk result (λ table. length table.items ≡ count) }
+{
+    let mut table = Vec::with_capacity(alloc, count)?;
+    for _at in 0..count {
+        table.push(None)?;
+    }
+    Ok(table)
+}
+
+fn put(table: &mut Vec<Option<Measured>>, number: usize, value: Option<Measured>)
+    requires { number < length table.old.items }
+    ensures { table.new.items ≡ set table.old.items number value }
+{
+    table[number] = value;
+}
+
+/// The value of a definition, from those of the definitions before it.
+fn value_of(
+    alloc: Global,
+    number: usize,
+    pieces: &[Piece],
+    laid: &Laid,
+    sorted: &Sorted,
+    table: &[Option<Measured>],
+    meanings: &[u32],
+) -> Result<Option<Measured>, NoMemory>
+    requires { number < length sorted.now.cyclic.items }
+    ensures { IfOk result (IsDefined pieces.now laid.now.spans laid.now.spots meanings.now sorted.now.cyclic.items table.now number) }
+{
+    if is_flagged(sorted.cyclic.as_slice(), number) {
+        return Ok(None);
+    }
+    let Some(spot) = laid.spots.get(number) else {
+        return Ok(None);
+    };
+    let Some(span) = laid.spans.get(number) else {
+        return Ok(None);
+    };
+    match pieces.get(*spot) {
+        Some(Piece::Defined { basis, .. }) => settled(alloc, basis, table, meanings, span.first),
+        _ => Ok(None),
+    }
+}
