@@ -1,40 +1,37 @@
 -- When each status comes, from what a call writes.
-use Rattle.std.proofs.Common.{◌≡◌, ◌<◌, ◌⊎◌, ℕ, List, [], ◌∷◌, Option, Some, None, codes, inl, inr, refl, sym, ◌∙◌, ap, subst, arith, drop, take-append-drop}
-use Rattle.fp_base.specs.declared.place.Place.{Place}
-use Rattle.fp_base.specs.declared.rule.Rule.{Rule}
-use Rattle.fp_lexer.proofs.Unique.{one_lexing}
-use Rattle.fp_lexer.specs.declared.token.Token.{Token}
+use Rattle.std.proofs.Common.{◌≡◌, ◌<◌, ◌⊎◌, ℕ, List, [], ◌∷◌, ◌++◌, Option, Some, codes, inl, inr, refl, sym, ◌∙◌, subst, arith, drop, take, take-append-drop}
+use Rattle.fp_base.specs.declared.refusal.Refusal.{Refusal}
+use Rattle.fp_tree.specs.declared.member.Member.{Member}
+use Rattle.fp_tree.specs.declared.source.Source.{Source}
+use Rattle.fp_meaning.specs.Least.{IsUnbroken}
 use Rattle.fp_outside.specs.Counts.{Rose, last_count}
-use Rattle.fp_outside.specs.Files.{bytes_of}
 use Rattle.fp_outside.specs.declared.files.HeldFile.{HeldFile}
-use Rattle.fp_main.proofs.ConstantsBroken.{not_spelled}
-use Rattle.fp_main.specs.constants.Broken.{BrokenG1}
+use Rattle.fp_main.proofs.Absent.{gone_not_stopped}
 use Rattle.fp_main.specs.Causes.{EndsAs, Asked, Sound, SoundSink, UsageComes, ReadFaultComes, NoFileComes, WriteFaultComes, RefusedComes, DoneComes}
 use Rattle.fp_main.specs.Delivery.{SinkRun, Delivered}
-use Rattle.fp_main.specs.Output.{FilesRun, Holds, IsDue, DueListing, DueRefused, DueUsage, DueReadFault, DueNoFile, Output}
-use Rattle.fp_main.specs.Sources.{Lists, Breaks}
-use Rattle.fp_main.specs.Words.{IsWrong, check_words}
+use Rattle.fp_main.specs.FilesRun.{FilesRun}
+use Rattle.fp_main.specs.Output.{IsDue, DueListing, DueRefused, DueUsage, DueReadFault, DueNoFile, IsRead, Output}
+use Rattle.fp_main.specs.Words.{IsCheck, IsForm, IsWrong}
+use Rattle.fp_main.specs.gathering.Gathered.{SourceBroken, source_of}
+use Rattle.fp_main.specs.gathering.Walks.{NoFile as IsMissing, NoReadFault, Outcome, Stops, Walked, WalksFiles, Went, nothing_read}
 use Rattle.fp_main.specs.declared.status.Status.{Status}
 use Rattle.fp_main.specs.declared.status.Status.TheVariants.{Done, Refused, Usage, ReadFault, WriteFault, NoFile, Stuck, Spent, Asserted, NoMemory, NoTopology}
 
 -- ---- what excludes what
 
--- the words `check FILE` are not wrong
-form_not_wrong : (name : List ℕ) (word : ℕ) → IsWrong (check_words name) word → ⊥
-form_not_wrong name word wrong =
+-- the words `check FILE..` are not wrong
+check_not_wrong : (words names : List (List ℕ)) (word : ℕ) → IsCheck words names → IsWrong words word → ⊥
+check_not_wrong words names word asked wrong =
     elim wrong.ends [
-      | inl e ↦ e.1 (drop word (check_words name), (name, take-append-drop word (check_words name)))
-      | inr e ↦ e.1 (name, refl)
+      | inl e ↦ e.1 (drop word words, subst IsForm (sym (take-append-drop word words)) (names, asked))
+      | inr e ↦ e.1 (names, asked)
     ]
 
-asked_not_wrong : (words : List (List ℕ)) (name : List ℕ) (word : ℕ) → words ≡ check_words name → IsWrong words word → ⊥
-asked_not_wrong words name word e wrong = form_not_wrong name word (subst (λ (ws : List (List ℕ)). IsWrong ws word) e wrong)
-
-same_name : (words : List (List ℕ)) (a b : List ℕ) → words ≡ check_words a → words ≡ check_words b → a ≡ b
-same_name words a b e f = names a b (sym e ∙ f)
+same_names : (words a b : List (List ℕ)) → IsCheck words a → IsCheck words b → a ≡ b
+same_names words a b x y = names a b (sym x.words_are ∙ y.words_are)
   where
-    names : (x y : List ℕ) → codes "check" ∷ x ∷ [] ≡ codes "check" ∷ y ∷ [] → x ≡ y
-    names x y h = cc
+    names : (xs ys : List (List ℕ)) → codes "check" ∷ xs ≡ codes "check" ∷ ys → xs ≡ ys
+    names xs ys h = cc
 
 -- a count that stayed below its last value didn't rise
 stayed : (before now : ℕ) → now ≡ before → before < last_count → Rose before now → ⊥
@@ -44,24 +41,24 @@ stayed before now e below (inr last) = omega (arith, last.0)
 rose_not_stayed : (before now : ℕ) → before < now → now ≡ before → ⊥
 rose_not_stayed before now rose e = omega arith
 
--- what is held under a name is one thing
-holds_as : (files : FilesRun) (held : List HeldFile) (name : List ℕ) (a b : Option (List ℕ)) → files.told ≡ Some held → bytes_of held name ≡ a → Holds files name b → a ≡ b
-holds_as files held name a b told is holds = sym is ∙ told_holds files.told held name b told holds
-  where
-    told_holds : (told : Option (List HeldFile)) (held : List HeldFile) (name : List ℕ) (b : Option (List ℕ)) → told ≡ Some held
-        → Rattle.std.specs.Option.IfSome told (λ h. bytes_of h name ≡ b) → bytes_of held name ≡ b
-    told_holds None held name b e h = cc
-    told_holds (Some other) held name b e h = subst (λ (hs : List HeldFile). bytes_of hs name ≡ b) (same_held other held e) h
-      where
-        same_held : (x y : List HeldFile) → Some x ≡ Some y → x ≡ y
-        same_held x y e = cc
+-- files that tell what they hold are read in one way
+abbrev pub ReadOneWay : Type 0
+ReadOneWay =
+    (told : Option (List HeldFile)) (held : List HeldFile) (names : List (List ℕ)) (before : Walked) (one other : Outcome (List (List Member)))
+    → told ≡ Some held → WalksFiles told names before one → WalksFiles told names before other → NoReadFault one → NoReadFault other → one ≡ other
 
--- a text that is listed breaks no rule
-pub lists_not_breaks : (text listing : List ℕ) (rule : Rule) (place : Place) → Lists text listing → Breaks text rule place → ⊥
-lists_not_breaks text listing rule place l (inl first) = l.unbroken rule place first.broken
-lists_not_breaks text listing rule place l (inr grammar) =
-    not_spelled l.tokens place l.source
-    (subst (λ (ts : List Token). BrokenG1 ts place) (one_lexing 0 text _ _ grammar.1.lexed l.lexed) grammar.1.broken) l.spelled
+-- what the words ask for ends as the files tell
+module _ (one_way : ReadOneWay) (words : List (List ℕ)) (files : FilesRun) (o : Outcome (List (List Member))) (asked : Asked words files o) where
+  agrees : (names : List (List ℕ)) (p : Outcome (List (List Member))) → IsCheck words names → WalksFiles files.told names nothing_read p → NoReadFault o → NoReadFault p → o ≡ p
+  agrees names p check walks =
+      one_way (Some asked.held) asked.held asked.names nothing_read o p refl asked.walks
+      (subst (λ (ns : List (List ℕ)). WalksFiles (Some asked.held) ns nothing_read p) (same_names words names asked.names check asked.asked)
+      (subst (λ (told : Option (List HeldFile)). WalksFiles told names nothing_read p) asked.told walks))
+
+-- what holds of what was read and of its source
+abbrev Holding : (Walked → Source → Type 0) → Outcome (List (List Member)) → Type 0
+Holding P (Went walked units) = P walked (source_of walked units)
+Holding P (Stops stopped) = ⊥
 
 -- ---- what is due
 
@@ -92,7 +89,7 @@ ends_as wanted due output line out diag status (inl whole) (inr e) = inr (inr (w
 ends_as wanted due output line out diag status (inr (inl failed)) e = inr (inl failed.ends)
 ends_as wanted due output line out diag status (inr (inr failed)) e = inr (inl failed.ends)
 
-module _ (words : List (List ℕ)) (files : FilesRun) (out diag : SinkRun) (status : Status) (o : Output words files out diag status) where
+module _ (one_way : ReadOneWay) (words : List (List ℕ)) (files : FilesRun) (out diag : SinkRun) (status : Status) (o : Output words files out diag status) where
   ends : (wanted : Status)
       → (DueListing words files o.output o.line → IsEither wanted Done) → (DueRefused words files o.output o.line → IsEither wanted Refused)
       → (DueUsage words files o.output o.line → IsEither wanted Usage) → (DueReadFault words files o.output o.line → IsEither wanted ReadFault)
@@ -104,75 +101,71 @@ module _ (words : List (List ℕ)) (files : FilesRun) (out diag : SinkRun) (stat
   pub usage_comes : UsageComes words status
   usage_comes word wrong =
       ends Usage
-      (λ d. absurd (asked_not_wrong words d.name word d.read.asked wrong))
-      (λ d. absurd (asked_not_wrong words d.name word d.read.asked wrong))
+      (λ d. absurd (check_not_wrong words d.read.names word d.read.asked wrong))
+      (λ d. absurd (check_not_wrong words d.read.names word d.read.asked wrong))
       (λ d. inl refl)
-      (λ d. absurd (asked_not_wrong words d.name word d.asked wrong))
-      (λ d. absurd (asked_not_wrong words d.name word d.asked wrong))
+      (λ d. absurd (check_not_wrong words d.names word d.asked wrong))
+      (λ d. absurd (check_not_wrong words d.names word d.asked wrong))
 
   pub read_fault_comes : ReadFaultComes files status
   read_fault_comes rose =
       ends ReadFault
-      (λ d. absurd (rose_not_stayed _ _ rose d.read.sound))
-      (λ d. absurd (rose_not_stayed _ _ rose d.read.sound))
+      (λ d. absurd (rose_not_stayed _ _ rose d.read.read.sound))
+      (λ d. absurd (rose_not_stayed _ _ rose d.read.read.sound))
       (λ d. absurd (rose_not_stayed _ _ rose d.unread.0))
       (λ d. inl refl)
-      (λ d. absurd (rose_not_stayed _ _ rose d.sound))
+      (λ d. absurd (rose_not_stayed _ _ rose d.absent.sound))
 
   no_file_missed : files.misses_before < files.misses_after → EndsAs NoFile status
   no_file_missed rose =
       ends NoFile
-      (λ d. absurd (rose_not_stayed _ _ rose d.read.found))
-      (λ d. absurd (rose_not_stayed _ _ rose d.read.found))
+      (λ d. absurd (rose_not_stayed _ _ rose d.read.read.found))
+      (λ d. absurd (rose_not_stayed _ _ rose d.read.read.found))
       (λ d. absurd (rose_not_stayed _ _ rose d.unread.1))
-      (λ d. absurd (rose_not_stayed _ _ rose d.found))
+      (λ d. absurd (rose_not_stayed _ _ rose d.unread.found))
       (λ d. inl refl)
 
-  -- what the files hold is what was read
-  read_as : (name : List ℕ) (bytes : Option (List ℕ)) (other : List ℕ) (read : Option (List ℕ)) → Asked words files name bytes → words ≡ check_words other → Holds files other read → bytes ≡ read
-  read_as name bytes other read asked e holds =
-      holds_as files asked.held other bytes read asked.told (ap (λ n. bytes_of asked.held n) (same_name words other name e asked.words_ask) ∙ asked.holds) holds
+  -- what was read is what the files tell
+  read_as : (o : Outcome (List (List Member))) (walked : Walked) (source : Source) → Asked words files o → NoReadFault o → (read : IsRead words files walked source) → o ≡ Went walked read.read.units
+  read_as o walked source asked sure read = agrees one_way words files o asked read.names (Went walked read.read.units) read.asked read.read.read sure tt
 
-  none_some : {P : Type 0} (text : List ℕ) → None ≡ Some text → P
-  none_some text e = cc
+  holds_as : (P : Walked → Source → Type 0) (o : Outcome (List (List Member))) (walked : Walked) (source : Source) → Asked words files o → NoReadFault o → IsRead words files walked source → Holding P o → P walked source
+  holds_as P o walked source asked sure read holds = subst (P walked) (sym read.read.made) (subst (Holding P) (read_as o walked source asked sure read) holds)
 
-  some_none : {P : Type 0} (text : List ℕ) → Some text ≡ None → P
-  some_none text e = cc
-
-  no_file_told : (name : List ℕ) → Asked words files name None → Sound files → EndsAs NoFile status
+  no_file_told : (name : List ℕ) → Asked words files (Stops (IsMissing name)) → Sound files → EndsAs NoFile status
   no_file_told name asked sound =
       ends NoFile
-      (λ d. none_some d.text (read_as name None d.name (Some d.text) asked d.read.asked d.read.held))
-      (λ d. none_some d.text (read_as name None d.name (Some d.text) asked d.read.asked d.read.held))
-      (λ d. absurd (asked_not_wrong words name d.word asked.words_ask d.wrong))
-      (λ d. absurd (stayed _ _ sound.0 sound.1 d.fault))
+      (λ d. absurd (gone_not_stopped _ _ (IsMissing name) (sym (read_as (Stops (IsMissing name)) d.walked d.source asked tt d.read))))
+      (λ d. absurd (gone_not_stopped _ _ (IsMissing name) (sym (read_as (Stops (IsMissing name)) d.walked d.source asked tt d.read))))
+      (λ d. absurd (check_not_wrong words asked.names d.word asked.asked d.wrong))
+      (λ d. absurd (stayed _ _ sound.0 sound.1 d.unread.fault))
       (λ d. inl refl)
 
   pub no_file_comes : NoFileComes words files status
   no_file_comes = (no_file_missed, no_file_told)
 
-  same_text : (a b : List ℕ) → Some a ≡ Some b → a ≡ b
-  same_text a b e = cc
+  -- a file that isn't there ends the reading
+  not_absent : (walked : Walked) (units : List (List Member)) (output line : List ℕ) → Asked words files (Went walked units) → DueNoFile words files output line → ⊥
+  not_absent walked units output line asked d =
+      gone_not_stopped walked units (IsMissing d.name) (agrees one_way words files (Went walked units) asked d.names (Stops (IsMissing d.name)) d.asked d.absent.stopped tt tt)
 
   pub refused_comes : RefusedComes words files status
-  refused_comes name text rule place asked broken sound =
+  refused_comes walked units f asked broken sound =
       ends Refused
-      (λ d. absurd (lists_not_breaks d.text o.output rule place d.listed
-      (subst (λ (t : List ℕ). Breaks t rule place) (same_text _ _ (read_as name (Some text) d.name (Some d.text) asked d.read.asked d.read.held)) broken)))
+      (λ d. absurd (d.unbroken f (holds_as (λ w s. SourceBroken w s f) (Went walked units) d.walked d.source asked tt d.read broken)))
       (λ d. inl refl)
-      (λ d. absurd (asked_not_wrong words name d.word asked.words_ask d.wrong))
-      (λ d. absurd (stayed _ _ sound.0 sound.1 d.fault))
-      (λ d. some_none text (read_as name (Some text) d.name None asked d.asked d.absent))
+      (λ d. absurd (check_not_wrong words asked.names d.word asked.asked d.wrong))
+      (λ d. absurd (stayed _ _ sound.0 sound.1 d.unread.fault))
+      (λ d. absurd (not_absent walked units o.output o.line asked d))
 
-  done_ends : (name text listing : List ℕ) → Asked words files name (Some text) → Lists text listing → Sound files → EndsAs Done status
-  done_ends name text listing asked listed sound =
+  done_ends : (walked : Walked) (units : List (List Member)) → Asked words files (Went walked units) → IsUnbroken (SourceBroken walked (source_of walked units)) → Sound files → EndsAs Done status
+  done_ends walked units asked unbroken sound =
       ends Done
       (λ d. inl refl)
-      (λ d. absurd (lists_not_breaks text listing d.says.rule d.says.place listed
-      (subst (λ (t : List ℕ). Breaks t d.says.rule d.says.place) (sym (same_text _ _ (read_as name (Some text) d.name (Some d.text) asked d.read.asked d.read.held))) d.says.broken)))
-      (λ d. absurd (asked_not_wrong words name d.word asked.words_ask d.wrong))
-      (λ d. absurd (stayed _ _ sound.0 sound.1 d.fault))
-      (λ d. some_none text (read_as name (Some text) d.name None asked d.asked d.absent))
+      (λ d. absurd (holds_as (λ w s. IsUnbroken (SourceBroken w s)) (Went walked units) d.walked d.source asked tt d.read unbroken d.says.refusal (d.says.first.holds d.says.refusal refl)))
+      (λ d. absurd (check_not_wrong words asked.names d.word asked.asked d.wrong))
+      (λ d. absurd (stayed _ _ sound.0 sound.1 d.unread.fault))
+      (λ d. absurd (not_absent walked units o.output o.line asked d))
 
   -- where no write failed the status is no write fault
   no_fault : SoundSink out → SoundSink diag → Delivered o.due o.output o.line out diag status → status ≡ o.due
@@ -193,8 +186,8 @@ module _ (words : List (List ℕ)) (files : FilesRun) (out diag : SinkRun) (stat
   not_due d = d
 
   pub done_comes : DoneComes words files out diag status
-  done_comes name text listing asked listed sound out_sound diag_sound =
-      elim (done_ends name text listing asked listed sound) [
+  done_comes walked units asked unbroken sound out_sound diag_sound =
+      elim (done_ends walked units asked unbroken sound) [
         | inl e ↦ inl e
         | inr f ↦ without f
       ]

@@ -2,7 +2,9 @@
 use Rattle.std.proofs.Common.{◌≡◌, ◌⊎◌, ℕ, List, [], length, inl, inr, sym, ◌∙◌, ap, subst, arith}
 use Rattle.fp_main.specs.Causes.{UsageMeans, ReadFaultMeans, NoFileMeans, RefusedMeans, DoneMeans, WriteFaultMeans, NoMemoryMeans, IsNoRun}
 use Rattle.fp_main.specs.Delivery.{SinkRun, Adds, IsWhole, OutFailed, DiagFailed, Delivered}
-use Rattle.fp_main.specs.Output.{FilesRun, IsDue, Output}
+use Rattle.fp_main.specs.FilesRun.{FilesRun}
+use Rattle.fp_main.specs.Output.{IsDue, Output}
+use Rattle.fp_main.proofs.Absent.{missing}
 use Rattle.fp_main.specs.declared.status.Status.{Status}
 use Rattle.fp_main.specs.declared.status.Status.TheVariants.{Done, Refused, Usage, ReadFault, WriteFault, NoFile, Stuck, Spent, Asserted, NoMemory, NoTopology}
 
@@ -51,22 +53,22 @@ module _ (words : List (List ℕ)) (files : FilesRun) (out diag : SinkRun) (stat
   pub read_fault_means : ReadFaultMeans words files out diag status
   read_fault_means e =
       let c = called_as ReadFault (λ f. cc) e in
-      (c.0.name, c.0.asked, c.0.fault, c.0.found, (adds_as _ _ out c.1.written c.0.silent, adds_as _ _ diag c.1.said c.0.said))
+      (c.0.names, c.0.name, c.0.asked, c.0.unread, (adds_as _ _ out c.1.written c.0.silent, adds_as _ _ diag c.1.said c.0.said))
 
   pub no_file_means : NoFileMeans words files out diag status
   no_file_means e =
       let c = called_as NoFile (λ f. cc) e in
-      (c.0.name, c.0.asked, c.0.sound, c.0.miss, c.0.absent, (adds_as _ _ out c.1.written c.0.silent, adds_as _ _ diag c.1.said c.0.said))
+      (c.0.names, c.0.name, c.0.asked, c.0.absent, missing files.told c.0.names c.0.name c.0.absent.stopped, (adds_as _ _ out c.1.written c.0.silent, adds_as _ _ diag c.1.said c.0.said))
 
   pub refused_means : RefusedMeans words files out diag status
   refused_means e =
       let c = called_as Refused (λ f. cc) e in
-      (c.0.name, c.0.text, c.0.says.rule, c.0.says.place, c.0.read, c.0.says.broken, (adds_as _ _ out c.1.written c.0.says.silent, adds_as _ _ diag c.1.said c.0.says.said))
+      (c.0.walked, c.0.source, c.0.says.refusal, c.0.read, c.0.says.first, (adds_as _ _ out c.1.written c.0.says.silent, adds_as _ _ diag c.1.said c.0.says.said))
 
   pub done_means : DoneMeans words files out diag status
   done_means e =
       let c = called_as Done (λ f. cc) e in
-      (c.0.name, c.0.text, o.output, c.0.read, c.0.listed, c.1.written, adds_as _ _ diag c.1.said c.0.silent)
+      (c.0.walked, c.0.source, c.0.read, c.0.unbroken, adds_as _ _ out c.1.written c.0.listed, adds_as _ _ diag c.1.said c.0.silent)
 
   pub no_memory_means : NoMemoryMeans out diag status
   no_memory_means e =

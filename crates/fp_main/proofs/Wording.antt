@@ -1,48 +1,45 @@
--- Words that have no form.
-use Rattle.std.proofs.Common.{◌≡◌, ℕ, List, [], ◌∷◌, ◌++◌, length, codes, Bool, true, false, refl, map, ◌∙◌, inl, inr, lit<, arith, sym, subst}
+-- Words that have a form, and words that have none.
+use Rattle.std.proofs.Common.{◌≡◌, ◌<◌, ℕ, List, [], ◌∷◌, ◌++◌, length, codes, Bool, true, false, refl, map, ◌∙◌, inl, inr, lit<, arith, sym, subst}
 use Rattle.std.specs.Str.{bytes_eq}
 use Rattle.std.proofs.lemmas.Slice.Eq.{bytes_eq-Decides}
-use Rattle.fp_main.specs.Words.{IsForm, BeginsForm, IsWrong, check_words}
+use Rattle.fp_main.specs.Words.{IsCheck, IsForm, BeginsForm, IsWrong}
+
+check_a : IsCheck (codes "check" ∷ codes "a" ∷ []) (codes "a" ∷ [])
+check_a = record { words_are = refl; some = lit< tt }
 
 check_begins : BeginsForm (codes "check" ∷ [])
-check_begins = (codes "a" ∷ [], (codes "a", refl))
+check_begins = (codes "a" ∷ [], (codes "a" ∷ [], check_a))
 
 none_begins : BeginsForm []
-none_begins = (check_words (codes "a"), (codes "a", refl))
+none_begins = (codes "check" ∷ codes "a" ∷ [], (codes "a" ∷ [], check_a))
 
 none_is_none : IsForm [] → ⊥
-none_is_none form = cc (form.1)
+none_is_none form = none form.0 form.1.words_are
+  where
+    none : (files : List (List ℕ)) → [] ≡ codes "check" ∷ files → ⊥
+    none files e = cc
 
 check_is_none : IsForm (codes "check" ∷ []) → ⊥
-check_is_none form = cc (form.1)
+check_is_none form = none form.0 form.1.words_are form.1.some
+  where
+    none : (files : List (List ℕ)) → codes "check" ∷ [] ≡ codes "check" ∷ files → 0 < length files → ⊥
+    none [] e some = omega (arith, some)
+    none (file ∷ files) e some = cc
 
 other_begins_none : (word : List ℕ) (words : List (List ℕ)) → (word ≡ codes "check" → ⊥) → BeginsForm (word ∷ words) → ⊥
-other_begins_none word words other begins = other (head_same word (codes "check") (words ++ begins.0) (begins.1.0 ∷ []) begins.1.1)
+other_begins_none word words other begins = other (head_same word (codes "check") (words ++ begins.0) begins.1.0 begins.1.1.words_are)
   where
     head_same : (x y : List ℕ) (xs ys : List (List ℕ)) → x ∷ xs ≡ y ∷ ys → x ≡ y
     head_same x y xs ys e = cc
 
-long_begins_none : (file more : List ℕ) (words : List (List ℕ)) → BeginsForm (codes "check" ∷ file ∷ more ∷ words) → ⊥
-long_begins_none file more words begins = tail_none file begins.1.0 more (words ++ begins.0) begins.1.1
-  where
-    tail_none : (x y z : List ℕ) (zs : List (List ℕ)) → codes "check" ∷ x ∷ z ∷ zs ≡ codes "check" ∷ y ∷ [] → ⊥
-    tail_none x y z zs e = cc
-
-pub missing_command : IsWrong [] 1
+missing_command : IsWrong [] 1
 missing_command = record { counted = lit< tt; begun = none_begins; ends = inr (refl, none_is_none) }
 
-pub other_command : (word : List ℕ) (words : List (List ℕ)) → (word ≡ codes "check" → ⊥) → IsWrong (word ∷ words) 1
+other_command : (word : List ℕ) (words : List (List ℕ)) → (word ≡ codes "check" → ⊥) → IsWrong (word ∷ words) 1
 other_command word words other = record { counted = lit< tt; begun = none_begins; ends = inl (omega arith, other_begins_none word [] other) }
 
-pub missing_file : IsWrong (codes "check" ∷ []) 2
+missing_file : IsWrong (codes "check" ∷ []) 2
 missing_file = record { counted = lit< tt; begun = check_begins; ends = inr (refl, check_is_none) }
-
-pub further_word : (file more : List ℕ) (words : List (List ℕ)) → IsWrong (codes "check" ∷ file ∷ more ∷ words) 3
-further_word file more words = record {
-  counted = lit< tt;
-  begun = ([], (file, refl));
-  ends = inl (omega arith, long_begins_none file more []);
-}
 
 -- the same, of words that stand for their bytes
 module _ {S : Type 0} (bytes : S → List ℕ) where
@@ -53,6 +50,10 @@ module _ {S : Type 0} (bytes : S → List ℕ) where
   pub missing_file_of : (files : List S) → length files ≡ 0 → IsWrong (codes "check" ∷ map bytes files) 2
   missing_file_of [] e = missing_file
   missing_file_of (file ∷ files) e = absurd (omega (arith, e))
+
+  pub check_of : (files : List S) → (length files ≡ 0 → ⊥) → IsCheck (codes "check" ∷ map bytes files) (map bytes files)
+  check_of [] some = absurd (some refl)
+  check_of (file ∷ files) some = record { words_are = refl; some = omega arith }
 
   pub other_command_of : (words : List S) (word : S) (files : List S) (read : List ℕ) (test : Bool)
       → words ≡ word ∷ files → read ≡ bytes word → test ≡ bytes_eq read (codes "check") → test ≡ false → IsWrong (map bytes words) 1
@@ -65,7 +66,3 @@ module _ {S : Type 0} (bytes : S → List ℕ) where
           let yes' : bytes_eq read (codes "check") ≡ true = (bytes_eq-Decides read (codes "check")).1 (same ∙ h) in
           let no' : bytes_eq read (codes "check") ≡ false = sym is ∙ other in
           cc
-
-  pub further_word_of : (files : List S) (file : S) (more : List S) → files ≡ file ∷ more → (length more ≡ 0 → ⊥) → IsWrong (codes "check" ∷ map bytes files) 3
-  further_word_of files file [] e some = absurd (some refl)
-  further_word_of files file (next ∷ more) e some = subst (λ (fs : List S). IsWrong (codes "check" ∷ map bytes fs) 3) (sym e) (further_word (bytes file) (bytes next) (map bytes more))

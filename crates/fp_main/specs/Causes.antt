@@ -1,16 +1,20 @@
 -- When each status comes, and what stands written then.
-use Rattle.std.specs.Prelude.{ℕ, ◌≡◌, ◌<◌, ◌⊎◌, List, [], Option, Some, None}
-use Rattle.fp_base.specs.declared.place.Place.{Place}
-use Rattle.fp_base.specs.declared.rule.Rule.{Rule}
+use Rattle.std.specs.Prelude.{ℕ, ◌≡◌, ◌<◌, ◌⊎◌, List, [], Some, None}
+use Rattle.fp_base.specs.declared.refusal.Refusal.{Refusal}
+use Rattle.fp_tree.specs.declared.member.Member.{Member}
+use Rattle.fp_tree.specs.declared.source.Source.{Source}
+use Rattle.fp_meaning.specs.Least.{IsLeast, IsUnbroken}
 use Rattle.fp_outside.specs.Counts.{last_count}
-use Rattle.fp_outside.specs.Files.{bytes_of}
 use Rattle.fp_outside.specs.declared.files.HeldFile.{HeldFile}
 use Rattle.fp_main.specs.Delivery.{SinkRun, Adds, AddsFront, OutFailed, DiagFailed}
 use Rattle.fp_main.specs.Delivery as delivery
+use Rattle.fp_main.specs.FilesRun.{FilesRun, NoFault, NoMiss, Holds}
 use Rattle.fp_main.specs.Lines.{usage_line, refusal_line, read_fault_line, no_file_line, no_memory_line}
-use Rattle.fp_main.specs.Output.{FilesRun, NoFault, NoMiss, HadFault, HadMiss, Holds, IsRead, IsDue}
-use Rattle.fp_main.specs.Sources.{Lists, Breaks}
-use Rattle.fp_main.specs.Words.{IsWrong, check_words}
+use Rattle.fp_main.specs.Listing.{listing_of}
+use Rattle.fp_main.specs.Output.{IsRead, IsDue}
+use Rattle.fp_main.specs.Words.{IsCheck, IsWrong}
+use Rattle.fp_main.specs.gathering.Gathered.{IsAbsent, IsUnread, SourceBroken, name_of, names_read, source_of}
+use Rattle.fp_main.specs.gathering.Walks.{NoFile as IsMissing, Outcome, Stops, Walked, WalksFiles, Went, nothing_read}
 use Rattle.fp_main.specs.declared.status.Status.{Status}
 use Rattle.fp_main.specs.declared.status.Status.TheVariants.{Done, Refused, Usage, ReadFault, WriteFault, NoFile, Stuck, Spent, Asserted, NoMemory, NoTopology}
 
@@ -30,12 +34,13 @@ Sound files = NoFault files × (files.faults_before < last_count)
 abbrev pub SoundSink : SinkRun → Type 0
 SoundSink run = delivery.NoFault run × (run.faults_before < last_count)
 
--- the files tell what they hold, and this is it under the name that the words ask for
-pub record Asked (words : List (List ℕ)) (files : FilesRun) (name : List ℕ) (bytes : Option (List ℕ)) : Type 0 where
+-- the files tell what they hold, and by this the reading of those that the words ask for ends so
+pub record Asked (words : List (List ℕ)) (files : FilesRun) (outcome : Outcome (List (List Member))) : Type 0 where
   pub held : List HeldFile
   pub told : files.told ≡ Some held
-  pub words_ask : words ≡ check_words name
-  pub holds : bytes_of held name ≡ bytes
+  pub names : List (List ℕ)
+  pub asked : IsCheck words names
+  pub walks : WalksFiles (Some held) names nothing_read outcome
 
 -- ---- what stands written
 
@@ -45,19 +50,22 @@ UsageMeans words files out diag status =
 
 abbrev pub ReadFaultMeans : List (List ℕ) → FilesRun → SinkRun → SinkRun → Status → Type 0
 ReadFaultMeans words files out diag status =
-    status ≡ ReadFault → (name : List ℕ) × (words ≡ check_words name) × HadFault files × NoMiss files × Says (read_fault_line name) out diag
+    status ≡ ReadFault → (names : List (List ℕ)) × (name : List ℕ) × IsCheck words names × IsUnread names files name × Says (read_fault_line name) out diag
 
 abbrev pub NoFileMeans : List (List ℕ) → FilesRun → SinkRun → SinkRun → Status → Type 0
 NoFileMeans words files out diag status =
-    status ≡ NoFile → (name : List ℕ) × (words ≡ check_words name) × NoFault files × HadMiss files × Holds files name None × Says (no_file_line name) out diag
+    status ≡ NoFile → (names : List (List ℕ)) × (name : List ℕ) × IsCheck words names × IsAbsent names files name × Holds files name None
+    × Says (no_file_line name) out diag
 
 abbrev pub RefusedMeans : List (List ℕ) → FilesRun → SinkRun → SinkRun → Status → Type 0
 RefusedMeans words files out diag status =
-    status ≡ Refused → (name text : List ℕ) × (rule : Rule) × (place : Place) × IsRead words files name text × Breaks text rule place × Says (refusal_line name place rule) out diag
+    status ≡ Refused → (walked : Walked) × (source : Source) × (f : Refusal) × IsRead words files walked source × IsLeast (SourceBroken walked source) (Some f)
+    × Says (refusal_line (name_of (names_read walked) f.place.file) f.place f.rule) out diag
 
 abbrev pub DoneMeans : List (List ℕ) → FilesRun → SinkRun → SinkRun → Status → Type 0
 DoneMeans words files out diag status =
-    status ≡ Done → (name text listing : List ℕ) × IsRead words files name text × Lists text listing × Adds listing out × Adds [] diag
+    status ≡ Done → (walked : Walked) × (source : Source) × IsRead words files walked source × IsUnbroken (SourceBroken walked source)
+    × Adds (listing_of source) out × Adds [] diag
 
 -- out has a proper front of the output that was due, and diag the line that says so, or a proper front of it; or out has nothing,
 -- and diag a proper front of the line that was due
@@ -88,17 +96,19 @@ ReadFaultComes files status = files.faults_before < files.faults_after → EndsA
 abbrev pub NoFileComes : List (List ℕ) → FilesRun → Status → Type 0
 NoFileComes words files status =
     (files.misses_before < files.misses_after → EndsAs NoFile status)
-    × ((name : List ℕ) → Asked words files name None → Sound files → EndsAs NoFile status)
+    × ((name : List ℕ) → Asked words files (Stops (IsMissing name)) → Sound files → EndsAs NoFile status)
 
 abbrev pub WriteFaultComes : SinkRun → SinkRun → Status → Type 0
 WriteFaultComes out diag status = (out.faults_before < out.faults_after) ⊎ (diag.faults_before < diag.faults_after) → status ≡ WriteFault
 
 abbrev pub RefusedComes : List (List ℕ) → FilesRun → Status → Type 0
 RefusedComes words files status =
-    (name text : List ℕ) (rule : Rule) (place : Place) → Asked words files name (Some text) → Breaks text rule place → Sound files → EndsAs Refused status
+    (walked : Walked) (units : List (List Member)) (f : Refusal)
+    → Asked words files (Went walked units) → SourceBroken walked (source_of walked units) f → Sound files → EndsAs Refused status
 
 -- nothing is broken and nothing failed
 abbrev pub DoneComes : List (List ℕ) → FilesRun → SinkRun → SinkRun → Status → Type 0
 DoneComes words files out diag status =
-    (name text listing : List ℕ) → Asked words files name (Some text) → Lists text listing → Sound files → SoundSink out → SoundSink diag
+    (walked : Walked) (units : List (List Member))
+    → Asked words files (Went walked units) → IsUnbroken (SourceBroken walked (source_of walked units)) → Sound files → SoundSink out → SoundSink diag
     → (status ≡ Done) ⊎ (status ≡ NoMemory)

@@ -1,8 +1,9 @@
-pub mod constants
+pub mod gathering
 pub mod Causes
 pub mod Delivery
+pub mod FilesRun
 pub mod Lines
+pub mod Listing
 pub mod Output
-pub mod Sources
 pub mod Statuses
 pub mod Words

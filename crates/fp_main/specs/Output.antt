@@ -1,44 +1,18 @@
 -- What a call has to write, and its status where every write succeeds.
-use Rattle.std.specs.Prelude.{ℕ, ◌≡◌, List, [], Option, Some, None, IfSome}
-use Rattle.fp_base.specs.declared.place.Place.{Place}
-use Rattle.fp_base.specs.declared.rule.Rule.{Rule}
-use Rattle.fp_outside.specs.Counts.{Rose}
-use Rattle.fp_outside.specs.Files.{bytes_of}
-use Rattle.fp_outside.specs.declared.files.HeldFile.{HeldFile}
+use Rattle.std.specs.Prelude.{ℕ, ◌≡◌, List, [], Some}
+use Rattle.fp_base.specs.declared.refusal.Refusal.{Refusal}
+use Rattle.fp_tree.specs.declared.source.Source.{Source}
+use Rattle.fp_meaning.specs.Broken.{NamesBroken}
+use Rattle.fp_meaning.specs.Least.{IsLeast, IsUnbroken}
 use Rattle.fp_main.specs.Delivery.{SinkRun, Delivered}
+use Rattle.fp_main.specs.FilesRun.{FilesRun, NoFault, NoMiss}
+use Rattle.fp_main.specs.gathering.Gathered.{AreRead, IsAbsent, IsUnread, SourceBroken, name_of, names_read}
+use Rattle.fp_main.specs.gathering.Walks.{Walked}
 use Rattle.fp_main.specs.Lines.{usage_line, refusal_line, read_fault_line, no_file_line, no_memory_line}
-use Rattle.fp_main.specs.Sources.{Lists, Breaks}
-use Rattle.fp_main.specs.Words.{IsWrong, check_words}
+use Rattle.fp_main.specs.Listing.{listing_of}
+use Rattle.fp_main.specs.Words.{IsCheck, IsWrong}
 use Rattle.fp_main.specs.declared.status.Status.{Status}
 use Rattle.fp_main.specs.declared.status.Status.TheVariants.{Done, Refused, Usage, ReadFault, NoFile, NoMemory}
-
--- what files tell, and their counts before and after a call
-pub record FilesRun : Type 0 where
-  pub told : Option (List HeldFile)
-  pub faults_before : ℕ
-  pub faults_after : ℕ
-  pub misses_before : ℕ
-  pub misses_after : ℕ
-
-abbrev pub files_run : {F : Type 0} → (F → Option (List HeldFile)) → (F → ℕ) → (F → ℕ) → F → F → FilesRun
-files_run told faults misses old new =
-    record { told = told old; faults_before = faults old; faults_after = faults new; misses_before = misses old; misses_after = misses new }
-
-abbrev pub NoFault : FilesRun → Type 0
-NoFault files = files.faults_after ≡ files.faults_before
-
-abbrev pub NoMiss : FilesRun → Type 0
-NoMiss files = files.misses_after ≡ files.misses_before
-
-abbrev pub HadFault : FilesRun → Type 0
-HadFault files = Rose files.faults_before files.faults_after
-
-abbrev pub HadMiss : FilesRun → Type 0
-HadMiss files = Rose files.misses_before files.misses_after
-
--- where the files tell what they hold, it is this under the name
-abbrev pub Holds : FilesRun → List ℕ → Option (List ℕ) → Type 0
-Holds files name bytes = IfSome files.told (λ held. bytes_of held name ≡ bytes)
 
 -- the words have no form, and the line names the first that doesn't fit or is missing; no file is read
 pub record DueUsage (words : List (List ℕ)) (files : FilesRun) (output line : List ℕ) : Type 0 where
@@ -50,58 +24,56 @@ pub record DueUsage (words : List (List ℕ)) (files : FilesRun) (output line : 
 
 -- a file asked for could not be read
 pub record DueReadFault (words : List (List ℕ)) (files : FilesRun) (output line : List ℕ) : Type 0 where
+  pub names : List (List ℕ)
+  pub asked : IsCheck words names
   pub name : List ℕ
-  pub asked : words ≡ check_words name
-  pub fault : HadFault files
-  pub found : NoMiss files
+  pub unread : IsUnread names files name
   pub silent : output ≡ []
   pub said : line ≡ read_fault_line name
 
 -- a file asked for isn't there
 pub record DueNoFile (words : List (List ℕ)) (files : FilesRun) (output line : List ℕ) : Type 0 where
+  pub names : List (List ℕ)
+  pub asked : IsCheck words names
   pub name : List ℕ
-  pub asked : words ≡ check_words name
-  pub sound : NoFault files
-  pub miss : HadMiss files
-  pub absent : Holds files name None
+  pub absent : IsAbsent names files name
   pub silent : output ≡ []
   pub said : line ≡ no_file_line name
 
--- a file asked for was read
-pub record IsRead (words : List (List ℕ)) (files : FilesRun) (name text : List ℕ) : Type 0 where
-  pub asked : words ≡ check_words name
-  pub sound : NoFault files
-  pub found : NoMiss files
-  pub held : Holds files name (Some text)
+-- the files asked for were read, and give a source
+pub record IsRead (words : List (List ℕ)) (files : FilesRun) (walked : Walked) (source : Source) : Type 0 where
+  pub names : List (List ℕ)
+  pub asked : IsCheck words names
+  pub read : AreRead names files walked source
 
--- a rule is broken in the text of a file
-pub record SaysBroken (name text output line : List ℕ) : Type 0 where
-  pub rule : Rule
-  pub place : Place
-  pub broken : Breaks text rule place
+-- a rule is broken, the first, in the file that the line names
+pub record SaysBroken (broken : Refusal → Type 0) (names : List (List ℕ)) (output line : List ℕ) : Type 0 where
+  pub refusal : Refusal
+  pub first : IsLeast broken (Some refusal)
   pub silent : output ≡ []
-  pub said : line ≡ refusal_line name place rule
+  pub said : line ≡ refusal_line (name_of names refusal.place.file) refusal.place refusal.rule
 
 -- a rule is broken in the source
 pub record DueRefused (words : List (List ℕ)) (files : FilesRun) (output line : List ℕ) : Type 0 where
-  pub name : List ℕ
-  pub text : List ℕ
-  pub read : IsRead words files name text
-  pub says : SaysBroken name text output line
+  pub walked : Walked
+  pub source : Source
+  pub read : IsRead words files walked source
+  pub says : SaysBroken (SourceBroken walked source) (names_read walked) output line
 
 -- the listing of what the source defines
 pub record DueListing (words : List (List ℕ)) (files : FilesRun) (output line : List ℕ) : Type 0 where
-  pub name : List ℕ
-  pub text : List ℕ
-  pub read : IsRead words files name text
-  pub listed : Lists text output
+  pub walked : Walked
+  pub source : Source
+  pub read : IsRead words files walked source
+  pub unbroken : IsUnbroken (SourceBroken walked source)
+  pub listed : output ≡ listing_of source
   pub silent : line ≡ []
 
--- what has to be written for the text of a file
-abbrev pub IsDueFor : List ℕ → List ℕ → Status → List ℕ → List ℕ → Type 0
-IsDueFor name text Done output line = Lists text output × (line ≡ [])
-IsDueFor name text Refused output line = SaysBroken name text output line
-IsDueFor name text _ output line = ⊥
+-- what has to be written for a source whose files break no rule by themselves
+abbrev pub IsDueFor : Source → Status → List ℕ → List ℕ → Type 0
+IsDueFor source Done output line = IsUnbroken (NamesBroken source) × (output ≡ listing_of source) × (line ≡ [])
+IsDueFor source Refused output line = SaysBroken (NamesBroken source) source.names output line
+IsDueFor source _ output line = ⊥
 
 -- what has to be written for each status, where every write succeeds
 abbrev pub IsDue : List (List ℕ) → FilesRun → Status → List ℕ → List ℕ → Type 0

@@ -1,15 +1,17 @@
 -- The forms of words that the program takes.
-use Rattle.std.specs.Prelude.{ℕ, ◌≡◌, ◌+◌, ◌-◌, ◌<◌, ◌≤◌, ◌⊎◌, List, [], ◌∷◌, ◌++◌, length, take, codes, Result, Ok, Err}
+use Rattle.std.specs.Prelude.{ℕ, ◌≡◌, ◌+◌, ◌-◌, ◌<◌, ◌≤◌, ◌⊎◌, List, [], ◌∷◌, ◌++◌, length, map, take, codes, Result, Ok, Err}
+use Rattle.std.specs.String.{string_bytes}
 use Rattle.fp_main.specs.declared.words.Command.{Command}
 use Rattle.fp_main.specs.declared.words.Command.TheVariants.{Check}
 
--- the words `check FILE`
-abbrev pub check_words : List ℕ → List (List ℕ)
-check_words file = codes "check" ∷ file ∷ []
+-- the words `check FILE..` with these files, at least one
+pub record IsCheck (words files : List (List ℕ)) : Type 0 where
+  pub words_are : words ≡ codes "check" ∷ files
+  pub some : 0 < length files
 
 -- the words are of some form
 abbrev pub IsForm : List (List ℕ) → Type 0
-IsForm words = (file : List ℕ) × (words ≡ check_words file)
+IsForm words = (files : List (List ℕ)) × IsCheck words files
 
 -- words of some form begin with these
 abbrev pub BeginsForm : List (List ℕ) → Type 0
@@ -23,5 +25,5 @@ pub record IsWrong (words : List (List ℕ)) (number : ℕ) : Type 0 where
 
 -- what is made of the words
 abbrev pub ReadsWords : List (List ℕ) → Result Command ℕ → Type 0
-ReadsWords words (Ok (Check file)) = words ≡ check_words file.now
+ReadsWords words (Ok (Check files)) = IsCheck words (map string_bytes files.now)
 ReadsWords words (Err number) = IsWrong words number

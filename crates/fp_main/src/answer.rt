@@ -1,17 +1,19 @@
-ghost use Rattle.std.specs.Prelude.{◌≡◌, [], map, IfOk};
+ghost use Rattle.std.specs.Prelude.{◌≡◌, [], map, List, ℕ, IfOk};
 ghost use Rattle.std.specs.String.{string_bytes};
-ghost use Rattle.fp_main.specs.Output.{IsDue, IsDueFor, files_run};
-ghost use Rattle.fp_main.specs.Sources.{Checks};
-ghost use Rattle.fp_main.specs.Words.{check_words};
+ghost use Rattle.fp_main.specs.FilesRun.{files_run};
+ghost use Rattle.fp_main.specs.Output.{IsDue, IsDueFor};
+ghost use Rattle.fp_main.specs.Words.{IsCheck};
+ghost use Rattle.fp_main.specs.gathering.Gathered.{name_of};
 
-use crate::constants::parse;
+use crate::gathering::{Halt, gather};
 use crate::lines::{no_file_line, read_fault_line, refusal_line, usage_line};
 use crate::listing::listing;
 use crate::status::Status;
 use crate::words::{Command, read_words};
-use fp_base::{NoMemory, Row, Stop};
-use fp_lexer::lex;
-use fp_outside::{Files, ReadRefusal};
+use fp_base::{NoMemory, Row, Text};
+use fp_names::name_faults;
+use fp_outside::Files;
+use fp_tree::Source;
 use std::alloc::Global;
 
 /// What a call has to write, and its status where every write succeeds.
@@ -33,48 +35,55 @@ fn said(alloc: Global, status: Status, line: Row<u8>) -> Due
     }
 }
 
-/// The listing of what a source defines, or the rule that it breaks first.
-fn check(alloc: Global, text: &[u8]) -> Result<Row<u8>, Stop>
-    ensures { Checks text.now result }
+/// The name of the file with a number.
+fn name_of(names: &[Text], number: u32) -> &str
+    ensures { result.now ≡ name_of names.now number }
 {
-    let tokens = lex(alloc, 0, text)?;
-    let source = parse(alloc, &tokens)?;
-    Ok(listing(alloc, &source)?)
-}
-
-/// What is due for the text of the file of this name.
-fn check_file(alloc: Global, name: &str, text: &[u8]) -> Result<Due, NoMemory>
-    ensures { IfOk result (λ due. IsDueFor name.now text.now due.status due.output due.line) }
-{
-    match check(alloc, text) {
-        Ok(output) => Ok(Due {
-            status: Status::Done,
-            output,
-            line: Row::new(alloc),
-        }),
-        Err(Stop::Broken(refusal)) => {
-            let line = refusal_line(alloc, name, refusal)?;
-            Ok(said(alloc, Status::Refused, line))
-        }
-        Err(Stop::NoMemory) => Err(NoMemory),
+    let at = number as usize;
+    if at < names.len() {
+        names[at].as_str()
+    } else {
+        ""
     }
 }
 
-/// What is due for `check` with the file of this name.
-fn answer_check<F: Files>(alloc: Global, name: &str, files: &mut F) -> Result<Due, NoMemory>
-    ensures { IfOk result (λ due. IsDue (check_words name.now) (files_run F.told F.faults F.misses files.old files.new) due.status due.output due.line) }
+/// What is due for a source whose files break no rule by themselves: its listing, or the rule of names that it breaks first.
+fn check(alloc: Global, source: &Source) -> Result<Due, NoMemory>
+    ensures { IfOk result (λ due. IsDueFor source.now due.status due.output due.line) }
 {
-    match files.read(alloc, name) {
-        Ok(Some(text)) => check_file(alloc, name, text.as_slice()),
-        Ok(None) => {
-            let line = no_file_line(alloc, name)?;
+    match name_faults(alloc, source)? {
+        None => Ok(Due {
+            status: Status::Done,
+            output: listing(alloc, source)?,
+            line: Row::new(alloc),
+        }),
+        Some(refusal) => {
+            let name = name_of(source.names.as_slice(), refusal.place.file);
+            let line = refusal_line(alloc, name, refusal)?;
+            Ok(said(alloc, Status::Refused, line))
+        }
+    }
+}
+
+/// What is due for `check` with the files of these names.
+fn answer_check<F: Files>(alloc: Global, names: &[String], files: &mut F) -> Result<Due, NoMemory>
+    ensures { (words : List (List ℕ)) → IsCheck words (map string_bytes names.now) → IfOk result (λ due. IsDue words (files_run F.told F.faults F.misses files.old files.new) due.status due.output due.line) }
+{
+    match gather(alloc, names, files) {
+        Ok(source) => check(alloc, &source),
+        Err(Halt::Broken(name, refusal)) => {
+            let line = refusal_line(alloc, name.as_str(), refusal)?;
+            Ok(said(alloc, Status::Refused, line))
+        }
+        Err(Halt::NoFile(name)) => {
+            let line = no_file_line(alloc, name.as_str())?;
             Ok(said(alloc, Status::NoFile, line))
         }
-        Err(ReadRefusal::Failed) => {
-            let line = read_fault_line(alloc, name)?;
+        Err(Halt::ReadFault(name)) => {
+            let line = read_fault_line(alloc, name.as_str())?;
             Ok(said(alloc, Status::ReadFault, line))
         }
-        Err(ReadRefusal::NoMemory) => Err(NoMemory),
+        Err(Halt::NoMemory) => Err(NoMemory),
     }
 }
 
@@ -83,7 +92,7 @@ pub fn answer<F: Files>(alloc: Global, words: &[String], files: &mut F) -> Resul
     ensures { IfOk result (λ due. IsDue (map string_bytes words.now) (files_run F.told F.faults F.misses files.old files.new) due.status due.output due.line) }
 {
     match read_words(words) {
-        Ok(Command::Check(name)) => answer_check(alloc, name, files),
+        Ok(Command::Check(names)) => answer_check(alloc, names, files),
         Err(word) => {
             let line = usage_line(alloc, word)?;
             Ok(said(alloc, Status::Usage, line))

@@ -2,8 +2,8 @@
 #![tactic(auto)]
 
 mod answer;
-mod constants;
 mod deliver;
+mod gathering;
 mod laws;
 mod lines;
 mod listing;
@@ -11,6 +11,7 @@ mod serving;
 mod status;
 mod words;
 
-pub use laws::{one_listing, one_meaning, worked_lines};
+pub use gathering::one_reading;
+pub use laws::worked_lines;
 pub use serving::serve;
 pub use status::Status;

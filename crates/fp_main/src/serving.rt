@@ -1,12 +1,14 @@
 ghost use Rattle.std.specs.Prelude.{map};
 ghost use Rattle.std.specs.String.{string_bytes};
 ghost use Rattle.fp_main.specs.Delivery.{sink_run};
-ghost use Rattle.fp_main.specs.Output.{Output, files_run};
+ghost use Rattle.fp_main.specs.FilesRun.{files_run};
+ghost use Rattle.fp_main.specs.Output.{Output};
 ghost use Rattle.fp_main.specs.Causes.{UsageMeans, ReadFaultMeans, NoFileMeans, RefusedMeans, DoneMeans, WriteFaultMeans, NoMemoryMeans, IsNoRun};
 ghost use Rattle.fp_main.specs.Causes.{UsageComes, ReadFaultComes, NoFileComes, RefusedComes, DoneComes, WriteFaultComes};
 
 use crate::answer::answer;
 use crate::deliver::deliver;
+use crate::gathering::one_reading;
 use crate::status::Status;
 use fp_base::NoMemory;
 use fp_outside::{Files, Gate, Sink};
@@ -112,5 +114,7 @@ where
         (sink_run O.told O.faults out.old out.new) (sink_run E.told E.faults diag.old diag.new)
         result }
 {
+    // for the clauses that say when a status comes
+    one_reading();
     write_answer(alloc, words, files, out, diag)
 }

@@ -4,8 +4,8 @@ ghost use Rattle.fp_main.specs.Words.{ReadsWords};
 
 /// What the words ask for.
 pub enum Command<'a> {
-    /// To list what the source in a file defines.
-    Check(&'a str),
+    /// To list what the source in some files defines.
+    Check(&'a [String]),
 }
 
 /// The command that the words spell, or the number of the first word that doesn't fit or is missing, counted from 1.
@@ -28,14 +28,9 @@ pub fn read_words(words: &[String]) -> Result<Command<'_>, u64>
 fn read_check(files: &[String]) -> Result<Command<'_>, u64>
     ensures { ReadsWords (codes "check" ∷ map string_bytes files.now) result }
 {
-    match files.split_first() {
-        None => Err(2),
-        Some((file, more)) => {
-            if more.is_empty() {
-                Ok(Command::Check(file.as_str()))
-            } else {
-                Err(3)
-            }
-        }
+    if files.is_empty() {
+        Err(2)
+    } else {
+        Ok(Command::Check(files))
     }
 }

@@ -2,4 +2,8 @@
 #![tactic(auto)]
 
 #[cfg(test)]
+mod serving;
+#[cfg(test)]
+mod several;
+#[cfg(test)]
 mod tests;

@@ -1,75 +1,6 @@
-ghost use Rattle.std.specs.Prelude.{◌≡◌, ◌≢◌};
-
-use fp_main::{Status, serve};
-use fp_outside::{MemFiles, MemSink, OpenGate};
-use std::alloc::{AllocError, Global};
-use std::sync::Wait;
+use crate::serving::{files_of, served};
+use fp_main::Status;
 use std::test::Fail;
-use std::thread::Threads;
-
-/// A sink that takes few bytes at each call, and fails at the call of this number (0: at none).
-fn sink(alloc: Global, most: usize, failing: u64) -> Result<MemSink, AllocError>
-    requires { most ≢ 0 }
-{
-    let Ok(mut sink) = MemSink::new(alloc, most, 8192) else {
-        return Err(AllocError);
-    };
-    if failing != 0 && sink.fail_at(failing).is_err() {
-        return Err(AllocError);
-    }
-    Ok(sink)
-}
-
-/// A file `a.fpp` of this text, of which the read of this number fails (0: none).
-fn files(alloc: Global, text: &[u8], failing: u64) -> Result<MemFiles, AllocError> {
-    let mut files = MemFiles::new(alloc);
-    if files.hold(alloc, "a.fpp", text).is_err() {
-        return Err(AllocError);
-    }
-    if failing != 0 && files.fail_at(failing).is_err() {
-        return Err(AllocError);
-    }
-    Ok(files)
-}
-
-fn owned(alloc: Global, words: &[&str]) -> Result<Vec<String>, AllocError> {
-    let mut all = Vec::new(alloc);
-    for word in words {
-        all.push(String::from_str(alloc, word)?)?;
-    }
-    Ok(all)
-}
-
-#[derive(Drop)]
-struct Seen {
-    status: Status,
-    out: MemSink,
-    diag: MemSink,
-}
-
-/// What `check a.fpp` leaves on sinks that take 8 bytes at each call.
-fn checked<R: Threads + Wait + Sync>(
-    rt: &R,
-    alloc: Global,
-    text: &[u8],
-    words: &[&str],
-    failing: (u64, u64, u64),
-) -> Result<Seen, AllocError> {
-    let words = owned(alloc, words)?;
-    let mut files = files(alloc, text, failing.0)?;
-    let mut out = sink(alloc, 8, failing.1)?;
-    let mut diag = sink(alloc, 8, failing.2)?;
-    let status = serve(
-        rt,
-        alloc,
-        words.as_slice(),
-        &mut files,
-        &mut out,
-        &mut diag,
-        &OpenGate,
-    );
-    Ok(Seen { status, out, diag })
-}
 
 /// What `check a.fpp` writes, and its status, where nothing fails.
 const ROWS: [(&str, &str, &str, Status); 29] = [
@@ -90,9 +21,9 @@ const ROWS: [(&str, &str, &str, Status); 29] = [
     ),
     (
         "constant a = 1\nconstant a = 2;",
-        "constant a = 1\nconstant a = 2\n",
         "",
-        Status::Done,
+        "a.fpp:2:10: N1 defined twice\n",
+        Status::Refused,
     ),
     (
         "constant = 3\n",
@@ -100,12 +31,7 @@ const ROWS: [(&str, &str, &str, Status); 29] = [
         "a.fpp:1:10: G1 unexpected token\n",
         Status::Refused,
     ),
-    (
-        "constant a = -1\n",
-        "",
-        "a.fpp:1:14: G1 unexpected token\n",
-        Status::Refused,
-    ),
+    ("constant a = -1\n", "constant a\n", "", Status::Done),
     (
         "constant a = ?\n",
         "",
@@ -125,19 +51,9 @@ const ROWS: [(&str, &str, &str, Status); 29] = [
         Status::Refused,
     ),
     ("constant a = 1 # c\n", "constant a = 1\n", "", Status::Done),
-    (
-        "constant a = 1.5\n",
-        "",
-        "a.fpp:1:14: G1 unexpected token\n",
-        Status::Refused,
-    ),
+    ("constant a = 1.5\n", "constant a\n", "", Status::Done),
     ("constant a = 0x10\n", "constant a = 16\n", "", Status::Done),
-    (
-        "constant a = \"x\"\n",
-        "",
-        "a.fpp:1:14: G1 unexpected token\n",
-        Status::Refused,
-    ),
+    ("constant a = \"x\"\n", "constant a\n", "", Status::Done),
     (
         "constant a = \"\"\"x\n\"\"",
         "",
@@ -152,9 +68,9 @@ const ROWS: [(&str, &str, &str, Status); 29] = [
     ),
     (
         "@ b\nconstant a = 1\n",
+        "constant a = 1\n",
         "",
-        "a.fpp:1:1: G1 unexpected token\n",
-        Status::Refused,
+        Status::Done,
     ),
     (
         "constant $port \\\n = 1\n",
@@ -192,22 +108,12 @@ const ROWS: [(&str, &str, &str, Status); 29] = [
         "a.fpp:1:16: G1 unexpected token\n",
         Status::Refused,
     ),
-    (
-        "port P\n",
-        "",
-        "a.fpp:1:1: G1 unexpected token\n",
-        Status::Refused,
-    ),
-    (
-        "module M { }\n",
-        "",
-        "a.fpp:1:1: G1 unexpected token\n",
-        Status::Refused,
-    ),
+    ("port P\n", "port P\n", "", Status::Done),
+    ("module M { }\n", "", "", Status::Done),
     (
         "topology T { }\n",
         "",
-        "a.fpp:1:1: G1 unexpected token\n",
+        "a.fpp:1:1: G3 form left out\n",
         Status::Refused,
     ),
     (
@@ -221,7 +127,7 @@ const ROWS: [(&str, &str, &str, Status); 29] = [
 
 /// Words, the numbers of the read, the write to out and the write to diag that fail (0: none), and what is left on the sinks of
 /// `constant a = 16`.
-const FAULTS: [(&[&str], (u64, u64, u64), &str, &str, Status); 22] = [
+const FAULTS: [(&[&str], (u64, u64, u64), &str, &str, Status); 24] = [
     (&[], (0, 0, 0), "", "fpp: usage at word 1\n", Status::Usage),
     (
         &["frob", "a.fpp"],
@@ -241,8 +147,8 @@ const FAULTS: [(&[&str], (u64, u64, u64), &str, &str, Status); 22] = [
         &["check", "a.fpp", "a.fpp"],
         (0, 0, 0),
         "",
-        "fpp: usage at word 3\n",
-        Status::Usage,
+        "a.fpp:1:10: N1 defined twice\n",
+        Status::Refused,
     ),
     (
         &["ports", "T", "a.fpp"],
@@ -268,6 +174,20 @@ const FAULTS: [(&[&str], (u64, u64, u64), &str, &str, Status); 22] = [
     (
         &["check", "a.fpp"],
         (1, 0, 0),
+        "",
+        "fpp: read fault a.fpp\n",
+        Status::ReadFault,
+    ),
+    (
+        &["check", "b.fpp", "a.fpp"],
+        (0, 0, 0),
+        "",
+        "fpp: no file b.fpp\n",
+        Status::NoFile,
+    ),
+    (
+        &["check", "a.fpp", "a.fpp"],
+        (2, 0, 0),
         "",
         "fpp: read fault a.fpp\n",
         Status::ReadFault,
@@ -362,14 +282,10 @@ const FAULTS: [(&[&str], (u64, u64, u64), &str, &str, Status); 22] = [
 
 #[test]
 fn lists_or_refuses(rt: HostRuntime) -> Result<(), Fail> {
+    let alloc = rt.alloc();
     for (text, out, diag, status) in ROWS {
-        let seen = checked(
-            &rt,
-            rt.alloc(),
-            text.as_bytes(),
-            &["check", "a.fpp"],
-            (0, 0, 0),
-        )?;
+        let mut files = files_of(alloc, &[("a.fpp", text)], 0)?;
+        let seen = served(&rt, alloc, &mut files, &["check", "a.fpp"], (0, 0))?;
         assert_eq!(rt; seen.status, status, "{text}");
         assert_eq!(rt; seen.out.bytes(), out.as_bytes(), "{text}");
         assert_eq!(rt; seen.diag.bytes(), diag.as_bytes(), "{text}");
@@ -379,11 +295,21 @@ fn lists_or_refuses(rt: HostRuntime) -> Result<(), Fail> {
 
 #[test]
 fn says_what_failed(rt: HostRuntime) -> Result<(), Fail> {
-    for (words, failing, out, diag, status) in FAULTS {
-        let seen = checked(&rt, rt.alloc(), b"constant a = 16\n", words, failing)?;
-        assert_eq!(rt; seen.status, status, "{words:?} {failing:?}");
-        assert_eq!(rt; seen.out.bytes(), out.as_bytes(), "{words:?} {failing:?}");
-        assert_eq!(rt; seen.diag.bytes(), diag.as_bytes(), "{words:?} {failing:?}");
+    let alloc = rt.alloc();
+    for (words, (read, write, say), out, diag, status) in FAULTS {
+        let mut files = files_of(alloc, &[("a.fpp", "constant a = 16\n")], read)?;
+        let seen = served(&rt, alloc, &mut files, words, (write, say))?;
+        assert_eq!(rt; seen.status, status, "{words:?} {read} {write} {say}");
+        assert_eq!(rt;
+            seen.out.bytes(),
+            out.as_bytes(),
+            "{words:?} {read} {write} {say}"
+        );
+        assert_eq!(rt;
+            seen.diag.bytes(),
+            diag.as_bytes(),
+            "{words:?} {read} {write} {say}"
+        );
     }
     Ok(())
 }

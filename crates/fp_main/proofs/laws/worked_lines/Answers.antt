@@ -4,7 +4,7 @@ use Rattle.fp_main.proofs.laws.worked_lines.Goals as goal
 
 pub returns-clause-listing : goal.returns-clause-listing
 unfolding digits
-returns-clause-listing c at = refl
+returns-clause-listing c d name value = rw (name, value) refl
 
 pub returns-clause-refusal : goal.returns-clause-refusal
 unfolding digits

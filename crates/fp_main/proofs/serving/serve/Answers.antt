@@ -28,19 +28,19 @@ pub returns-clause-no_run : goal.returns-clause-no_run
 returns-clause-no_run g c = no_run _ _ _ _ _ c.write_answer.ensures
 
 pub returns-clause-usage_comes : goal.returns-clause-usage_comes
-returns-clause-usage_comes g c = usage_comes _ _ _ _ _ c.write_answer.ensures
+returns-clause-usage_comes g c = usage_comes c.one_reading.ensures _ _ _ _ _ c.write_answer.ensures
 
 pub returns-clause-read_fault_comes : goal.returns-clause-read_fault_comes
-returns-clause-read_fault_comes g c = read_fault_comes _ _ _ _ _ c.write_answer.ensures
+returns-clause-read_fault_comes g c = read_fault_comes c.one_reading.ensures _ _ _ _ _ c.write_answer.ensures
 
 pub returns-clause-no_file_comes : goal.returns-clause-no_file_comes
-returns-clause-no_file_comes g c = no_file_comes _ _ _ _ _ c.write_answer.ensures
+returns-clause-no_file_comes g c = no_file_comes c.one_reading.ensures _ _ _ _ _ c.write_answer.ensures
 
 pub returns-clause-refused_comes : goal.returns-clause-refused_comes
-returns-clause-refused_comes g c = refused_comes _ _ _ _ _ c.write_answer.ensures
+returns-clause-refused_comes g c = refused_comes c.one_reading.ensures _ _ _ _ _ c.write_answer.ensures
 
 pub returns-clause-done_comes : goal.returns-clause-done_comes
-returns-clause-done_comes g c = done_comes _ _ _ _ _ c.write_answer.ensures
+returns-clause-done_comes g c = done_comes c.one_reading.ensures _ _ _ _ _ c.write_answer.ensures
 
 pub returns-clause-write_fault_comes : goal.returns-clause-write_fault_comes
-returns-clause-write_fault_comes g c = write_fault_comes _ _ _ _ _ c.write_answer.ensures
+returns-clause-write_fault_comes g c = write_fault_comes c.one_reading.ensures _ _ _ _ _ c.write_answer.ensures

@@ -1,3 +1,0 @@
-pub mod Broken
-pub mod Kinds
-pub mod Language

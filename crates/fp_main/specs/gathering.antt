@@ -1,0 +1,5 @@
+pub mod Answers
+pub mod Gathered
+pub mod Includes
+pub mod Reading
+pub mod Walks

@@ -1,0 +1,7 @@
+module Units {
+
+  constant PASCALS_PER_BAR = 100000
+
+  type Pascals = U32
+
+}
