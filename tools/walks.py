@@ -172,7 +172,7 @@ def inside():
 
 PRODUCTIONS = [
     row("negated", "negated_fits", [("minus", ""), ("operand", ".parses")], "sym c.in_ok-negative.ensures"),
-    row("group", "group_fits", [("opening", ""), ("inner", ".parses"), ("closing", "")], "sym c.grouped.ensures"),
+    row("group", "group_fits", [("opening", ""), ("inner", ".parses"), ("closing", "")], "sym c.in_ok-grouped.ensures"),
     row("bracketed", "array_fits", [("opening", ""), ("inner", ".parses"), ("closing", "")], "sym c.array.ensures"),
     row("braced", "structure_fits", [("opening", ""), ("inner", ".parses"), ("closing", "")], "sym c.structure.ensures"),
     row("setting", "setting_fits", [("name", ""), ("at", ""), ("value", ".parses")]),

@@ -5,6 +5,7 @@ use Rattle.std.proofs.lemmas.List.{take_all}
 use Rattle.std.proofs.lemmas.Option.{slice_get-map}
 use Rattle.fp_base.specs.declared.rule.Rule.TheVariants.{FloatUsed}
 use Rattle.fp_base.specs.declared.value.Value.{Int, Bool as Truly, Text as Words, Array as Listed, Struct as Structured}
+use Rattle.fp_base.specs.declared.place.Place.{Place}
 use Rattle.fp_tree.specs.declared.source.Source.{Source}
 use Rattle.fp_tree.specs.declared.name.Qual.{Qual}
 use Rattle.fp_tree.specs.declared.expression.Operator.{Operator}
@@ -12,7 +13,7 @@ use Rattle.fp_tree.specs.declared.expression.Expr.{Expr}
 use Rattle.fp_tree.specs.declared.expression.Assignment.{Assignment}
 use Rattle.fp_tree.specs.declared.expression.Form.{Form, out-Form, roll-Form, out-roll-Form}
 use Rattle.fp_tree.specs.declared.expression.Form.TheOpen as form
-use Rattle.fp_tree.specs.declared.expression.Form.TheVariants.{Number, rolls-Number, Float, rolls-Float, Text, rolls-Text, Truth, rolls-Truth, Use, rolls-Use, Minus, rolls-Minus, Binary, rolls-Binary, Array, rolls-Array, Struct, rolls-Struct}
+use Rattle.fp_tree.specs.declared.expression.Form.TheVariants.{Number, rolls-Number, Float, rolls-Float, Text, rolls-Text, Truth, rolls-Truth, Use, rolls-Use, Minus, rolls-Minus, Parentheses, rolls-Parentheses, Binary, rolls-Binary, Array, rolls-Array, Struct, rolls-Struct}
 use Rattle.fp_meaning.specs.declared.group.Group.TheVariants as group
 use Rattle.fp_meaning.specs.declared.names.Mention.{Mention}
 use Rattle.fp_meaning.specs.Least.{broken_at}
@@ -22,10 +23,10 @@ use Rattle.fp_consts.specs.declared.measured.Measured.{Measured}
 use Rattle.fp_consts.specs.declared.found.Found.{Found}
 use Rattle.fp_consts.specs.declared.gathered.Gathered.{Gathered}
 use Rattle.fp_consts.specs.declared.gathered.Whole.{Whole}
-use Rattle.fp_consts.specs.Examined.{AreGiven, IsFound, IsGathered, IsNext, IsSized, UsesNext, MinusFound, BinaryFound, leaf_of, found_of, Examines, ExaminesAll}
-use Rattle.fp_consts.proofs.Walks.{whole_uses, number_uses, float_uses, text_uses, truth_uses, use_uses, minus_uses, binary_uses, array_uses, struct_uses}
+use Rattle.fp_consts.specs.Examined.{AreGiven, IsFound, IsGathered, IsNext, IsSized, UsesNext, MinusFound, BinaryFound, leaf_of, found_of, Examines, ExaminesAll, ExaminesForm}
+use Rattle.fp_consts.proofs.Walks.{whole_uses, number_uses, float_uses, text_uses, truth_uses, use_uses, minus_uses, parentheses_uses, binary_uses, array_uses, struct_uses}
 use Rattle.fp_consts.proofs.Given.{given_split}
-use Rattle.fp_consts.proofs.Produced.{number_found, text_found, truth_found, float_found, use_found, minus_found, binary_found}
+use Rattle.fp_consts.proofs.Produced.{number_found, text_found, truth_found, float_found, use_found, minus_found, parentheses_found, binary_found}
 use Rattle.fp_consts.proofs.Gathering.{gathered_none, gathered_step}
 use Rattle.fp_consts.proofs.Sized.{array_whole, struct_whole, whole_found}
 
@@ -78,6 +79,12 @@ module _ (table : List (Option Measured)) (numbers : List ℕ) (e : Expr) (from 
       let uses = uses_by scope e (Minus a) (in_expression scope a) is (minus_uses scope a) in
       minus_found source scope e a from operand found (opened_by e (Minus a) (form.Minus a) is (sym (rolls-Minus a))) uses (inner source scope (same_given source uses given)) f
 
+  pub parentheses_arm : (a : Expr) (found : Found) → e.form ≡ Parentheses a → Examines table numbers a from found → Examines table numbers e from found
+  parentheses_arm a found is inner source scope given =
+      let uses = uses_by scope e (Parentheses a) (in_expression scope a) is (parentheses_uses scope a) in
+      parentheses_found source scope e a from found (opened_by e (Parentheses a) (form.Parentheses a) is (sym (rolls-Parentheses a))) uses
+      (inner source scope (same_given source uses given))
+
   pub binary_arm : (operator : Operator) (a b : Expr) (left right found : Found) → e.form ≡ Binary operator a b → Examines table numbers a from left
       → Examines table numbers b left.next right → BinaryFound e.at.first operator a.at.first b.at.first left right found → Examines table numbers e from found
   binary_arm operator a b left right found is one other f source scope given =
@@ -102,6 +109,18 @@ module _ (table : List (Option Measured)) (numbers : List ℕ) (e : Expr) (from 
       subst (λ (x : Found). IsFound source scope e from x) (sym f)
       (whole_found source scope (values_in members) (λ vs. Structured (parts_with members vs)) e (form.Struct members) (struct_whole source scope members) (opened_by e (Struct members) (form.Struct members) is (sym (rolls-Struct members))) from g whole uses
       (all source scope (same_given source uses given)) sized)
+
+module _ (table : List (Option Measured)) (numbers : List ℕ) (place : Place) (from : ℕ) where
+  pub list_made : (items : List Expr) (g : Gathered) (whole : Whole) (found : Found) → ExaminesAll table numbers items from g
+      → IsSized place g whole → found ≡ found_of Listed whole → ExaminesForm table numbers (Array items) place from found
+  list_made items g whole found all sized f e is at =
+      array_arm table numbers e from items g whole found is all (subst (λ (p : Place). IsSized p g whole) (sym at) sized) f
+
+  pub struct_made : (members : List Assignment) (g : Gathered) (whole : Whole) (found : Found)
+      → ExaminesAll table numbers (values_in members) from g → IsSized place g whole
+      → found ≡ found_of (λ vs. Structured (parts_with members vs)) whole → ExaminesForm table numbers (Struct members) place from found
+  struct_made members g whole found all sized f e is at =
+      struct_arm table numbers e from members g whole found is all (subst (λ (p : Place). IsSized p g whole) (sym at) sized) f
 
 -- so many of the expressions were examined
 abbrev pub Gathers : List (Option Measured) → List ℕ → List Expr → ℕ → ℕ → Gathered → Type 0

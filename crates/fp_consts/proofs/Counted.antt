@@ -9,7 +9,7 @@ use Rattle.fp_tree.specs.declared.expression.Operator.{Operator}
 use Rattle.fp_tree.specs.declared.expression.Expr.{Expr}
 use Rattle.fp_tree.specs.declared.expression.Assignment.{Assignment}
 use Rattle.fp_tree.specs.declared.expression.Form.{Form}
-use Rattle.fp_tree.specs.declared.expression.Form.TheVariants.{Use, Minus, Binary, Array, Struct}
+use Rattle.fp_tree.specs.declared.expression.Form.TheVariants.{Use, Minus, Parentheses, Binary, Array, Struct}
 use Rattle.fp_meaning.specs.declared.group.Group.TheVariants as group
 use Rattle.fp_meaning.specs.declared.names.Mention.{Mention}
 use Rattle.fp_meaning.specs.Names.{Path, mentioned, in_form, in_expression}
@@ -19,7 +19,7 @@ use Rattle.fp_consts.specs.declared.pieces.Piece.{Piece}
 use Rattle.fp_consts.specs.declared.laying.Laid.{Laid}
 use Rattle.fp_consts.specs.Pieces.{places_in}
 use Rattle.fp_consts.specs.Laid.{past, IsPast, next_of, spans_of, spans_from, spots_of, spots_from, IsLaidWith}
-use Rattle.fp_consts.proofs.Walks.{use_uses, minus_uses, binary_uses, array_uses, struct_uses}
+use Rattle.fp_consts.proofs.Walks.{use_uses, minus_uses, parentheses_uses, binary_uses, array_uses, struct_uses}
 use Rattle.fp_consts.proofs.Arms.{uses_by}
 
 past_none : (limit next : ℕ) → next ≡ past 0 limit next
@@ -51,6 +51,10 @@ module _ (e : Expr) (limit next reached : ℕ) where
 
   pub past_minus : (a : Expr) → e.form ≡ Minus a → PastOne a limit next reached → PastOne e limit next reached
   past_minus a is h scope = past_same limit next reached (uses_by scope e (Minus a) (in_expression scope a) is (minus_uses scope a)) (h scope)
+
+  pub past_parentheses : (a : Expr) → e.form ≡ Parentheses a → PastOne a limit next reached → PastOne e limit next reached
+  past_parentheses a is h scope =
+      past_same limit next reached (uses_by scope e (Parentheses a) (in_expression scope a) is (parentheses_uses scope a)) (h scope)
 
   pub past_binary : (operator : Operator) (a b : Expr) (between : ℕ) → e.form ≡ Binary operator a b → PastOne a limit next between → PastOne b limit between reached
       → PastOne e limit next reached

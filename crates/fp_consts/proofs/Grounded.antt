@@ -8,17 +8,17 @@ use Rattle.fp_tree.specs.declared.name.Qual.{Qual}
 use Rattle.fp_tree.specs.declared.expression.Expr.{Expr}
 use Rattle.fp_tree.specs.declared.expression.Form.{roll-Form, roll-out-Form}
 use Rattle.fp_tree.specs.declared.expression.Form.TheOpen as form
-use Rattle.fp_tree.specs.declared.expression.Form.TheVariants.{rolls-Number, rolls-Float, rolls-Text, rolls-Truth, rolls-Use, rolls-Minus, rolls-Binary, rolls-Array, rolls-Struct}
+use Rattle.fp_tree.specs.declared.expression.Form.TheVariants.{rolls-Number, rolls-Float, rolls-Text, rolls-Truth, rolls-Use, rolls-Minus, rolls-Parentheses, rolls-Binary, rolls-Array, rolls-Struct}
 use Rattle.fp_meaning.specs.declared.group.Group.TheVariants as group
 use Rattle.fp_meaning.specs.declared.names.Mention.{Mention}
 use Rattle.fp_meaning.specs.Names.{Path, definitions, mentioned, in_form, in_expression}
 use Rattle.fp_meaning.specs.Meaning.{Means}
 use Rattle.fp_meaning.specs.Origins.{Placed, placed, placed_optional, Origin, Constant, Enumerated, NoValue, origins, written_in}
-use Rattle.fp_meaning.specs.Values.{Opened, opened, names_of, values_in, MeansOrigin, Val, number, text, truth, constant, written, implied, negated, combined, listed, structured, Vals, none, more}
+use Rattle.fp_meaning.specs.Values.{Opened, opened, names_of, values_in, MeansOrigin, Val, number, text, truth, constant, written, implied, negated, combined, enclosed, listed, structured, Vals, none, more}
 use Rattle.fp_meaning.specs.ConstantFaults.{Uses, Reaches, IsOnCycle}
 use Rattle.fp_meaning.proofs.Meanings.{one_meaning}
 use Rattle.fp_consts.specs.Examined.{HasValue, GivesValue}
-use Rattle.fp_consts.proofs.Walks.{whole_uses, number_uses, float_uses, text_uses, truth_uses, use_uses, minus_uses, binary_uses, array_uses, struct_uses}
+use Rattle.fp_consts.proofs.Walks.{whole_uses, number_uses, float_uses, text_uses, truth_uses, use_uses, minus_uses, parentheses_uses, binary_uses, array_uses, struct_uses}
 
 -- each chain of uses from the definition on ends
 pub data Grounded (source : Source) : ℕ → Type 0 where
@@ -28,6 +28,7 @@ pub data Grounded (source : Source) : ℕ → Type 0 where
 abbrev pub open_uses : Path → Opened → List Mention
 open_uses scope (form.Use name) = mentioned group.Value scope name ∷ []
 open_uses scope (form.Minus a) = in_expression scope a
+open_uses scope (form.Parentheses a) = in_expression scope a
 open_uses scope (form.Binary operator a b) = in_expression scope a ++ in_expression scope b
 open_uses scope (form.Array items) = flat_map (in_expression scope) items
 open_uses scope (form.Struct members) = flat_map (in_expression scope) (values_in members)
@@ -40,6 +41,7 @@ rolled_uses scope (form.Text t) = ap (in_form scope) (rolls-Text t) ∙ text_use
 rolled_uses scope (form.Truth b) = ap (in_form scope) (rolls-Truth b) ∙ truth_uses scope b
 rolled_uses scope (form.Use name) = ap (in_form scope) (rolls-Use name) ∙ use_uses scope name
 rolled_uses scope (form.Minus a) = ap (in_form scope) (rolls-Minus a) ∙ minus_uses scope a
+rolled_uses scope (form.Parentheses a) = ap (in_form scope) (rolls-Parentheses a) ∙ parentheses_uses scope a
 rolled_uses scope (form.Binary operator a b) = ap (in_form scope) (rolls-Binary operator a b) ∙ binary_uses scope operator a b
 rolled_uses scope (form.Array items) = ap (in_form scope) (rolls-Array items) ∙ array_uses scope items
 rolled_uses scope (form.Struct members) = ap (in_form scope) (rolls-Struct members) ∙ struct_uses scope members
@@ -109,6 +111,7 @@ module _ (source : Source) where
       | inl l ↦ grounded h m (in_whole scope a m l) used means
       | inr l ↦ grounded k m (in_whole scope b m l) used means
     ]
+    grounded {scope = scope} (enclosed {a = a} h) m there used means = grounded h m (in_whole scope a m there) used means
     grounded (listed hs within) m there used means = grounded_all hs m there used means
     grounded (structured hs within) m there used means = grounded_all hs m there used means
 

@@ -54,6 +54,7 @@ by_form (form.Text t) scope = subst AreValueNames (sym (rolled_uses scope (form.
 by_form (form.Truth b) scope = subst AreValueNames (sym (rolled_uses scope (form.Truth b))) no_names
 by_form (form.Use name) scope = subst AreValueNames (sym (rolled_uses scope (form.Use name))) (one_name _ refl)
 by_form (form.Minus a) scope = subst AreValueNames (sym (rolled_uses scope (form.Minus a.0))) (a.1 scope)
+by_form (form.Parentheses a) scope = subst AreValueNames (sym (rolled_uses scope (form.Parentheses a.0))) (a.1 scope)
 by_form (form.Binary operator a b) scope =
     subst AreValueNames (sym (rolled_uses scope (form.Binary operator a.0 b.0))) (both_names (in_expression scope a.0) (in_expression scope b.0) (a.1 scope) (b.1 scope))
 by_form (form.Array items) scope = subst AreValueNames (sym (rolled_uses scope (form.Array (map (λ t. t.0) items)))) (items_names scope items)

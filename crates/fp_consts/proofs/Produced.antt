@@ -13,9 +13,9 @@ use Rattle.fp_meaning.specs.declared.group.Group.TheVariants as group
 use Rattle.fp_meaning.specs.declared.names.Mention.{Mention}
 use Rattle.fp_meaning.specs.Least.{Either, broken_at, lesser_of}
 use Rattle.fp_meaning.specs.Names.{Path, mentioned, in_expression}
-use Rattle.fp_meaning.specs.Values.{Opened, opened, Val, number, text, truth, IsValue}
+use Rattle.fp_meaning.specs.Values.{Opened, opened, Val, number, text, truth, enclosed, IsValue}
 use Rattle.fp_meaning.specs.ConstantFaults.{BrokenHere, float}
-use Rattle.fp_meaning.proofs.Calculus.{least_one, least_along, least_either}
+use Rattle.fp_meaning.proofs.Calculus.{least_none, least_one, least_along, least_either}
 use Rattle.fp_consts.specs.declared.measured.Measured.{Measured}
 use Rattle.fp_consts.specs.declared.found.Found.{Found}
 use Rattle.fp_consts.specs.Operands.{operand_of, KindFault, NegationFault}
@@ -132,6 +132,23 @@ module _ (source : Source) (scope : Path) where
             (least_either m.broken m.kind m.is_broken m.is_kind) (parts_one source scope a operand.first f.first));
         next = m.next ∙ f.next ∙ ap (λ (ms : List Mention). from + length ms) (sym uses);
       }
+
+  enclosed_value : {a : Expr} (v : Value) → Val source scope (form.Parentheses a) v → Val source scope (opened a) v
+  enclosed_value v (enclosed h) = h
+
+  -- parentheses have the value of what stands in them, and break nothing by themselves
+  pub parentheses_found : (e a : Expr) (from : ℕ) (found : Found) → opened e ≡ form.Parentheses a → in_expression scope e ≡ in_expression scope a
+      → IsFound source scope a from found → IsFound source scope e from found
+  parentheses_found e a from found is uses f = record {
+    measured = f.measured;
+    value =
+        value_at_form e (form.Parentheses a) (plain found.value) (plain found.value) is refl
+        (record { holds = λ v h. enclosed (f.value.holds v h); only = λ v h. f.value.only v (enclosed_value v h) });
+    first =
+        broken_whole source scope e (form.Parentheses a) (λ f. ⊥) None found.first is (λ f p. absurd p) (λ f h. elim h [ ]) (least_none (λ f p. p))
+        (parts_one source scope a found.first f.first);
+    next = f.next ∙ ap (λ (ms : List Mention). from + length ms) (sym uses);
+  }
 
   pub binary_found : (e a b : Expr) (operator : Operator) (from : ℕ) (left right found : Found) → opened e ≡ form.Binary operator a b
       → in_expression scope e ≡ in_expression scope a ++ in_expression scope b

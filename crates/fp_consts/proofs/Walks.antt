@@ -7,7 +7,7 @@ use Rattle.fp_tree.specs.declared.expression.Expr.{Expr, fold_out-Expr}
 use Rattle.fp_tree.specs.declared.expression.Assignment.{Assignment, fold_out-Assignment}
 use Rattle.fp_tree.specs.declared.expression.Form.{fold-roll-Form}
 use Rattle.fp_tree.specs.declared.expression.Form.TheOpen as form
-use Rattle.fp_tree.specs.declared.expression.Form.TheVariants.{Number, rolls-Number, Float, rolls-Float, Text, rolls-Text, Truth, rolls-Truth, Use, rolls-Use, Minus, rolls-Minus, Binary, rolls-Binary, Array, rolls-Array, Struct, rolls-Struct}
+use Rattle.fp_tree.specs.declared.expression.Form.TheVariants.{Number, rolls-Number, Float, rolls-Float, Text, rolls-Text, Truth, rolls-Truth, Use, rolls-Use, Minus, rolls-Minus, Parentheses, rolls-Parentheses, Binary, rolls-Binary, Array, rolls-Array, Struct, rolls-Struct}
 use Rattle.fp_meaning.specs.declared.group.Group.TheVariants as group
 use Rattle.fp_meaning.specs.declared.names.Mention.{Mention}
 use Rattle.fp_meaning.specs.Names.{Path, mentioned, form_step, assignment_step, expression_step, in_form, in_expression, in_assignment}
@@ -34,6 +34,11 @@ module _ (scope : Path) where
 
   pub minus_uses : (a : Expr) → in_form scope (Minus a) ≡ in_expression scope a
   minus_uses a = ap (in_form scope) (sym (rolls-Minus a)) ∙ fold-roll-Form (List Mention) (List Mention) (List Mention) (form_step scope) (assignment_step scope) (expression_step scope) (form.Minus a)
+
+  pub parentheses_uses : (a : Expr) → in_form scope (Parentheses a) ≡ in_expression scope a
+  parentheses_uses a =
+      ap (in_form scope) (sym (rolls-Parentheses a))
+      ∙ fold-roll-Form (List Mention) (List Mention) (List Mention) (form_step scope) (assignment_step scope) (expression_step scope) (form.Parentheses a)
 
   pub binary_uses : (operator : Operator) (a b : Expr) → in_form scope (Binary operator a b) ≡ in_expression scope a ++ in_expression scope b
   binary_uses operator a b =

@@ -7,6 +7,7 @@ use Rattle.fp_base.specs.declared.place.Place.{Place}
 use Rattle.fp_tree.specs.declared.source.Source.{Source}
 use Rattle.fp_tree.specs.declared.expression.Operator.{Operator}
 use Rattle.fp_tree.specs.declared.expression.Expr.{Expr}
+use Rattle.fp_tree.specs.declared.expression.Form.{Form}
 use Rattle.fp_meaning.specs.declared.names.Mention.{Mention}
 use Rattle.fp_meaning.specs.Least.{IsLeast, InSome, broken_at, lesser_of}
 use Rattle.fp_meaning.specs.Names.{Path, definitions, in_expression}
@@ -161,6 +162,10 @@ pub record IsGathered (source : Source) (scope : Path) (es : List Expr) (from : 
 abbrev pub Examines : List (Option Measured) → List ℕ → Expr → ℕ → Found → Type 0
 Examines table numbers e from found =
     (source : Source) (scope : Path) → AreGiven source table numbers (in_expression scope e) from → IsFound source scope e from found
+
+-- the same of every expression of this form that begins at this place
+abbrev pub ExaminesForm : List (Option Measured) → List ℕ → Form → Place → ℕ → Found → Type 0
+ExaminesForm table numbers form place from found = (e : Expr) → e.form ≡ form → e.at.first ≡ place → Examines table numbers e from found
 
 abbrev pub ExaminesAll : List (Option Measured) → List ℕ → List Expr → ℕ → Gathered → Type 0
 ExaminesAll table numbers es from g =

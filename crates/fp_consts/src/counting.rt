@@ -26,6 +26,7 @@ fn past_expression(expression: &Expr, next: usize, limit: usize) -> usize
         Form::Truth(_) => next,
         Form::Use(_) => past_use(next, limit),
         Form::Minus(operand) => past_expression(operand.get(), next, limit),
+        Form::Parentheses(inner) => past_expression(inner.get(), next, limit),
         Form::Binary { left, right, .. } => {
             let between = past_expression(left.get(), next, limit);
             past_expression(right.get(), between, limit)

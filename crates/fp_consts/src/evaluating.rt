@@ -14,17 +14,10 @@ use crate::laying::lay;
 use crate::marking::marked;
 use crate::pieces::pieces_of;
 use crate::tabling::table_of;
-use fp_base::{NoMemory, Refusal, Row, Stop, Value};
-use fp_meaning::lesser;
+use fp_base::{NoMemory, Row, Stop, Value};
+use fp_meaning::{Marks, lesser};
 use fp_tree::{Source, Uses, Values};
 use std::alloc::Global;
-
-/// The value of each expression of a source, in source order, where it has one, and the least of what is broken by constants.
-#[derive(Debug, Drop)]
-pub struct Marks {
-    pub at: Row<Option<Value>>,
-    pub first: Option<Refusal>,
-}
 
 /// The values of the expressions of a source, and the least rule that its constants break. Each definition is evaluated once, and each
 /// expression that gives a definition its value is examined once more.

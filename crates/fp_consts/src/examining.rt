@@ -1,11 +1,11 @@
 ghost use Rattle.std.specs.Prelude.{IfOk};
-ghost use Rattle.fp_meaning.specs.Values.{values_in};
-ghost use Rattle.fp_consts.specs.Examined.{Examines, ExaminesAll};
+ghost use Rattle.fp_tree.specs.declared.expression.Form.TheVariants.{Array, Struct};
+ghost use Rattle.fp_consts.specs.Examined.{Examines, ExaminesForm};
 
 use crate::found::{Found, binary, float, minus, simple, text, used};
-use crate::gathered::{Gathered, begun, extended, listed, sized, structured};
+use crate::gathered::{begun, extended, listed, sized, structured};
 use crate::measured::Measured;
-use fp_base::{NoMemory, Value};
+use fp_base::{NoMemory, Place, Value};
 use fp_tree::{Assignment, Expr, Form};
 use std::alloc::Global;
 
@@ -33,6 +33,7 @@ pub fn examine(
             let within = examine(alloc, operand, table, meanings, next)?;
             Ok(minus(place, operand.at.first, within))
         }
+        Form::Parentheses(inner) => examine(alloc, inner.get(), table, meanings, next),
         Form::Binary {
             operator,
             left,
@@ -44,56 +45,53 @@ pub fn examine(
             let other = examine(alloc, right, table, meanings, one.next)?;
             Ok(binary(place, *operator, left.at.first, right.at.first, one, other))
         }
-        Form::Array(items) => {
-            let gathered = gather(alloc, items.as_slice(), table, meanings, next)?;
-            Ok(listed(sized(place, gathered)))
-        }
-        Form::Struct(members) => {
-            let members = members.as_slice();
-            let gathered = gather_members(alloc, members, table, meanings, next)?;
-            structured(alloc, members, sized(place, gathered))
-        }
+        Form::Array(items) => of_list(alloc, place, items.as_slice(), table, meanings, next),
+        Form::Struct(members) => of_struct(alloc, place, members.as_slice(), table, meanings, next),
     }
 }
 
+/// What is found of a list that begins at `place`.
 #[cycle(examine)]
-fn gather(
+fn of_list(
     alloc: Global,
+    place: Place,
     items: &[Expr],
     table: &[Option<Measured>],
     meanings: &[u32],
     next: usize,
-) -> Result<Gathered, NoMemory>
-    ensures { IfOk result (ExaminesAll table.now meanings.now items.now next) }
+) -> Result<Found, NoMemory>
+    ensures { IfOk result (ExaminesForm table.now meanings.now (Array items.now) place next) }
 {
     let mut gathered = begun(alloc, next);
     for item in items {
         let found = examine(alloc, item, table, meanings, gathered.next)?;
         gathered = extended(alloc, gathered, found)?;
     }
-    Ok(gathered)
+    Ok(listed(sized(place, gathered)))
 }
 
+/// What is found of a struct that begins at `place`.
 #[cycle(examine)]
-fn gather_members(
+fn of_struct(
     alloc: Global,
+    place: Place,
     members: &[Assignment],
     table: &[Option<Measured>],
     meanings: &[u32],
     next: usize,
-) -> Result<Gathered, NoMemory>
-    ensures { IfOk result (ExaminesAll table.now meanings.now (values_in members.now) next) }
+) -> Result<Found, NoMemory>
+    ensures { IfOk result (ExaminesForm table.now meanings.now (Struct members.now) place next) }
 {
     let mut gathered = begun(alloc, next);
     for member in members {
-        let found = examine_member(alloc, member, table, meanings, gathered.next)?;
+        let found = of_member(alloc, member, table, meanings, gathered.next)?;
         gathered = extended(alloc, gathered, found)?;
     }
-    Ok(gathered)
+    structured(alloc, members, sized(place, gathered))
 }
 
 #[cycle(examine)]
-fn examine_member(
+fn of_member(
     alloc: Global,
     member: &Assignment,
     table: &[Option<Measured>],

@@ -25,7 +25,7 @@ mod visit;
 pub use chains::chain_faults;
 pub use components::{Sorted, in_order};
 pub use depths::too_deep;
-pub use evaluating::{Marks, evaluate, evaluate_all};
+pub use evaluating::{evaluate, evaluate_all};
 pub use examining::examine;
 pub use found::Found;
 pub use laws::{never_opaque, none_on_cycle, parts_are_whole, settled_is_exact};

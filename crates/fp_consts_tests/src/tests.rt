@@ -1,4 +1,4 @@
-use crate::valued::differing;
+use crate::valued::{answering, differing};
 use std::test::Fail;
 
 // Sources, the values of their expressions in source order, and the rule that is broken first.
@@ -62,7 +62,7 @@ static BOUNDS: [(&str, &str, &str); 8] = [
     (
         "constant a = 1 - (170141183460469231731687303715884105727 + 1)",
         "none",
-        "V2 outside 128 bits 0:1:18",
+        "V2 outside 128 bits 0:1:19",
     ),
     (
         "constant a = -170141183460469231731687303715884105727 - 1 + 1\nconstant b = -a",
@@ -264,6 +264,73 @@ static FIRST: [(&str, &str, &str); 8] = [
     ),
 ];
 
+static PARENTHESES: [(&str, &str, &str); 12] = [
+    (
+        "constant a = ((7))\nconstant b = (\"x\")\nconstant c = ([1, (true)])",
+        "7; \"x\"; [1, true]",
+        "",
+    ),
+    (
+        "constant a = (1 + 2) * 3\nconstant b = -(2)\nconstant c = 10 - (3 - 2)",
+        "9; -2; 9",
+        "",
+    ),
+    (
+        "enum E { A = (3) }\nconstant a = (E.A)\nconstant b = (a) + 1",
+        "3; A; 4",
+        "",
+    ),
+    ("constant a = (1.5)", "none", "V1 float 0:1:15"),
+    ("constant a = ((1 / 0))", "none", "V3 zero divisor 0:1:16"),
+    (
+        "constant a = (170141183460469231731687303715884105727 + 1)",
+        "none",
+        "V2 outside 128 bits 0:1:15",
+    ),
+    (
+        "constant a = -(-170141183460469231731687303715884105727 - 1)",
+        "none",
+        "V2 outside 128 bits 0:1:14",
+    ),
+    (
+        "constant a = 1 + ((\"x\"))",
+        "none",
+        "V4 operand kind 0:1:18",
+    ),
+    ("constant a = -(\"x\")", "none", "V4 operand kind 0:1:15"),
+    (
+        "constant a = (b)\nconstant b = 1 + (a)",
+        "none; none",
+        "V5 cycle 0:1:10",
+    ),
+    (
+        "constant a = (\"x\") + (1.5)",
+        "none",
+        "V4 operand kind 0:1:14",
+    ),
+    ("constant a = (1.5) + (\"x\")", "none", "V1 float 0:1:15"),
+];
+
+// Sources, and the values that stand for their expressions, or the rule that is broken first.
+static ANSWERS: [(&str, &str); 7] = [
+    ("", ""),
+    (
+        "constant a = 2 + 3\nconstant b = [a, (true)]",
+        "5; [5, true]",
+    ),
+    ("constant z = 1 / 0", "V3 zero divisor 0:1:14"),
+    ("enum E { A = 1, B }\nconstant b = E.B", "1; opaque"),
+    (
+        "enum E { A = 1, B }\nconstant b = [E.B]\nconstant c = E.A",
+        "1; opaque; A",
+    ),
+    ("constant a = 1\nconstant b = (1.5)", "V1 float 0:2:15"),
+    (
+        "constant a = 1\nconstant b = c\nconstant c = b",
+        "V5 cycle 0:2:10",
+    ),
+];
+
 #[test]
 fn literals_are_their_values(rt: HostRuntime) -> Result<(), Fail> {
     assert_eq!(rt; differing(rt.alloc(), &LITERALS)?.as_str(), "");
@@ -321,5 +388,17 @@ fn lists_and_structs_have_their_parts(rt: HostRuntime) -> Result<(), Fail> {
 #[test]
 fn the_first_place_decides(rt: HostRuntime) -> Result<(), Fail> {
     assert_eq!(rt; differing(rt.alloc(), &FIRST)?.as_str(), "");
+    Ok(())
+}
+
+#[test]
+fn parentheses_leave_the_value(rt: HostRuntime) -> Result<(), Fail> {
+    assert_eq!(rt; differing(rt.alloc(), &PARENTHESES)?.as_str(), "");
+    Ok(())
+}
+
+#[test]
+fn evaluate_gives_all_values_or_the_first_rule(rt: HostRuntime) -> Result<(), Fail> {
+    assert_eq!(rt; answering(rt.alloc(), &ANSWERS)?.as_str(), "");
     Ok(())
 }

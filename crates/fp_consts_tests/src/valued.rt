@@ -1,9 +1,10 @@
 use fp_base::{NoMemory, Refusal, Row, Stop, Text, Value};
-use fp_consts::{Marks, evaluate_all};
+use fp_consts::{evaluate, evaluate_all};
 use fp_lexer::lex;
+use fp_meaning::Marks;
 use fp_names::{collect, uses};
 use fp_parse_parts::{Inside, Members, parse};
-use fp_tree::{Source, Unit};
+use fp_tree::{Source, Unit, Values};
 use std::alloc::Global;
 
 fn unit(alloc: Global, file: u32, text: &str) -> Result<Unit, Stop> {
@@ -32,6 +33,13 @@ fn marks(alloc: Global, first: &str, second: &str) -> Result<Marks, Stop> {
     Ok(marks)
 }
 
+fn values(alloc: Global, text: &str) -> Result<Values, Stop> {
+    let source = source(alloc, text, "")?;
+    let names = collect(alloc, &source)?;
+    let meant = uses(alloc, &source, &names)?;
+    evaluate(alloc, &source, &meant)
+}
+
 /// What is seen of a source.
 #[derive(Drop)]
 pub struct Seen {
@@ -50,25 +58,38 @@ fn refused(alloc: Global, refusal: Refusal) -> Result<Text, NoMemory> {
     Text::from_str(alloc, text.as_str())
 }
 
-fn print_value(alloc: Global, value: &Option<Value>, out: &mut Text) -> Result<(), NoMemory> {
-    let Some(value) = value else {
-        return out.push_str("none");
-    };
+/// Adds a value behind those that are there.
+fn push_value(alloc: Global, value: &Value, out: &mut Text) -> Result<(), NoMemory> {
     let mut bytes = Row::new(alloc);
     value.print(alloc, &mut bytes)?;
     match Text::from_utf8(alloc, bytes.as_slice())? {
-        Some(text) => out.push_str(text.as_str()),
-        None => out.push_str("no text"),
+        Some(text) => push_word(text.as_str(), out),
+        None => push_word("no text", out),
     }
 }
 
-fn values_text(alloc: Global, values: &[Option<Value>]) -> Result<Text, NoMemory> {
+fn push_word(word: &str, out: &mut Text) -> Result<(), NoMemory> {
+    if out.len() > 0 {
+        out.push_str("; ")?;
+    }
+    out.push_str(word)
+}
+
+fn marks_text(alloc: Global, values: &[Option<Value>]) -> Result<Text, NoMemory> {
     let mut out = Text::new(alloc);
     for value in values {
-        if out.len() > 0 {
-            out.push_str("; ")?;
+        match value {
+            Some(value) => push_value(alloc, value, &mut out)?,
+            None => push_word("none", &mut out)?,
         }
-        print_value(alloc, value, &mut out)?;
+    }
+    Ok(out)
+}
+
+fn values_text(alloc: Global, values: &[Value]) -> Result<Text, NoMemory> {
+    let mut out = Text::new(alloc);
+    for value in values {
+        push_value(alloc, value, &mut out)?;
     }
     Ok(out)
 }
@@ -80,7 +101,7 @@ fn seen_of_marks(alloc: Global, marks: &Marks) -> Result<Seen, NoMemory> {
         None => Text::new(alloc),
     };
     Ok(Seen {
-        values: values_text(alloc, values)?,
+        values: marks_text(alloc, values)?,
         count: values.iter().filter(|value| value.is_some()).count(),
         first,
     })
@@ -110,6 +131,29 @@ pub fn differing(alloc: Global, table: &[(&str, &str, &str)]) -> Result<Text, No
             out.push_str(seen.values.as_str())?;
             out.push_str(" and breaks ")?;
             out.push_str(seen.first.as_str())?;
+        }
+    }
+    Ok(out)
+}
+
+/// What `evaluate` answers of a file: the values of its expressions, or the rule that is broken first.
+fn answer(alloc: Global, text: &str) -> Result<Text, NoMemory> {
+    match values(alloc, text) {
+        Ok(values) => values_text(alloc, values.at.as_slice()),
+        Err(Stop::Broken(refusal)) => refused(alloc, refusal),
+        Err(Stop::NoMemory) => Err(NoMemory),
+    }
+}
+
+/// The sources for which `evaluate` answers something else than what stands beside them, each with its answer.
+pub fn answering(alloc: Global, table: &[(&str, &str)]) -> Result<Text, NoMemory> {
+    let mut out = Text::new(alloc);
+    for (text, expected) in table {
+        let answer = answer(alloc, text)?;
+        if answer.as_str() != *expected {
+            out.push_str(text)?;
+            out.push_str(" has ")?;
+            out.push_str(answer.as_str())?;
         }
     }
     Ok(out)

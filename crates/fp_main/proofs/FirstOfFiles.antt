@@ -1,16 +1,15 @@
 -- The first rule that gathered files break.
-use Rattle.std.proofs.Common.{◌≡◌, ℕ, List, [], ◌∷◌, length, map, Option, Some, None, refl, inl, inr, sym, ap, subst, ◌∙◌, arith}
-use Rattle.std.specs.Prelude.{◌≢◌, Contains, IsSomeAnd, Result, Ok, Err, IsErrAnd}
+use Rattle.std.proofs.Common.{◌≡◌, ℕ, List, [], ◌∷◌, length, map, Option, Some, None, refl, sym, ap, subst, ◌∙◌, arith}
+use Rattle.std.specs.Prelude.{◌≢◌, Contains, Result, Ok, Err, IsErrAnd}
 use Rattle.fp_base.specs.declared.refusal.Refusal.{Refusal}
 use Rattle.fp_tree.specs.declared.member.Member.{Member}
 use Rattle.fp_tree.specs.declared.member.Unit.{Unit as File}
 use Rattle.fp_tree.specs.declared.source.Source.{Source}
 use Rattle.fp_meaning.specs.Broken.{NamesBroken}
-use Rattle.fp_meaning.specs.Least.{Either, IsLeast, IsUnbroken, NoLater, earlier_of, lesser_of}
+use Rattle.fp_meaning.specs.Least.{IsLeast, IsUnbroken, earlier_of, lesser_of}
 use Rattle.fp_meaning.proofs.Calculus.{least_none, least_along, least_same, least_either, least_phased, none_broken}
 use Rattle.fp_main.specs.gathering.Answers.{Concludes, Knows}
-use Rattle.fp_main.specs.gathering.Gathered.{BrokenIncludes, FilesBroken, InFiles, SourceBroken, file_of, name_of, names_read, source_of}
-use Rattle.fp_main.specs.gathering.Reading.{BreaksTokens, BreaksGrammar}
+use Rattle.fp_main.specs.gathering.Gathered.{BrokenIncludes, FilesBroken, file_of, name_of, names_read, source_of}
 use Rattle.fp_main.specs.gathering.Walks.{Walked}
 use Rattle.fp_main.specs.declared.gathering.Halt.{Halt}
 use Rattle.fp_main.specs.declared.gathering.Halt.TheVariants as halt
@@ -68,42 +67,3 @@ module _ (progress : Progress) (files : List (List Member)) (units : List File) 
 pub out_of_memory : (walked : Walked) (units : List (List Member)) (r : Result Source Halt) → IsErrAnd r (λ y. y ≡ halt.NoMemory) → Concludes walked units r
 out_of_memory walked units (Ok source) e = absurd e
 out_of_memory walked units (Err y) e = subst (λ (z : Halt). Concludes walked units (Err z)) (sym e) tt
-
--- where nothing is broken before names, the first rule is that of names
-pub names_least : (walked : Walked) (source : Source) (o : Option Refusal) → IsUnbroken (FilesBroken walked source) → IsLeast (NamesBroken source) o → IsLeast (SourceBroken walked source) o
-names_least walked source o u l = record { holds = λ f e. inr (inr (inr (l.holds f e), no_grammar), no_tokens); least = least }
-  where
-    no_tokens : IsUnbroken (InFiles BreaksTokens walked)
-    no_tokens f p = u f (inl p)
-
-    no_grammar : IsUnbroken (InFiles BreaksGrammar walked)
-    no_grammar f q = u f (inr (inl q, no_tokens))
-
-    no_include : IsUnbroken (Contains walked.refused)
-    no_include f c = u f (inr (inr ((some_there walked.refused f c, inl c), no_grammar), no_tokens))
-
-    least : (g : Refusal) → SourceBroken walked source g → IsSomeAnd o (λ h. NoLater h g)
-    least g (inl p) = absurd (no_tokens g p)
-    least g (inr (inl q, n)) = absurd (no_grammar g q)
-    least g (inr (inr (inl c, m), n)) = absurd (no_include g c)
-    least g (inr (inr (inr q, m), n)) = l.least g q
-
--- the first rule that the files break is the first of all
-pub files_least : (walked : Walked) (source : Source) (f : Refusal) → IsLeast (FilesBroken walked source) (Some f) → IsLeast (SourceBroken walked source) (Some f)
-files_least walked source f l = record { holds = λ g e. to g (l.holds g e); least = least }
-  where
-    to : (g : Refusal) → FilesBroken walked source g → SourceBroken walked source g
-    to g (inl p) = inl p
-    to g (inr (inl q, n)) = inr (inl q, n)
-    to g (inr (inr (q, m), n)) = inr (inr (q.1, m), n)
-
-    later : (g : Refusal) → FilesBroken walked source f → Either (Contains walked.refused) (NamesBroken source) g
-        → IsUnbroken (InFiles BreaksGrammar walked) → IsUnbroken (InFiles BreaksTokens walked) → FilesBroken walked source g
-    later g (inl p) q m n = absurd (n f p)
-    later g (inr (inl p, k)) q m n = absurd (m f p)
-    later g (inr (inr (p, j), k)) q m n = inr (inr ((p.0, q), m), n)
-
-    least : (g : Refusal) → SourceBroken walked source g → IsSomeAnd (Some f) (λ h. NoLater h g)
-    least g (inl p) = l.least g (inl p)
-    least g (inr (inl q, n)) = l.least g (inr (inl q, n))
-    least g (inr (inr (q, m), n)) = l.least g (later g (l.holds f refl) q m n)

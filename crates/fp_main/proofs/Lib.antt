@@ -7,7 +7,6 @@ pub mod FirstOfFiles
 pub mod FoundInFiles
 pub mod GatheredFiles
 pub mod KnownFiles
-pub mod Named
 pub mod OneWalk
 pub mod PartsPlaced
 pub mod SourceFaults

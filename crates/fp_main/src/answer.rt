@@ -3,14 +3,13 @@ ghost use Rattle.std.specs.String.{string_bytes};
 ghost use Rattle.fp_main.specs.FilesRun.{files_run};
 ghost use Rattle.fp_main.specs.Output.{IsDue, IsDueFor};
 ghost use Rattle.fp_main.specs.Words.{IsCheck};
-ghost use Rattle.fp_main.specs.gathering.Gathered.{name_of};
 
 use crate::gathering::{Halt, gather};
-use crate::lines::{no_file_line, read_fault_line, refusal_line, usage_line};
+use crate::lines::{name_of, no_file_line, read_fault_line, refusal_line, usage_line};
 use crate::listing::listing;
 use crate::status::Status;
 use crate::words::{Command, read_words};
-use fp_base::{NoMemory, Row, Text};
+use fp_base::{NoMemory, Row};
 use fp_names::name_faults;
 use fp_outside::Files;
 use fp_tree::Source;
@@ -32,18 +31,6 @@ fn said(alloc: Global, status: Status, line: Row<u8>) -> Due
         status,
         output: Row::new(alloc),
         line,
-    }
-}
-
-/// The name of the file with a number.
-fn name_of(names: &[Text], number: u32) -> &str
-    ensures { result.now ≡ name_of names.now number }
-{
-    let at = number as usize;
-    if at < names.len() {
-        names[at].as_str()
-    } else {
-        ""
     }
 }
 

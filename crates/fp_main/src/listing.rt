@@ -6,6 +6,7 @@ ghost use Rattle.fp_main.specs.Listing.{constant_line, item_line, line_in, listi
 
 use crate::lines::{push_number, push_text};
 use fp_base::{NoMemory, Row, Text};
+use fp_meaning::behind;
 use fp_tree::{Constant, Def, Expr, Form, Member, Module, Name, Source, Unit};
 use std::alloc::Global;
 
@@ -74,20 +75,8 @@ fn list_module(
 ) -> Result<(), NoMemory>
     ensures { OnOk result (listing.new ≡ listing.old ++ in_members line_in (scope.now ++ opened.now.name.text ∷ []) opened.now.members) }
 {
-    let within = behind(alloc, scope.as_slice(), &opened.name)?;
+    let within = behind(alloc, scope, &opened.name)?;
     list_members(alloc, opened.members.as_slice(), &within, listing)
-}
-
-/// The scope behind a name in a scope.
-fn behind(alloc: Global, scope: &[Text], name: &Name) -> Result<Row<Text>, NoMemory>
-    ensures { IfOk result (λ row. row ≡ scope.now ++ name.now.text ∷ []) }
-{
-    let mut row = Row::new(alloc);
-    for text in scope {
-        row.push(text.copy(alloc)?)?;
-    }
-    row.push(name.text.copy(alloc)?)?;
-    Ok(row)
 }
 
 /// Adds the line of a definition.
@@ -168,6 +157,7 @@ fn literal(expression: &Expr) -> Option<i128>
         Form::Truth(_) => None,
         Form::Use(_) => None,
         Form::Minus(_) => None,
+        Form::Parentheses(_) => None,
         Form::Binary { .. } => None,
         Form::Array(_) => None,
         Form::Struct(_) => None,

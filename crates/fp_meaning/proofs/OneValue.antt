@@ -8,7 +8,7 @@ use Rattle.fp_tree.specs.declared.part.EnumConst.{EnumConst}
 use Rattle.fp_tree.specs.declared.expression.Expr.{Expr}
 use Rattle.fp_meaning.specs.Names.{Path}
 use Rattle.fp_meaning.specs.Origins.{Constant, Enumerated}
-use Rattle.fp_meaning.specs.Values.{Opened, opened, number_in, result_of, constant_value, parts_with, MeansOrigin, Val, number, text, truth, constant, written, implied, negated, combined, listed, structured, Vals, none, more}
+use Rattle.fp_meaning.specs.Values.{Opened, opened, number_in, result_of, constant_value, parts_with, MeansOrigin, Val, number, text, truth, constant, written, implied, negated, combined, enclosed, listed, structured, Vals, none, more}
 use Rattle.fp_meaning.proofs.OneOrigin.{origin_unique}
 
 same_some : {A : Type 0} {x y : A} → Some x ≡ Some y → x ≡ y
@@ -71,6 +71,7 @@ mutual
       let left : x ≡ x' = same_numbers (one_value h k) i j in
       let right : y ≡ y' = same_numbers (one_value l n) m o in
       ap (λ (z : ℤ). Int (result_of operator z y)) left ∙ ap (λ (z : ℤ). Int (result_of operator x' z)) right
+  one_value (enclosed h) (enclosed k) = one_value h k
   one_value (listed h i) (listed k j) = ap Array (one_values h k)
   one_value (structured {members = members} h i) (structured k j) = ap (λ (vs : List Value). Struct (parts_with members vs)) (one_values h k)
 

@@ -50,6 +50,7 @@ pub data BrokenHere (source : Source) (scope : Path) (place : Place) : Opened �
 -- the expressions that an expression is made of
 abbrev pub parts_of : Opened → List Expr
 parts_of (form.Minus a) = a ∷ []
+parts_of (form.Parentheses a) = a ∷ []
 parts_of (form.Binary operator a b) = a ∷ b ∷ []
 parts_of (form.Array items) = items
 parts_of (form.Struct members) = values_in members

@@ -84,6 +84,7 @@ module _ (scope : Path) where
   abbrev pub form_step : Form-F (List Mention) (List Mention) (List Mention) → List Mention
   form_step (form.Use name) = mentioned Value scope name ∷ []
   form_step (form.Minus operand) = operand
+  form_step (form.Parentheses inner) = inner
   form_step (form.Binary operator left right) = left ++ right
   form_step (form.Array items) = flat_map (λ uses. uses) items
   form_step (form.Struct members) = flat_map (λ uses. uses) members

@@ -132,6 +132,8 @@ mutual
     combined : {scope : Path} {operator : Operator} {a b : Expr} {u w : Value} {x y : ℤ}
         → Val source scope (opened a) u → number_in u ≡ Some x → Val source scope (opened b) w → number_in w ≡ Some y → HasResult operator x y
         → Val source scope (form.Binary operator a b) (Int (result_of operator x y))
+    -- parentheses have the value of what stands in them
+    enclosed : {scope : Path} {a : Expr} {v : Value} → Val source scope (opened a) v → Val source scope (form.Parentheses a) v
     listed : {scope : Path} {items : List Expr} {vs : List Value}
         → Vals source scope items vs → IsWithinSize (Array vs) → Val source scope (form.Array items) (Array vs)
     structured : {scope : Path} {members : List Assignment} {vs : List Value}

@@ -1,8 +1,12 @@
 ghost use Rattle.std.specs.Prelude.{◌≡◌, ℕ, List};
 ghost use Rattle.fp_base.specs.declared.refusal.Refusal.{Refusal};
+ghost use Rattle.fp_base.specs.declared.value.Value.{Value};
+ghost use Rattle.fp_tree.specs.declared.expression.Expr.{Expr};
+ghost use Rattle.fp_tree.specs.declared.source.Source.{Source};
 ghost use Rattle.fp_meaning.specs.Broken.{IsUndefined, IsWrongKind};
 ghost use Rattle.fp_meaning.specs.Meaning.{IsScopeOf, Means};
 ghost use Rattle.fp_meaning.specs.Names.{Path};
+ghost use Rattle.fp_meaning.specs.Values.{Opened, Val, Vals};
 ghost use Rattle.fp_meaning.specs.declared.group.Group.{Group};
 ghost use Rattle.fp_meaning.specs.declared.names.Definition.{Definition};
 ghost use Rattle.fp_meaning.specs.declared.names.Mention.{Mention};
@@ -15,6 +19,12 @@ pub fn one_scope()
 /// A use means at most one definition of a group.
 pub fn one_meaning()
     ensures { (ds : List Definition) (scope name : Path) (group : Group) (a b : ℕ) → Means ds scope name group a → Means ds scope name group b → a ≡ b }
+{}
+
+/// An expression in a scope has one value at most, and so have expressions, each its own.
+pub fn one_value()
+    ensures one { (source : Source) (scope : Path) (s : Opened) (v w : Value) → Val source scope s v → Val source scope s w → v ≡ w }
+    ensures each { (source : Source) (scope : Path) (es : List Expr) (vs ws : List Value) → Vals source scope es vs → Vals source scope es ws → vs ≡ ws }
 {}
 
 /// No use is undefined and of the wrong kind.

@@ -4,9 +4,8 @@ ghost use Rattle.fp_tree.specs.declared.part.EnumConst.{EnumConst as Part};
 ghost use Rattle.fp_meaning.specs.declared.group.Group.TheVariants.{Kind, Value};
 ghost use Rattle.fp_meaning.specs.Names.{constant_of, defined, definitions_in, in_member, in_members, in_source};
 
-use crate::scopes::behind;
 use fp_base::{NoMemory, Row, Text};
-use fp_meaning::{Definition, Group};
+use fp_meaning::{Definition, Group, behind};
 use fp_tree::{Def, Enum, EnumConst, Member, Module, Name, Source, Unit};
 use std::alloc::Global;
 

@@ -6,7 +6,6 @@ mod expressions;
 mod lookups;
 mod mentions;
 mod names;
-mod scopes;
 mod table;
 mod tree;
 

@@ -3,9 +3,8 @@ ghost use Rattle.fp_tree.specs.declared.member.Unit.{Unit as File};
 ghost use Rattle.fp_meaning.specs.Names.{in_constant, in_expression, in_field, in_formal, in_member, in_members, in_optional, in_source, in_type, in_type_form, mentions_in};
 
 use crate::expressions::{mention, of_expression, of_optional};
-use crate::scopes::behind;
 use fp_base::{NoMemory, Row, Text};
-use fp_meaning::{Group, Mention};
+use fp_meaning::{Group, Mention, behind};
 use fp_tree::{
     Array, Def, Enum, EnumConst, Field, Formal, Member, Module, Port, Source, Struct, TypeForm,
     TypeName, Unit,

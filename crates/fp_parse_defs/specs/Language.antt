@@ -77,7 +77,7 @@ abbrev pub negated_of : Grammar Token Measured → Grammar Token Measured
 negated_of factor = map made_minus (seq (at k_minus) factor)
 
 abbrev pub made_group : Span × (Measured × Span) → Measured
-made_group p = record { expr = bare p.1.0.expr.form (between p.0 p.1.1); height = p.1.0.height + 1 }
+made_group p = record { expr = bare (form.Parentheses p.1.0.expr) (between p.0 p.1.1); height = p.1.0.height + 1 }
 
 -- '(' Expr ')'
 abbrev pub group_of : Grammar Token Measured → Grammar Token Measured

@@ -77,20 +77,21 @@ pub fn negative(alloc: Global, minus: Span, operand: Measured) -> Result<Measure
 }
 
 /// An expression in parentheses.
-pub fn grouped(alloc: Global, opening: Span, inner: Measured, closing: Span) -> Measured
+pub fn grouped(
+    alloc: Global,
+    opening: Span,
+    inner: Measured,
+    closing: Span,
+) -> Result<Measured, NoMemory>
     requires { inner.height < 2 ^ 32 - 1 }
-    ensures { result ≡ Language.made_group (opening, (inner, closing)) }
+    ensures { IfOk result (λ whole. whole ≡ Language.made_group (opening, (inner, closing))) }
 {
     let height = inner.height + 1;
     let at = between(opening, closing);
     let Measured { expr, height: _ } = inner;
-    let Expr {
-        form,
-        at: _,
-        note: _,
-    } = expr;
-    let expr = bare(alloc, form, at);
-    Measured { expr, height }
+    let inner = Boxed::new(alloc, expr)?;
+    let expr = bare(alloc, Form::Parentheses(inner), at);
+    Ok(Measured { expr, height })
 }
 
 pub fn array(alloc: Global, opening: Span, items: Items, closing: Span) -> Measured

@@ -157,7 +157,7 @@ fn group(
     let (opening, at) = expect_mark(tokens, from, OPEN)?;
     let (inner, at) = expression(alloc, tokens, at, depth)?;
     let (closing, at) = expect_mark(tokens, at, CLOSE)?;
-    Ok((grouped(alloc, opening, inner, closing), at))
+    Ok((grouped(alloc, opening, inner, closing)?, at))
 }
 
 #[cycle(expression)]

@@ -111,23 +111,37 @@ fn is_number(expr: &Expr, value: i128) -> bool {
     }
 }
 
-/// Whether an expression is `(1 - 2) - 3` or, with its place, `1 - 2 - 3`.
-fn groups_to_the_left(expr: &Expr) -> bool {
+/// Whether an expression is `1 - 2`.
+fn is_difference(expr: &Expr) -> bool {
     match &expr.form {
         Form::Binary {
             operator: Operator::Subtract,
             left,
             right,
-        } => match &left.get().form {
-            Form::Binary {
-                operator: Operator::Subtract,
-                left: first,
-                right: second,
-            } => is_number(first.get(), 1)
-                && is_number(second.get(), 2)
-                && is_number(right.get(), 3),
-            _ => false,
-        },
+        } => is_number(left.get(), 1) && is_number(right.get(), 2),
+        _ => false,
+    }
+}
+
+/// Whether an expression is `1 - 2`, in as many parentheses.
+fn is_enclosed(expr: &Expr, count: u32) -> bool {
+    if count == 0 {
+        return is_difference(expr);
+    }
+    match &expr.form {
+        Form::Parentheses(inner) => is_enclosed(inner.get(), count - 1),
+        _ => false,
+    }
+}
+
+/// Whether an expression is `1 - 2 - 3`, with as many parentheses round `1 - 2`.
+fn groups_to_the_left(expr: &Expr, count: u32) -> bool {
+    match &expr.form {
+        Form::Binary {
+            operator: Operator::Subtract,
+            left,
+            right,
+        } => is_enclosed(left.get(), count) && is_number(right.get(), 3),
         _ => false,
     }
 }
@@ -135,15 +149,15 @@ fn groups_to_the_left(expr: &Expr) -> bool {
 #[test]
 fn groups(rt: HostRuntime) -> Result<(), Fail> {
     let alloc = rt.alloc();
-    for (text, past) in [
-        ("1 - 2 - 3", 10),
-        ("(1 - 2) - 3", 12),
-        ("((1) - 2 - 3)", 14),
+    for (text, count, past) in [
+        ("1 - 2 - 3", 0, 10),
+        ("(1 - 2) - 3", 1, 12),
+        ("((1 - 2)) - 3", 2, 14),
     ] {
         let tokens = lex(alloc, 0, text.as_bytes())?;
         assert!(rt; 0 < tokens.len() && tokens.len() < 100);
         let (expr, _) = parse_expr(alloc, &tokens, 0)?;
-        assert!(rt; groups_to_the_left(&expr), "{text}");
+        assert!(rt; groups_to_the_left(&expr, count), "{text}");
         assert_eq!(rt; expr.at.first.column, 1);
         assert_eq!(rt; expr.at.past.column, past);
     }

@@ -64,6 +64,21 @@ fn more_lines(
     Ok((appended(lines, more)?, to))
 }
 
+// Adds a member with the lines that there are of it and those of the annotations behind it.
+fn add_annotated(
+    alloc: Global,
+    tokens: &[Token],
+    from: usize,
+    members: Row<Member>,
+    item: BareMember,
+    lines: Row<Text>,
+) -> Result<(Row<Member>, usize), Halt>
+    ensures { Parses kind (map (λ more. M.with_member members item (lines ++ more)) L.after_lines) tokens.now from result }
+{
+    let (all_lines, to) = more_lines(alloc, tokens, from, lines)?;
+    Ok((with_member(alloc, members, item, all_lines)?, to))
+}
+
 /// Reads a module, with this much depth left.
 #[cycle(members)]
 fn nested_module(
@@ -156,9 +171,8 @@ fn some_members(
         if !semicolon_at(tokens, at) {
             return Ok((with_member(alloc, all_members, item, lines)?, at));
         }
-        let (all_lines, to) = more_lines(alloc, tokens, at + 1, lines)?;
-        lines = all_lines;
-        all_members = with_member(alloc, all_members, item, lines)?;
+        let (more_members, to) = add_annotated(alloc, tokens, at + 1, all_members, item, lines)?;
+        all_members = more_members;
         match annotated_member(alloc, tokens, to, expressions, depth) {
             Err(halt) => {
                 return if halt == Halt::Unexpected(to) {

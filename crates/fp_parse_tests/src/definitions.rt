@@ -65,7 +65,7 @@ static ARRAYS: [(&str, &str); 8] = [
         "array A = [3] U8 format \"x\" default 0",
         "9 array A [3] U8 format 'x'",
     ),
-    ("array A = [(3)] bool", "9 array A [3] bool"),
+    ("array A = [(3)] bool", "9 array A [(() 3)] bool"),
 ];
 
 static STRUCTS: [(&str, &str); 7] = [

@@ -48,6 +48,7 @@ fn form_places(alloc: Global, form: &Form, out: &mut String) -> Result<(), Alloc
     match form {
         Form::Use(qual) => write_qual(alloc, qual, out),
         Form::Minus(operand) => expression_places(alloc, operand.get(), out),
+        Form::Parentheses(inner) => expression_places(alloc, inner.get(), out),
         Form::Binary {
             operator: _,
             left,

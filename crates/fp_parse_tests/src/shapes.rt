@@ -40,7 +40,7 @@ fn operator_text(operator: Operator) -> &'static str {
     }
 }
 
-/// The tree of an expression, operators before their operands, with annotations.
+/// The tree of an expression, operators and `()` before their operands, with annotations.
 #[cycle(expression)]
 pub fn write_expression(
     alloc: Global,
@@ -66,6 +66,11 @@ fn write_form(alloc: Global, form: &Form, out: &mut String) -> Result<(), AllocE
         Form::Minus(operand) => {
             out.push_str("(- ")?;
             write_expression(alloc, operand.get(), out)?;
+            out.push_str(")")
+        }
+        Form::Parentheses(inner) => {
+            out.push_str("(() ")?;
+            write_expression(alloc, inner.get(), out)?;
             out.push_str(")")
         }
         Form::Binary {

@@ -6,4 +6,6 @@ mod serving;
 #[cfg(test)]
 mod several;
 #[cfg(test)]
+mod sizes;
+#[cfg(test)]
 mod tests;

@@ -151,9 +151,9 @@ static LISTED: [Row; 7] = [
         &["check", "a.fpp"],
         &[(
             "a.fpp",
-            "constant a = (7)\nconstant b = 1 + 1\nconstant c = true\n",
+            "constant a = (7)\nconstant b = 1 + 1\nconstant c = true\nconstant d = 7\n",
         )],
-        "constant a = 7\nconstant b\nconstant c\n",
+        "constant a\nconstant b\nconstant c\nconstant d = 7\n",
         "",
         Status::Done,
     ),

@@ -5,7 +5,7 @@ use crate::name::{Name, Qual};
 use fp_base::{Boxed, NoMemory, Row, Span, Text};
 use std::alloc::Global;
 
-/// An expression. Parentheses leave nothing but the place that they take.
+/// An expression.
 #[cycle(expression)]
 #[derive(Debug, Drop)]
 pub struct Expr {
@@ -24,6 +24,7 @@ pub enum Form {
     Truth(bool),
     Use(Qual),
     Minus(Boxed<Expr>),
+    Parentheses(Boxed<Expr>),
     Binary {
         operator: Operator,
         left: Boxed<Expr>,
@@ -80,6 +81,10 @@ impl Form {
             Form::Minus(operand) => {
                 let operand = operand.get().copy(alloc)?;
                 Ok(Form::Minus(Boxed::new(alloc, operand)?))
+            }
+            Form::Parentheses(inner) => {
+                let inner = inner.get().copy(alloc)?;
+                Ok(Form::Parentheses(Boxed::new(alloc, inner)?))
             }
             Form::Binary {
                 operator,

@@ -44,7 +44,8 @@ fn listed(alloc: Global) -> Result<Expr, NoMemory> {
         left,
         right,
     };
-    let operand = Boxed::new(alloc, expression(alloc, product))?;
+    let inner = Boxed::new(alloc, expression(alloc, product))?;
+    let operand = Boxed::new(alloc, expression(alloc, Form::Parentheses(inner)))?;
     let mut members = Row::new(alloc);
     members.push(Assignment {
         name: name(alloc, "x", 4)?,

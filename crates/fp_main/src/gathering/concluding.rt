@@ -7,6 +7,7 @@ ghost use Rattle.fp_main.specs.gathering.Walks.{Walked};
 
 use super::Halt;
 use super::progress::Progress;
+use crate::lines::name_of;
 use fp_base::{NoMemory, Refusal, Row, Text};
 use fp_meaning::{earlier, lesser};
 use fp_names::name_faults;
@@ -27,10 +28,7 @@ fn units_of(alloc: Global, files: Row<Row<Member>>) -> Result<Row<Unit>, NoMemor
 fn name_at(alloc: Global, names: &Row<Text>, number: u32) -> Result<Text, NoMemory>
     ensures { IfOk result (λ name. name ≡ name_of names.now number) }
 {
-    match names.get(number as usize) {
-        Some(name) => name.copy(alloc),
-        None => Ok(Text::new(alloc)),
-    }
+    Text::from_str(alloc, name_of(names.as_slice(), number))
 }
 
 /// The least of the includes and names that break their rules, where some include does.

@@ -2,11 +2,11 @@ use Rattle.std.proofs.Common.{◌≡◌, List, Some, length, slice_get, refl, sy
 use Rattle.std.proofs.lemmas.Option.{slice_get_read}
 use Rattle.fp_tree.specs.declared.expression.Expr.{Expr}
 use Rattle.fp_tree.specs.declared.expression.Assignment.{Assignment}
-use Rattle.fp_tree.specs.declared.expression.Form.TheVariants.{Number, Float, Text, Truth, Minus, Binary, Array, Struct}
+use Rattle.fp_tree.specs.declared.expression.Form.TheVariants.{Number, Float, Text, Truth, Minus, Parentheses, Binary, Array, Struct}
 use Rattle.fp_meaning.specs.Values.{values_in}
 use Rattle.fp_consts.proofs.Walks.{number_uses, float_uses, text_uses, truth_uses}
 use Rattle.fp_consts.proofs.Arms.{member_at}
-use Rattle.fp_consts.proofs.Counted.{past_leaf, past_name, past_minus, past_binary, past_array, past_struct, past_first, past_next, past_last, values_past}
+use Rattle.fp_consts.proofs.Counted.{past_leaf, past_name, past_minus, past_parentheses, past_binary, past_array, past_struct, past_first, past_next, past_last, values_past}
 use Rattle.fp_consts.proofs.counting.+counting.Goals as goal
 
 pub past_expression-returns-in-Number : goal.past_expression-returns-in-Number
@@ -27,6 +27,11 @@ past_expression-returns-in-Use t c = past_name c.args.expression.now c.args.limi
 pub past_expression-returns-in-Minus : goal.past_expression-returns-in-Minus
 past_expression-returns-in-Minus t c =
     past_minus c.args.expression.now c.args.limit c.args.next c.past_expression.result c.get.result.now (c.in-Minus.is ∙ ap (λ (a : Expr). Minus a) (sym c.get.ensures)) c.past_expression.ensures
+
+pub past_expression-returns-in-Parentheses : goal.past_expression-returns-in-Parentheses
+past_expression-returns-in-Parentheses t c =
+    past_parentheses c.args.expression.now c.args.limit c.args.next c.past_expression-in-Parentheses.result c.get-in-Parentheses.result.now
+    (c.in-Parentheses.is ∙ ap (λ (a : Expr). Parentheses a) (sym c.get-in-Parentheses.ensures)) c.past_expression-in-Parentheses.ensures
 
 pub past_expression-returns-in-Binary : goal.past_expression-returns-in-Binary
 past_expression-returns-in-Binary t c =

@@ -38,7 +38,7 @@ pub group-returns-in_err-closing-clause-parses : goal.group-returns-in_err-closi
 group-returns-in_err-closing-clause-parses t c = passing _ _ (λ to p. stop (next (next (under (begin _ _ (group_fits _))) c.in_ok-opening.ensures) c.in_ok-inner.ensures.parses) p) c.in_err-closing.ensures c.from_residual-in_err-closing.ensures.1
 
 pub group-returns-clause-parses : goal.group-returns-clause-parses
-group-returns-clause-parses t c = as_value (sym c.grouped.ensures) (done (next (next (under (begin _ _ (group_fits _))) c.in_ok-opening.ensures) c.in_ok-inner.ensures.parses) c.in_ok-closing.ensures)
+group-returns-clause-parses t c = as_value (sym c.in_ok-grouped.ensures) (done (next (next (under (begin _ _ (group_fits _))) c.in_ok-opening.ensures) c.in_ok-inner.ensures.parses) c.in_ok-closing.ensures)
 
 pub bracketed-returns-in_err-opening-clause-parses : goal.bracketed-returns-in_err-opening-clause-parses
 bracketed-returns-in_err-opening-clause-parses t c = passing _ _ (λ to p. stop_first (under (begin _ _ (array_fits _))) p) c.in_err-opening.ensures c.from_residual.ensures.1

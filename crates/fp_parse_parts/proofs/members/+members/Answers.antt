@@ -88,26 +88,26 @@ some_members-separators-init t c = as_made (λ rest. ap (λ z. gathered with_mem
 pub some_members-returns-then-not-semicolon_at : goal.some_members-returns-then-not-semicolon_at
 some_members-returns-then-not-semicolon_at t c = as_value (sym c.in_ok-with_member.ensures) (done c.separators.invariant (turn_absent c.separators.invariant.fits (absent_unless {b = separated_by semicolons} c.if-not-semicolon_at.ensures refl refl (each_kind, each_kind))))
 
-pub some_members-returns-in_err-all_lines : goal.some_members-returns-in_err-all_lines
-some_members-returns-in_err-all_lines t c = passing _ _ (λ to p. stop c.separators.invariant (turn_refuses c.separators.invariant.fits (λ e. absurd (omega (arith, e, p.place))) (separator_refuses c.if-not-semicolon_at.ensures (unmapped_refuses p)))) c.in_err-all_lines.ensures c.from_residual-in_err-all_lines.ensures.1
+pub some_members-returns-in_err-more_members : goal.some_members-returns-in_err-more_members
+some_members-returns-in_err-more_members t c = passing _ _ (λ to p. stop c.separators.invariant (turn_refuses c.separators.invariant.fits (λ e. absurd (omega (arith, e, p.place))) (separator_refuses c.if-not-semicolon_at.ensures (unmapped_refuses p)))) c.in_err-more_members.ensures c.from_residual-in_err-more_members.ensures.1
 
 pub some_members-returns-then-eq : goal.some_members-returns-then-eq
 some_members-returns-then-eq t c =
-    let u = unmapped_accepts c.in_ok-all_lines.ensures in
+    let u = unmapped_accepts c.in_ok-more_members.ensures in
     let r = turn_next c.separators.invariant (separator_accepts c.if-not-semicolon_at.ensures u.2) in
-    as_value (sym (c.in_ok-all_members.ensures ∙ ap (λ l. with_member c.separators.all_members c.separators.item l) u.1)) (done r (turn_absent r.fits (absent_map (absent_now _ (search rules) c.in-Err.ensures))))
+    as_value (sym u.1) (done r (turn_absent r.fits (absent_map (absent_now _ (search rules) c.in-Err.ensures))))
 
 pub some_members-returns-else-eq : goal.some_members-returns-else-eq
 some_members-returns-else-eq t c =
-    let u = unmapped_accepts c.in_ok-all_lines.ensures in
+    let u = unmapped_accepts c.in_ok-more_members.ensures in
     let r = turn_next c.separators.invariant (separator_accepts c.if-not-semicolon_at.ensures u.2) in
     refused_later (λ to later p. stop r (turn_refuses r.fits later (map_refuses p))) _ (search rules) c.in-Err.ensures
 
 pub some_members-separators-preserved : goal.some_members-separators-preserved
 some_members-separators-preserved t c =
-    let u = unmapped_accepts c.in_ok-all_lines.ensures in
+    let u = unmapped_accepts c.in_ok-more_members.ensures in
     let r = turn_next (turn_next c.separators.invariant (separator_accepts c.if-not-semicolon_at.ensures u.2)) (map_accepts c.in-Ok.ensures) in
-    as_made (λ rest. ap (λ z. gathered with_member z (element c.in-Ok.next.0 c.in-Ok.next.1 ∷ rest)) (sym (c.in_ok-all_members.ensures ∙ ap (λ l. with_member c.separators.all_members c.separators.item l) u.1))) r
+    as_made (λ rest. ap (λ z. gathered with_member z (element c.in-Ok.next.0 c.in-Ok.next.1 ∷ rest)) (sym u.1)) r
 
 pub members-returns-then-eq : goal.members-returns-then-eq
 members-returns-then-eq t c = as_value (sym c.new.ensures) (map_accepts (optional_absent (absent_now _ (search rules) c.in-Err.ensures)))
