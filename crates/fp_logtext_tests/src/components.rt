@@ -1,6 +1,6 @@
 use crate::definitions::{formals, formals_of};
 use crate::plans::{ComponentPlan, LATER, text};
-use fp_base::{Format, NoMemory, Row, Text, Value};
+use fp_base::{Format, NoMemory, Piece, Row, Text, Value};
 use fp_tables::{Channel, Command, Component, Event, Kind, Param, Part, Port, Running};
 use std::alloc::Global;
 
@@ -43,12 +43,24 @@ fn commands(alloc: Global, plan: &ComponentPlan) -> Result<Row<Command>, NoMemor
     Ok(commands)
 }
 
+/// Lets an event take a number, and show it after a text.
+fn show(alloc: Global, shows: Option<&'static str>, event: &mut Event) -> Result<(), NoMemory> {
+    let Some(before) = shows else {
+        return Ok(());
+    };
+    event.formals = formals(alloc, &[Kind::U8])?;
+    event.format = text(alloc, before)?;
+    event.format.push_str("{x}")?;
+    event.fields.parts.push(Piece::Plain(text(alloc, before)?))?;
+    event.fields.parts.push(Piece::Hex)
+}
+
 fn events(alloc: Global, plan: &ComponentPlan) -> Result<Row<Event>, NoMemory> {
     let mut events = Row::new(alloc);
     let mut id = 0;
-    for name in plan.events {
-        events.push(Event {
-            name: text(alloc, name)?,
+    for each in plan.events {
+        let mut event = Event {
+            name: text(alloc, each.name)?,
             id,
             severity: 0,
             formals: Row::new(alloc),
@@ -56,9 +68,11 @@ fn events(alloc: Global, plan: &ComponentPlan) -> Result<Row<Event>, NoMemory> {
             fields: Format {
                 parts: Row::new(alloc),
             },
-            throttle: None,
+            throttle: each.throttle,
             note: Text::new(alloc),
-        })?;
+        };
+        show(alloc, each.shows, &mut event)?;
+        events.push(event)?;
         id = id.wrapping_add(1);
     }
     Ok(events)
@@ -72,7 +86,7 @@ fn channels(alloc: Global, plan: &ComponentPlan) -> Result<Row<Channel>, NoMemor
             name: text(alloc, name)?,
             id,
             kind: Kind::U32,
-            on_change: true,
+            on_change: plan.on_change,
             format: None,
             limits: Row::new(alloc),
             note: Text::new(alloc),

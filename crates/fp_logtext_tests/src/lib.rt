@@ -3,13 +3,13 @@
 
 pub mod cases;
 mod components;
-mod definitions;
+pub mod definitions;
 pub mod kinds;
 pub mod lines;
 mod machines;
 pub mod models;
 pub mod naming;
-mod parts;
+pub mod parts;
 pub mod plans;
 pub mod printing;
 #[cfg(test)]

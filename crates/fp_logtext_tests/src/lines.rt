@@ -54,7 +54,7 @@ pub enum Say {
 /// An entry, to be made: its stamp, actor and instance, and what it says.
 pub type Line = (u64, u32, u32, Say);
 
-fn value(alloc: Global, simple: Simple) -> Result<Value, NoMemory> {
+pub fn value(alloc: Global, simple: Simple) -> Result<Value, NoMemory> {
     match simple {
         Simple::Number(number) => Ok(Value::Int(number)),
         Simple::Truth(truth) => Ok(Value::Bool(truth)),
@@ -66,7 +66,7 @@ fn value(alloc: Global, simple: Simple) -> Result<Value, NoMemory> {
     }
 }
 
-fn values(alloc: Global, simple: &[Simple]) -> Result<Row<Value>, NoMemory> {
+pub fn values(alloc: Global, simple: &[Simple]) -> Result<Row<Value>, NoMemory> {
     let mut values = Row::new(alloc);
     for each in simple {
         values.push(value(alloc, *each)?)?;
@@ -97,7 +97,7 @@ fn origin(alloc: Global, from: From) -> Result<Origin, NoMemory> {
     }
 }
 
-fn arrival(alloc: Global, coming: Coming) -> Result<Arrival, NoMemory> {
+pub fn arrival(alloc: Global, coming: Coming) -> Result<Arrival, NoMemory> {
     let (point, from, with) = coming;
     Ok(Arrival {
         point,

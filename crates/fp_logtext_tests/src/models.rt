@@ -2,8 +2,25 @@ use crate::definitions::{
     ASK, CMD, CMD_REG, CMD_RESPONSE, GO, LOG, LOG_TEXT, NUMBER, PRM_GET, PRM_SET, TIME, TLM,
 };
 use crate::machines::Drawn;
-use crate::plans::{ComponentPlan, EMPTY, LATER, Plan};
+use crate::plans::{ComponentPlan, EMPTY, EventPlan, LATER, Plan, SILENT};
 use fp_tables::{Full, Part, Queueing, Role, Special, Way};
+
+const RAN: EventPlan = EventPlan {
+    name: "Ran",
+    ..SILENT
+};
+
+const TOLD: EventPlan = EventPlan {
+    name: "Told",
+    ..SILENT
+};
+
+/// The second one is held.
+const HELD: EventPlan = EventPlan {
+    name: "E",
+    throttle: Some(1),
+    shows: Some("v "),
+};
 
 const SYNC: Role = Role::Input(Way::Sync);
 
@@ -79,7 +96,7 @@ const WORKER: ComponentPlan = ComponentPlan {
         ("clock", Role::Special(Special::Time), TIME),
     ],
     commands: &[("RUN", Part::Plain, LATER)],
-    events: &["Ran"],
+    events: &[RAN],
     channels: &["Count"],
     ..EMPTY
 };
@@ -186,7 +203,7 @@ const HAS_A_PARAMETER: ComponentPlan = ComponentPlan {
         ("P_PRM_SET", Part::SetParam(0), Way::Sync),
         ("P_PRM_SAVE", Part::SaveParam(0), Way::Sync),
     ],
-    events: &["E"],
+    events: &[HELD],
     channels: &["t"],
     params: &["P"],
     ..EMPTY
@@ -210,7 +227,7 @@ const ODDLY_NAMED: ComponentPlan = ComponentPlan {
         ("a_1B", Role::Internal(LATER), None),
         ("_9", Role::Special(Special::Event), LOG),
     ],
-    events: &["Told"],
+    events: &[TOLD],
     channels: &["__"],
     machines: &["m_"],
     ..EMPTY

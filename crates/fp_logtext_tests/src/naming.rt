@@ -136,7 +136,7 @@ fn dispatchers(alloc: Global, model: &Model, topology: u32) -> Result<Row<u32>, 
 }
 
 /// The callers of a program and the dispatchers of tables.
-fn actor_count(alloc: Global, tables: &Tables, program: &Program) -> Result<u128, NoMemory>
+pub fn actor_count(alloc: Global, tables: &Tables, program: &Program) -> Result<u128, NoMemory>
     ensures { IfOk result (λ count. count ≡ actor_count tables.now program.now) }
 {
     let active = dispatchers(alloc, tables.model(), tables.topology())?;

@@ -8,15 +8,32 @@ use fp_tables::{
 };
 use std::alloc::Global;
 
-/// The names of a component's parts. A port has its role and its definition too, and a command its part and its way. Each
-/// machine instance runs the one machine.
+/// An event: its name, how often it is emitted until it is held, and the text before the number that it takes and shows in
+/// hexadecimal, if it takes one.
+#[derive(Clone, Copy)]
+pub struct EventPlan {
+    pub name: &'static str,
+    pub throttle: Option<u32>,
+    pub shows: Option<&'static str>,
+}
+
+/// An event with nothing in it.
+pub const SILENT: EventPlan = EventPlan {
+    name: "",
+    throttle: None,
+    shows: None,
+};
+
+/// The names of a component's parts. A port has its role and its definition too, and a command its part and its way. The
+/// channels are all updated on change, or all always. Each machine instance runs the one machine.
 #[derive(Clone, Copy)]
 pub struct ComponentPlan {
     pub queueing: Queueing,
     pub ports: &'static [(&'static str, Role, Option<u32>)],
     pub commands: &'static [(&'static str, Part, Way)],
-    pub events: &'static [&'static str],
+    pub events: &'static [EventPlan],
     pub channels: &'static [&'static str],
+    pub on_change: bool,
     pub params: &'static [&'static str],
     pub machines: &'static [&'static str],
 }
@@ -28,6 +45,7 @@ pub const EMPTY: ComponentPlan = ComponentPlan {
     commands: &[],
     events: &[],
     channels: &[],
+    on_change: true,
     params: &[],
     machines: &[],
 };
