@@ -1,0 +1,4 @@
+mod Numbering
+mod Roomy
+mod Answering
+mod Opened
