@@ -14,7 +14,8 @@ A part is the name that the code gives it, and the clause of the call that says 
 Each function of definitions, elements and names of types has a file of its own; their lines are DEFINITIONS:
 
   node(names, made)                   parts read one after another; a name with '!' is that of a mark which the answer leaves out, one
-                                      with '=' that of a call which can't refuse; made: the call that builds the node
+                                      with '=' that of a call which can't refuse; made: the call that builds the
+                                      node, as steps name it ('in_ok-' where it may want memory)
   parts(names)                        the same, where the node is the tuple of the parts
   part(test, kind, inner)             what may follow, begun by a mark or a word
   some(row, add)                      at least one element between separators, with annotations
@@ -392,13 +393,13 @@ DEFINITIONS = {
     },
     "definition": {
         "constant": node(["word", "name", "at!", "value"], "constant_of"),
-        "abstract_or_alias": node(["word", "name", "target"], "type_of"),
-        "array": node(["word", "name", "at!", "at-2!", "size", "element", "default", "format"], "array_of"),
-        "structure": node(["word", "name", "at!", "fields", "closing", "default"], "struct_of"),
-        "enumeration": node(["word", "name", "repr", "at!", "constants", "closing", "default"], "enum_of"),
+        "abstract_or_alias": node(["word", "name", "target"], "in_ok-type_of"),
+        "array": node(["word", "name", "at!", "at-2!", "size", "element", "default", "format"], "in_ok-array_of"),
+        "structure": node(["word", "name", "at!", "fields", "closing", "default"], "in_ok-struct_of"),
+        "enumeration": node(["word", "name", "repr", "at!", "constants", "closing", "default"], "in_ok-enum_of"),
         "formals": parts(["list", "closing"], under=False),
         "formals_part": part("mark_at", "k_open", "D.formals"),
-        "port": node(["word", "name", "formals", "answer"], "port_of"),
+        "port": node(["word", "name", "formals", "answer"], "in_ok-port_of"),
         "definition": choice(ALTERNATIVES, "(F.definition_fits c.args.depth).refs"),
     },
 }

@@ -136,13 +136,14 @@ fn of_definition(
         }
         Def::Abstract(kind) => define(&kind.name, Basis::Nothing, found),
         Def::Alias(kind) => {
+            let kind = kind.get();
             define(&kind.name, Basis::Nothing, found)?;
             of_type(alloc, &kind.target, scope, found)
         }
-        Def::Array(kind) => of_array(alloc, kind, scope, found),
-        Def::Struct(kind) => of_struct(alloc, kind, scope, found),
-        Def::Enum(kind) => of_enum(alloc, kind, scope, found),
-        Def::Port(port) => of_port(alloc, port, scope, found),
+        Def::Array(kind) => of_array(alloc, kind.get(), scope, found),
+        Def::Struct(kind) => of_struct(alloc, kind.get(), scope, found),
+        Def::Enum(kind) => of_enum(alloc, kind.get(), scope, found),
+        Def::Port(port) => of_port(alloc, port.get(), scope, found),
     }
 }
 

@@ -90,11 +90,11 @@ fn list_definition(
     match definition {
         Def::Constant(constant) => list_constant(constant, scope, listing),
         Def::Abstract(kind) => list_item("type ", &kind.name, scope, listing),
-        Def::Alias(kind) => list_item("type ", &kind.name, scope, listing),
-        Def::Array(kind) => list_item("array ", &kind.name, scope, listing),
-        Def::Struct(kind) => list_item("struct ", &kind.name, scope, listing),
-        Def::Enum(kind) => list_item("enum ", &kind.name, scope, listing),
-        Def::Port(port) => list_item("port ", &port.name, scope, listing),
+        Def::Alias(kind) => list_item("type ", &kind.get().name, scope, listing),
+        Def::Array(kind) => list_item("array ", &kind.get().name, scope, listing),
+        Def::Struct(kind) => list_item("struct ", &kind.get().name, scope, listing),
+        Def::Enum(kind) => list_item("enum ", &kind.get().name, scope, listing),
+        Def::Port(port) => list_item("port ", &port.get().name, scope, listing),
     }
 }
 

@@ -1,4 +1,4 @@
-//! What names mean: the definitions and the uses of a source, the rules of names that it breaks, and the least of what is broken.
+//! What names and constant expressions mean: definitions and uses, values, the rules of both that a source breaks, and the least of these.
 #![tactic(auto)]
 
 mod group;

@@ -89,11 +89,11 @@ fn of_definition(
     match definition {
         Def::Constant(constant) => define(alloc, Group::Value, &constant.name, scope, found),
         Def::Abstract(kind) => define(alloc, Group::Kind, &kind.name, scope, found),
-        Def::Alias(kind) => define(alloc, Group::Kind, &kind.name, scope, found),
-        Def::Array(kind) => define(alloc, Group::Kind, &kind.name, scope, found),
-        Def::Struct(kind) => define(alloc, Group::Kind, &kind.name, scope, found),
-        Def::Enum(kind) => of_enum(alloc, kind, scope, found),
-        Def::Port(port) => define(alloc, Group::Port, &port.name, scope, found),
+        Def::Alias(kind) => define(alloc, Group::Kind, &kind.get().name, scope, found),
+        Def::Array(kind) => define(alloc, Group::Kind, &kind.get().name, scope, found),
+        Def::Struct(kind) => define(alloc, Group::Kind, &kind.get().name, scope, found),
+        Def::Enum(kind) => of_enum(alloc, kind.get(), scope, found),
+        Def::Port(port) => define(alloc, Group::Port, &port.get().name, scope, found),
     }
 }
 

@@ -91,11 +91,11 @@ fn of_definition(
     match definition {
         Def::Constant(constant) => of_expression(alloc, &constant.value, scope, found),
         Def::Abstract(_) => Ok(()),
-        Def::Alias(kind) => of_type(alloc, &kind.target, scope, found),
-        Def::Array(kind) => of_array(alloc, kind, scope, found),
-        Def::Struct(kind) => of_struct(alloc, kind, scope, found),
-        Def::Enum(kind) => of_enum(alloc, kind, scope, found),
-        Def::Port(port) => of_port(alloc, port, scope, found),
+        Def::Alias(kind) => of_type(alloc, &kind.get().target, scope, found),
+        Def::Array(kind) => of_array(alloc, kind.get(), scope, found),
+        Def::Struct(kind) => of_struct(alloc, kind.get(), scope, found),
+        Def::Enum(kind) => of_enum(alloc, kind.get(), scope, found),
+        Def::Port(port) => of_port(alloc, port.get(), scope, found),
     }
 }
 

@@ -12,7 +12,7 @@ use crate::words::{
     CLOSE, CLOSE_BRACE, EQUALS, OPEN, OPEN_BRACE, OPEN_BRACKET, expect_mark, expect_name,
     expect_word, mark_at, skip_mark, word_at,
 };
-use fp_base::{Row, Span, Text};
+use fp_base::{Boxed, NoMemory, Row, Span, Text};
 use fp_grammar::Halt;
 use fp_lexer::Token;
 use fp_tree::{
@@ -50,8 +50,8 @@ fn constant_of(alloc: Global, word: Span, name: Name, value: Expr) -> Def
     })
 }
 
-fn type_of(alloc: Global, word: Span, name: Name, target: Option<TypeName>) -> Def
-    ensures { result ≡ D.made_type (word, (name, target)) }
+fn type_of(alloc: Global, word: Span, name: Name, target: Option<TypeName>) -> Result<Def, NoMemory>
+    ensures { IfOk result (λ definition. definition ≡ D.made_type (word, (name, target))) }
 {
     let note = Text::new(alloc);
     match target {
@@ -60,19 +60,20 @@ fn type_of(alloc: Global, word: Span, name: Name, target: Option<TypeName>) -> D
                 first: word.first,
                 past: target.at.past,
             };
-            Def::Alias(Alias {
+            let definition = Alias {
                 name,
                 target,
                 at,
                 note,
-            })
+            };
+            Ok(Def::Alias(Boxed::new(alloc, definition)?))
         }
         None => {
             let at = Span {
                 first: word.first,
                 past: name.at.past,
             };
-            Def::Abstract(Abstract { name, at, note })
+            Ok(Def::Abstract(Abstract { name, at, note }))
         }
     }
 }
@@ -85,8 +86,8 @@ fn array_of(
     element: TypeName,
     default: Option<Expr>,
     format: Option<Str>,
-) -> Def
-    ensures { result ≡ D.made_array (word, (name, (size, (element, (default, format))))) }
+) -> Result<Def, NoMemory>
+    ensures { IfOk result (λ definition. definition ≡ D.made_array (word, (name, (size, (element, (default, format)))))) }
 {
     let past = match &default {
         Some(last) => last.at.past,
@@ -101,7 +102,7 @@ fn array_of(
         past,
     };
     let note = Text::new(alloc);
-    Def::Array(Array {
+    let definition = Array {
         name,
         size,
         element,
@@ -109,7 +110,8 @@ fn array_of(
         format,
         at,
         note,
-    })
+    };
+    Ok(Def::Array(Boxed::new(alloc, definition)?))
 }
 
 fn struct_of(
@@ -119,8 +121,8 @@ fn struct_of(
     fields: Row<Field>,
     closing: Span,
     default: Option<Expr>,
-) -> Def
-    ensures { result ≡ D.made_struct (word, (name, (fields, (closing, default)))) }
+) -> Result<Def, NoMemory>
+    ensures { IfOk result (λ definition. definition ≡ D.made_struct (word, (name, (fields, (closing, default))))) }
 {
     let past = match &default {
         Some(last) => last.at.past,
@@ -131,13 +133,14 @@ fn struct_of(
         past,
     };
     let note = Text::new(alloc);
-    Def::Struct(Struct {
+    let definition = Struct {
         name,
         fields,
         default,
         at,
         note,
-    })
+    };
+    Ok(Def::Struct(Boxed::new(alloc, definition)?))
 }
 
 fn enum_of(
@@ -148,8 +151,8 @@ fn enum_of(
     constants: Row<EnumConst>,
     closing: Span,
     default: Option<Expr>,
-) -> Def
-    ensures { result ≡ D.made_enum (word, (name, (repr, (constants, (closing, default))))) }
+) -> Result<Def, NoMemory>
+    ensures { IfOk result (λ definition. definition ≡ D.made_enum (word, (name, (repr, (constants, (closing, default)))))) }
 {
     let past = match &default {
         Some(last) => last.at.past,
@@ -160,14 +163,15 @@ fn enum_of(
         past,
     };
     let note = Text::new(alloc);
-    Def::Enum(Enum {
+    let definition = Enum {
         name,
         repr,
         constants,
         default,
         at,
         note,
-    })
+    };
+    Ok(Def::Enum(Boxed::new(alloc, definition)?))
 }
 
 fn port_of(
@@ -176,8 +180,8 @@ fn port_of(
     name: Name,
     formals: Option<(Row<Formal>, Span)>,
     answer: Option<TypeName>,
-) -> Def
-    ensures { result ≡ D.made_port (word, (name, (formals, answer))) }
+) -> Result<Def, NoMemory>
+    ensures { IfOk result (λ definition. definition ≡ D.made_port (word, (name, (formals, answer)))) }
 {
     let (formals, end) = match formals {
         Some((formals, closing)) => (formals, closing.past),
@@ -192,13 +196,14 @@ fn port_of(
         past,
     };
     let note = Text::new(alloc);
-    Def::Port(Port {
+    let definition = Port {
         name,
         formals,
         result: answer,
         at,
         note,
-    })
+    };
+    Ok(Def::Port(Boxed::new(alloc, definition)?))
 }
 
 fn constant(alloc: Global, tokens: &[Token], from: usize, depth: u32) -> Result<(Def, usize), Halt>
@@ -222,7 +227,7 @@ fn abstract_or_alias(
     let (word, at) = expect_word(tokens, from, TYPE)?;
     let (name, at) = expect_name(alloc, tokens, at)?;
     let (target, at) = target_part(alloc, tokens, at, depth)?;
-    Ok((type_of(alloc, word, name, target), at))
+    Ok((type_of(alloc, word, name, target)?, at))
 }
 
 fn array(alloc: Global, tokens: &[Token], from: usize, depth: u32) -> Result<(Def, usize), Halt>
@@ -237,7 +242,7 @@ fn array(alloc: Global, tokens: &[Token], from: usize, depth: u32) -> Result<(De
     let (default, at) = default_part(alloc, tokens, at, depth)?;
     let (format, at) = format_part(alloc, tokens, at)?;
     Ok((
-        array_of(alloc, word, name, size, element, default, format),
+        array_of(alloc, word, name, size, element, default, format)?,
         at,
     ))
 }
@@ -251,7 +256,7 @@ fn structure(alloc: Global, tokens: &[Token], from: usize, depth: u32) -> Result
     let (fields, at) = fields(alloc, tokens, at, depth)?;
     let (closing, at) = expect_mark(tokens, at, CLOSE_BRACE)?;
     let (default, at) = default_part(alloc, tokens, at, depth)?;
-    Ok((struct_of(alloc, word, name, fields, closing, default), at))
+    Ok((struct_of(alloc, word, name, fields, closing, default)?, at))
 }
 
 fn enumeration(
@@ -270,7 +275,7 @@ fn enumeration(
     let (closing, at) = expect_mark(tokens, at, CLOSE_BRACE)?;
     let (default, at) = default_part(alloc, tokens, at, depth)?;
     Ok((
-        enum_of(alloc, word, name, repr, constants, closing, default),
+        enum_of(alloc, word, name, repr, constants, closing, default)?,
         at,
     ))
 }
@@ -310,7 +315,7 @@ fn port(alloc: Global, tokens: &[Token], from: usize, depth: u32) -> Result<(Def
     let (name, at) = expect_name(alloc, tokens, at)?;
     let (formals, at) = formals_part(alloc, tokens, at, depth)?;
     let (answer, at) = result_part(alloc, tokens, at, depth)?;
-    Ok((port_of(alloc, word, name, formals, answer), at))
+    Ok((port_of(alloc, word, name, formals, answer)?, at))
 }
 
 /// Reads a definition.

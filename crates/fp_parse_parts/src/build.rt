@@ -2,7 +2,7 @@ ghost use Rattle.std.specs.Prelude.{◌≡◌, IfOk};
 ghost use Rattle.fp_parse_parts.specs.Members as M;
 
 use crate::bare::BareMember;
-use fp_base::{NoMemory, Row, Span, Text};
+use fp_base::{Boxed, NoMemory, Row, Span, Text};
 use fp_parse_defs::join;
 use fp_tree::{
     Abstract, Alias, Array, Constant, Def, Enum, Include, Locate, Member, Module, Name, Port, Qual,
@@ -39,6 +39,23 @@ pub fn module_of(word: Span, name: Name, members: Row<Member>, closing: Span) ->
         past: closing.past,
     };
     BareMember::Module { name, members, at }
+}
+
+fn noted_alias(definition: Alias, note: Text) -> Alias
+    ensures { result ≡ record { name = definition.name; target = definition.target; at = definition.at; note = note } }
+{
+    let Alias {
+        name,
+        target,
+        at,
+        note: _,
+    } = definition;
+    Alias {
+        name,
+        target,
+        at,
+        note,
+    }
 }
 
 fn noted_array(definition: Array, note: Text) -> Array
@@ -123,8 +140,8 @@ fn noted_port(definition: Port, note: Text) -> Port
     }
 }
 
-fn noted_definition(definition: Def, note: Text) -> Def
-    ensures { result ≡ M.noted_definition definition note }
+fn noted_definition(alloc: Global, definition: Def, note: Text) -> Result<Def, NoMemory>
+    ensures { IfOk result (λ noted. noted ≡ M.noted_definition definition note) }
 {
     match definition {
         Def::Constant(
@@ -134,48 +151,55 @@ fn noted_definition(definition: Def, note: Text) -> Def
                 at,
                 note: _,
             },
-        ) => Def::Constant(Constant {
+        ) => Ok(Def::Constant(Constant {
             name,
             value,
             at,
             note,
-        }),
+        })),
         Def::Abstract(Abstract { name, at, note: _ }) => {
-            Def::Abstract(Abstract { name, at, note })
+            Ok(Def::Abstract(Abstract { name, at, note }))
         }
-        Def::Alias(
-            Alias {
-                name,
-                target,
-                at,
-                note: _,
-            },
-        ) => Def::Alias(Alias {
-            name,
-            target,
-            at,
-            note,
-        }),
-        Def::Array(definition) => Def::Array(noted_array(definition, note)),
-        Def::Struct(definition) => Def::Struct(noted_struct(definition, note)),
-        Def::Enum(definition) => Def::Enum(noted_enum(definition, note)),
-        Def::Port(definition) => Def::Port(noted_port(definition, note)),
+        Def::Alias(definition) => {
+            let noted = noted_alias(definition.into_inner(), note);
+            Ok(Def::Alias(Boxed::new(alloc, noted)?))
+        }
+        Def::Array(definition) => {
+            let noted = noted_array(definition.into_inner(), note);
+            Ok(Def::Array(Boxed::new(alloc, noted)?))
+        }
+        Def::Struct(definition) => {
+            let noted = noted_struct(definition.into_inner(), note);
+            Ok(Def::Struct(Boxed::new(alloc, noted)?))
+        }
+        Def::Enum(definition) => {
+            let noted = noted_enum(definition.into_inner(), note);
+            Ok(Def::Enum(Boxed::new(alloc, noted)?))
+        }
+        Def::Port(definition) => {
+            let noted = noted_port(definition.into_inner(), note);
+            Ok(Def::Port(Boxed::new(alloc, noted)?))
+        }
     }
 }
 
-fn noted_member(member: BareMember, note: Text) -> Member
-    ensures { result ≡ M.noted_member member note }
+fn noted_member(alloc: Global, member: BareMember, note: Text) -> Result<Member, NoMemory>
+    ensures { IfOk result (λ noted. noted ≡ M.noted_member member note) }
 {
     match member {
-        BareMember::Module { name, members, at } => Member::Module(Module {
+        BareMember::Module { name, members, at } => Ok(Member::Module(Module {
             name,
             members,
             at,
             note,
-        }),
-        BareMember::Def(definition) => Member::Def(noted_definition(definition, note)),
-        BareMember::Include { file, at } => Member::Include(Include { file, at, note }),
-        BareMember::Locate { of, file, at } => Member::Locate(Locate { of, file, at, note }),
+        })),
+        BareMember::Def(definition) => {
+            Ok(Member::Def(noted_definition(alloc, definition, note)?))
+        }
+        BareMember::Include { file, at } => Ok(Member::Include(Include { file, at, note })),
+        BareMember::Locate { of, file, at } => {
+            Ok(Member::Locate(Locate { of, file, at, note }))
+        }
     }
 }
 
@@ -190,6 +214,6 @@ pub fn with_member(
 {
     let note = join(alloc, lines.as_slice())?;
     let mut all = members;
-    all.push(noted_member(item, note))?;
+    all.push(noted_member(alloc, item, note)?)?;
     Ok(all)
 }

@@ -27,11 +27,26 @@ fn rendered_definition(alloc: Global, definition: &Def) -> Result<String, AllocE
     match definition {
         Def::Constant(d) => with_span(alloc, "constant", d.name.text.as_str(), d.at, &d.note),
         Def::Abstract(d) => with_span(alloc, "abstract", d.name.text.as_str(), d.at, &d.note),
-        Def::Alias(d) => with_span(alloc, "alias", d.name.text.as_str(), d.at, &d.note),
-        Def::Array(d) => with_span(alloc, "array", d.name.text.as_str(), d.at, &d.note),
-        Def::Struct(d) => with_span(alloc, "struct", d.name.text.as_str(), d.at, &d.note),
-        Def::Enum(d) => with_span(alloc, "enum", d.name.text.as_str(), d.at, &d.note),
-        Def::Port(d) => with_span(alloc, "port", d.name.text.as_str(), d.at, &d.note),
+        Def::Alias(d) => {
+            let d = d.get();
+            with_span(alloc, "alias", d.name.text.as_str(), d.at, &d.note)
+        }
+        Def::Array(d) => {
+            let d = d.get();
+            with_span(alloc, "array", d.name.text.as_str(), d.at, &d.note)
+        }
+        Def::Struct(d) => {
+            let d = d.get();
+            with_span(alloc, "struct", d.name.text.as_str(), d.at, &d.note)
+        }
+        Def::Enum(d) => {
+            let d = d.get();
+            with_span(alloc, "enum", d.name.text.as_str(), d.at, &d.note)
+        }
+        Def::Port(d) => {
+            let d = d.get();
+            with_span(alloc, "port", d.name.text.as_str(), d.at, &d.note)
+        }
     }
 }
 

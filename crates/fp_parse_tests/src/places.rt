@@ -182,14 +182,15 @@ pub fn definition_places(alloc: Global, definition: &Def) -> Result<String, Allo
             write_span(alloc, opaque.name.at, &mut out)?;
         }
         Def::Alias(alias) => {
+            let alias = alias.get();
             write_span(alloc, alias.at, &mut out)?;
             write_span(alloc, alias.name.at, &mut out)?;
             type_places(alloc, &alias.target, &mut out)?;
         }
-        Def::Array(array) => array_places(alloc, array, &mut out)?,
-        Def::Struct(structure) => struct_places(alloc, structure, &mut out)?,
-        Def::Enum(enumeration) => enum_places(alloc, enumeration, &mut out)?,
-        Def::Port(port) => port_places(alloc, port, &mut out)?,
+        Def::Array(array) => array_places(alloc, array.get(), &mut out)?,
+        Def::Struct(structure) => struct_places(alloc, structure.get(), &mut out)?,
+        Def::Enum(enumeration) => enum_places(alloc, enumeration.get(), &mut out)?,
+        Def::Port(port) => port_places(alloc, port.get(), &mut out)?,
     }
     Ok(out)
 }

@@ -283,14 +283,15 @@ pub fn write_definition(
             out.push_str(opaque.name.text.as_str())
         }
         Def::Alias(alias) => {
+            let alias = alias.get();
             out.push_str("alias ")?;
             out.push_str(alias.name.text.as_str())?;
             out.push_str(" = ")?;
             write_type(alloc, &alias.target, out)
         }
-        Def::Array(array) => write_array(alloc, array, out),
-        Def::Struct(structure) => write_struct(alloc, structure, out),
-        Def::Enum(enumeration) => write_enum(alloc, enumeration, out),
-        Def::Port(port) => write_port(alloc, port, out),
+        Def::Array(array) => write_array(alloc, array.get(), out),
+        Def::Struct(structure) => write_struct(alloc, structure.get(), out),
+        Def::Enum(enumeration) => write_enum(alloc, enumeration.get(), out),
+        Def::Port(port) => write_port(alloc, port.get(), out),
     }
 }

@@ -4,19 +4,19 @@ use crate::expression::{Expr, copy_optional};
 use crate::name::{Name, Str, copy_optional_str};
 use crate::part::{EnumConst, Field, Formal, copy_constants, copy_fields, copy_formals};
 use crate::type_name::{TypeName, copy_optional_type};
-use fp_base::{NoMemory, Row, Span, Text};
+use fp_base::{Boxed, NoMemory, Row, Span, Text};
 use std::alloc::Global;
 
-/// A definition.
+/// A definition. What takes more room than a constant is boxed, since most definitions are constants.
 #[derive(Debug, Drop)]
 pub enum Def {
     Constant(Constant),
     Abstract(Abstract),
-    Alias(Alias),
-    Array(Array),
-    Struct(Struct),
-    Enum(Enum),
-    Port(Port),
+    Alias(Boxed<Alias>),
+    Array(Boxed<Array>),
+    Struct(Boxed<Struct>),
+    Enum(Boxed<Enum>),
+    Port(Boxed<Port>),
 }
 
 /// A constant definition.
@@ -95,11 +95,26 @@ impl Def {
         match self {
             Def::Constant(definition) => Ok(Def::Constant(definition.copy(alloc)?)),
             Def::Abstract(definition) => Ok(Def::Abstract(definition.copy(alloc)?)),
-            Def::Alias(definition) => Ok(Def::Alias(definition.copy(alloc)?)),
-            Def::Array(definition) => Ok(Def::Array(definition.copy(alloc)?)),
-            Def::Struct(definition) => Ok(Def::Struct(definition.copy(alloc)?)),
-            Def::Enum(definition) => Ok(Def::Enum(definition.copy(alloc)?)),
-            Def::Port(definition) => Ok(Def::Port(definition.copy(alloc)?)),
+            Def::Alias(definition) => {
+                let copy = definition.get().copy(alloc)?;
+                Ok(Def::Alias(Boxed::new(alloc, copy)?))
+            }
+            Def::Array(definition) => {
+                let copy = definition.get().copy(alloc)?;
+                Ok(Def::Array(Boxed::new(alloc, copy)?))
+            }
+            Def::Struct(definition) => {
+                let copy = definition.get().copy(alloc)?;
+                Ok(Def::Struct(Boxed::new(alloc, copy)?))
+            }
+            Def::Enum(definition) => {
+                let copy = definition.get().copy(alloc)?;
+                Ok(Def::Enum(Boxed::new(alloc, copy)?))
+            }
+            Def::Port(definition) => {
+                let copy = definition.get().copy(alloc)?;
+                Ok(Def::Port(Boxed::new(alloc, copy)?))
+            }
         }
     }
 }

@@ -27,4 +27,4 @@ pub returns-in_err-target : goal.returns-in_err-target
 returns-in_err-target c = passing _ _ (λ to p. stop (next (next (under (begin _ _ (F.abstract_or_alias_fits _))) c.in_ok-word.ensures) c.in_ok-name.ensures) p) c.in_err-target.ensures c.from_residual-in_err-target.ensures.1
 
 pub returns : goal.returns
-returns c = as_value (sym c.type_of.ensures) (done (next (next (under (begin _ _ (F.abstract_or_alias_fits _))) c.in_ok-word.ensures) c.in_ok-name.ensures) c.in_ok-target.ensures)
+returns c = as_value (sym c.in_ok-type_of.ensures) (done (next (next (under (begin _ _ (F.abstract_or_alias_fits _))) c.in_ok-word.ensures) c.in_ok-name.ensures) c.in_ok-target.ensures)

@@ -42,4 +42,4 @@ pub returns-in_err-format : goal.returns-in_err-format
 returns-in_err-format c = passing _ _ (λ to p. stop (next (next (next (next (under (next (under (next (next (under (begin _ _ (F.array_fits _))) c.in_ok-word.ensures) c.in_ok-name.ensures)) c.in_ok-at.ensures.1)) c.in_ok-at-2.ensures.1) c.in_ok-size.ensures) c.in_ok-element.ensures) c.in_ok-default.ensures) p) c.in_err-format.ensures c.from_residual-in_err-format.ensures.1
 
 pub returns : goal.returns
-returns c = as_value (sym c.array_of.ensures) (done (next (next (next (next (under (next (under (next (next (under (begin _ _ (F.array_fits _))) c.in_ok-word.ensures) c.in_ok-name.ensures)) c.in_ok-at.ensures.1)) c.in_ok-at-2.ensures.1) c.in_ok-size.ensures) c.in_ok-element.ensures) c.in_ok-default.ensures) c.in_ok-format.ensures)
+returns c = as_value (sym c.in_ok-array_of.ensures) (done (next (next (next (next (under (next (under (next (next (under (begin _ _ (F.array_fits _))) c.in_ok-word.ensures) c.in_ok-name.ensures)) c.in_ok-at.ensures.1)) c.in_ok-at-2.ensures.1) c.in_ok-size.ensures) c.in_ok-element.ensures) c.in_ok-default.ensures) c.in_ok-format.ensures)

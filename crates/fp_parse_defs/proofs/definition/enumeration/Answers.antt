@@ -39,4 +39,4 @@ pub returns-in_err-default : goal.returns-in_err-default
 returns-in_err-default c = passing _ _ (λ to p. stop (next (next (next (under (next (next (next (under (begin _ _ (F.enumeration_fits _))) c.in_ok-word.ensures) c.in_ok-name.ensures) c.in_ok-repr.ensures)) c.in_ok-at.ensures.1) c.in_ok-constants.ensures) c.in_ok-closing.ensures) p) c.in_err-default.ensures c.from_residual-in_err-default.ensures.1
 
 pub returns : goal.returns
-returns c = as_value (sym c.enum_of.ensures) (done (next (next (next (under (next (next (next (under (begin _ _ (F.enumeration_fits _))) c.in_ok-word.ensures) c.in_ok-name.ensures) c.in_ok-repr.ensures)) c.in_ok-at.ensures.1) c.in_ok-constants.ensures) c.in_ok-closing.ensures) c.in_ok-default.ensures)
+returns c = as_value (sym c.in_ok-enum_of.ensures) (done (next (next (next (under (next (next (next (under (begin _ _ (F.enumeration_fits _))) c.in_ok-word.ensures) c.in_ok-name.ensures) c.in_ok-repr.ensures)) c.in_ok-at.ensures.1) c.in_ok-constants.ensures) c.in_ok-closing.ensures) c.in_ok-default.ensures)

@@ -30,4 +30,4 @@ pub returns-in_err-answer : goal.returns-in_err-answer
 returns-in_err-answer c = passing _ _ (λ to p. stop (next (next (next (under (begin _ _ (F.port_fits _))) c.in_ok-word.ensures) c.in_ok-name.ensures) c.in_ok-formals.ensures) p) c.in_err-answer.ensures c.from_residual-in_err-answer.ensures.1
 
 pub returns : goal.returns
-returns c = as_value (sym c.port_of.ensures) (done (next (next (next (under (begin _ _ (F.port_fits _))) c.in_ok-word.ensures) c.in_ok-name.ensures) c.in_ok-formals.ensures) c.in_ok-answer.ensures)
+returns c = as_value (sym c.in_ok-port_of.ensures) (done (next (next (next (under (begin _ _ (F.port_fits _))) c.in_ok-word.ensures) c.in_ok-name.ensures) c.in_ok-formals.ensures) c.in_ok-answer.ensures)

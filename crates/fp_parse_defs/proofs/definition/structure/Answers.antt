@@ -36,4 +36,4 @@ pub returns-in_err-default : goal.returns-in_err-default
 returns-in_err-default c = passing _ _ (λ to p. stop (next (next (next (under (next (next (under (begin _ _ (F.structure_fits _))) c.in_ok-word.ensures) c.in_ok-name.ensures)) c.in_ok-at.ensures.1) c.in_ok-fields.ensures) c.in_ok-closing.ensures) p) c.in_err-default.ensures c.from_residual-in_err-default.ensures.1
 
 pub returns : goal.returns
-returns c = as_value (sym c.struct_of.ensures) (done (next (next (next (under (next (next (under (begin _ _ (F.structure_fits _))) c.in_ok-word.ensures) c.in_ok-name.ensures)) c.in_ok-at.ensures.1) c.in_ok-fields.ensures) c.in_ok-closing.ensures) c.in_ok-default.ensures)
+returns c = as_value (sym c.in_ok-struct_of.ensures) (done (next (next (next (under (next (next (under (begin _ _ (F.structure_fits _))) c.in_ok-word.ensures) c.in_ok-name.ensures)) c.in_ok-at.ensures.1) c.in_ok-fields.ensures) c.in_ok-closing.ensures) c.in_ok-default.ensures)
