@@ -1,0 +1,9 @@
+mod Each
+mod Preserving
+mod Walks
+mod Lists
+mod Words
+mod Expressions
+mod Definitions
+mod Members
+mod Standing
