@@ -4,7 +4,8 @@ use Rattle.fp_outside.specs.declared.files.HeldFile.{HeldFile}
 use Rattle.fp_tree.specs.declared.member.Include.{Include}
 use Rattle.fp_tree.specs.declared.member.Member.{Member}
 use Rattle.fp_main.specs.FilesRun.{IsHeld}
-use Rattle.fp_main.specs.gathering.Includes.{included_name, includes_in}
+use Rattle.fp_sites.specs.Includes.{includes_in}
+use Rattle.fp_main.specs.gathering.Includes.{included_name}
 use Rattle.fp_main.specs.gathering.Walks.{Each, NoFile, Outcome, Reads, Stopped, Stops, Walk, Walked, WalksFile, WalksFiles, WalksInclude, Went, most_levels, nothing_read}
 
 abbrev HasGone : {A : Type 0} → Outcome A → Type 0

@@ -63,7 +63,7 @@ module _ (words : List (List ℕ)) (files : FilesRun) (out diag : SinkRun) (stat
   pub refused_means : RefusedMeans words files out diag status
   refused_means e =
       let c = called_as Refused (λ f. cc) e in
-      (c.0.walked, c.0.source, c.0.says.refusal, c.0.read, c.0.says.first, (adds_as _ _ out c.1.written c.0.says.silent, adds_as _ _ diag c.1.said c.0.says.said))
+      (c.0.walked, c.0.source, c.0.says.refusal, c.0.read, c.0.says.first, c.0.among, (adds_as _ _ out c.1.written c.0.says.silent, adds_as _ _ diag c.1.said c.0.says.said))
 
   pub done_means : DoneMeans words files out diag status
   done_means e =

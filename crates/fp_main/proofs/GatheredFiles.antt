@@ -4,6 +4,8 @@ use Rattle.std.specs.Prelude.{Result, Ok, Err, IsErrAnd}
 use Rattle.fp_tree.specs.declared.member.Member.{Member}
 use Rattle.fp_tree.specs.declared.source.Source.{Source}
 use Rattle.fp_main.specs.FilesRun.{FilesRun, NoFault, NoMiss}
+use Rattle.fp_main.proofs.AmongRead.{InFilesRead}
+use Rattle.fp_main.proofs.SourceFaults.{files_to_source}
 use Rattle.fp_main.specs.gathering.Answers.{Comes, Concludes, Knows}
 use Rattle.fp_main.specs.gathering.Gathered.{Gathers, source_of}
 use Rattle.fp_main.specs.gathering.Walks.{Walked, Went, WalksFiles, nothing_read}
@@ -24,23 +26,24 @@ pub gathers_stopped : (names : List (List ℕ)) (files : FilesRun) (progress : P
 gathers_stopped names files progress h (Ok source) e c = absurd e
 gathers_stopped names files progress h (Err y) e c = subst (λ (z : Halt). Gathers names files (Err z)) (sym e) (stopped names files progress h c)
 
-concluded : (names : List (List ℕ)) (files : FilesRun) (walked : Walked) (units : List (List Member)) (r : Result Source Halt) → NoFault files → NoMiss files
+concluded : (among : InFilesRead) (names : List (List ℕ)) (files : FilesRun) (walked : Walked) (units : List (List Member)) (r : Result Source Halt) → NoFault files → NoMiss files
     → WalksFiles files.told names nothing_read (Went walked units) → Concludes walked units r → Gathers names files r
-concluded names files walked units (Ok source) sound found read c =
+concluded among names files walked units (Ok source) sound found read c =
     (walked, record { sound = sound; found = found; units = units; read = read; made = c.0 }, c.1)
-concluded names files walked units (Err (halt.Broken name refusal)) sound found read c = record {
+concluded among names files walked units (Err (halt.Broken name refusal)) sound found read c = record {
   walked = walked;
   source = source_of walked units;
   read = record { sound = sound; found = found; units = units; read = read; made = refl };
   first = c.0;
+  among = among files.told names walked units refusal read (files_to_source walked (source_of walked units) refusal (c.0.holds refusal refl));
   named = c.1;
 }
-concluded names files walked units (Err halt.NoMemory) sound found read c = tt
-concluded names files walked units (Err (halt.NoFile name)) sound found read c = absurd c
-concluded names files walked units (Err (halt.ReadFault name)) sound found read c = absurd c
+concluded among names files walked units (Err halt.NoMemory) sound found read c = tt
+concluded among names files walked units (Err (halt.NoFile name)) sound found read c = absurd c
+concluded among names files walked units (Err (halt.ReadFault name)) sound found read c = absurd c
 
 -- a walk that goes through, with what is concluded
-pub gathers_concluded : (names : List (List ℕ)) (files : FilesRun) (progress : Progress) (units : List (List Member)) (r : Result Source Halt)
+pub gathers_concluded : (among : InFilesRead) (names : List (List ℕ)) (files : FilesRun) (progress : Progress) (units : List (List Member)) (r : Result Source Halt)
     → Comes files (λ told. WalksFiles told names) nothing_read progress (Ok units) → ((walked : Walked) → Knows progress walked → Concludes walked units r)
     → Gathers names files r
-gathers_concluded names files progress units r c end = concluded names files c.2.0 units r c.0 c.1 c.2.1 (end c.2.0 c.2.2)
+gathers_concluded among names files progress units r c end = concluded among names files c.2.0 units r c.0 c.1 c.2.1 (end c.2.0 c.2.2)

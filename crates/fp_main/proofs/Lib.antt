@@ -1,4 +1,6 @@
 pub mod Absent
+pub mod AllItems
+pub mod AmongRead
 pub mod CausesComing
 pub mod CausesMeant
 pub mod Directories
@@ -8,8 +10,10 @@ pub mod FoundInFiles
 pub mod GatheredFiles
 pub mod KnownFiles
 pub mod OneWalk
+pub mod PartsHold
 pub mod PartsPlaced
 pub mod SourceFaults
+pub mod StandBelow
 pub mod WalkSteps
 pub mod Wording
 pub mod Writing

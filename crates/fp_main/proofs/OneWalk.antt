@@ -11,7 +11,8 @@ use Rattle.fp_outside.specs.declared.files.HeldFile.{HeldFile}
 use Rattle.fp_parse_parts.specs.Units.{SpellsUnit, BreaksUnit}
 use Rattle.fp_tree.specs.declared.member.Include.{Include}
 use Rattle.fp_tree.specs.declared.member.Member.{Member}
-use Rattle.fp_main.specs.gathering.Includes.{included_name, includes_in, replaced}
+use Rattle.fp_sites.specs.Includes.{includes_in}
+use Rattle.fp_main.specs.gathering.Includes.{included_name, replaced}
 use Rattle.fp_main.specs.gathering.Reading.{Reading, BreaksTokens, BreaksGrammar, Gives, HasTokens}
 use Rattle.fp_main.specs.gathering.Walks.{Walked, Walk, Outcome, Went, Stops, Stopped, NoFile, ReadFault, Each, NoReadFault, Reads, WalksFile, WalksInclude, WalksFiles, most_levels, next_reading, with_reading}
 
@@ -38,10 +39,10 @@ IsWent (Stops s) = ⊥
 not_both : {A : Type 0} (w : Walked) (x : A) (s : Stopped) → ◌≡◌ {A = Outcome A} (Went w x) (Stops s) → ⊥
 not_both w x s e = subst IsWent e tt
 
-same_walked : {A : Type 0} {w v : Walked} {x y : A} → Went w x ≡ Went v y → w ≡ v
+pub same_walked : {A : Type 0} {w v : Walked} {x y : A} → Went w x ≡ Went v y → w ≡ v
 same_walked {w = w} e = ap (walked_of w) e
 
-same_given : {A : Type 0} {w v : Walked} {x y : A} → Went w x ≡ Went v y → x ≡ y
+pub same_given : {A : Type 0} {w v : Walked} {x y : A} → Went w x ≡ Went v y → x ≡ y
 same_given {x = x} e = ap (given_of x) e
 
 same_stopped : {A : Type 0} {s t : Stopped} → ◌≡◌ {A = Outcome A} (Stops s) (Stops t) → s ≡ t

@@ -8,7 +8,8 @@ use Rattle.fp_tree.specs.declared.member.Member.TheOpen as open_member
 use Rattle.fp_tree.specs.declared.member.Member.TheVariants.{rolls-Module}
 use Rattle.fp_tree.specs.declared.member.Member.TheVariants as member
 use Rattle.fp_tree.specs.declared.member.Module.{Module as Opened, out-Module, fold_out-Module}
-use Rattle.fp_main.specs.gathering.Includes.{Parts, Placed, in_turn, includes_in, includes_of_member, includes_of_module, includes_within, place_in_member, place_in_module, placed, placed_module}
+use Rattle.fp_sites.specs.Includes.{includes_in, includes_of_member, includes_of_module, includes_within}
+use Rattle.fp_main.specs.gathering.Includes.{Parts, Placed, in_turn, place_in_member, place_in_module, placed, placed_module}
 
 pub module_includes : (m : Opened) → includes_within (member.Module m) ≡ includes_in (out-Module m).members
 module_includes m =

@@ -16,7 +16,7 @@ none_in fs f c none = omega (arith, c.1, length_none)
 
 module _ (walked : Walked) (source : Source) where
   -- what files break is broken in the source
-  files_to_source : (f : Refusal) → FilesBroken walked source f → SourceBroken walked source f
+  pub files_to_source : (f : Refusal) → FilesBroken walked source f → SourceBroken walked source f
   files_to_source f (inl t) = inl t
   files_to_source f (inr (inl g, none)) = inr (inl g, none)
   files_to_source f (inr (inr (n, quiet), none)) = inr (inr (n.1, quiet), none)

@@ -13,7 +13,8 @@ use Rattle.fp_tree.specs.declared.member.Member.{Member}
 use Rattle.fp_meaning.specs.Least.{broken_at}
 use Rattle.fp_main.specs.FilesRun.{FilesRun, files_run, IsHeld, NoFault, NoMiss}
 use Rattle.fp_main.specs.gathering.Answers.{Comes, Knows}
-use Rattle.fp_main.specs.gathering.Includes.{included_name, includes_in, replaced}
+use Rattle.fp_sites.specs.Includes.{includes_in}
+use Rattle.fp_main.specs.gathering.Includes.{included_name, replaced}
 use Rattle.fp_main.specs.gathering.Reading.{Gives}
 use Rattle.fp_main.specs.gathering.Walks.{Walked, Walk, Outcome, Went, Stops, Stopped, NoFile, ReadFault, Each, IsBad, IsRefused, Reads, WalksFile, WalksFiles, WalksInclude, next_reading, with_reading, with_refused}
 use Rattle.fp_main.specs.declared.gathering.Halt.{Halt}

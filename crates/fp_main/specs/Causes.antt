@@ -13,7 +13,7 @@ use Rattle.fp_main.specs.Lines.{usage_line, refusal_line, read_fault_line, no_fi
 use Rattle.fp_main.specs.Listing.{listing_of}
 use Rattle.fp_main.specs.Output.{IsRead, IsDue}
 use Rattle.fp_main.specs.Words.{IsCheck, IsWrong}
-use Rattle.fp_main.specs.gathering.Gathered.{IsAbsent, IsUnread, SourceBroken, name_of, names_read, source_of}
+use Rattle.fp_main.specs.gathering.Gathered.{IsAbsent, IsUnread, SourceBroken, StandsAmong, name_of, names_read, source_of}
 use Rattle.fp_main.specs.gathering.Walks.{NoFile as IsMissing, Outcome, Stops, Walked, WalksFiles, Went, nothing_read}
 use Rattle.fp_main.specs.declared.status.Status.{Status}
 use Rattle.fp_main.specs.declared.status.Status.TheVariants.{Done, Refused, Usage, ReadFault, WriteFault, NoFile, Stuck, Spent, Asserted, NoMemory, NoTopology}
@@ -60,7 +60,7 @@ NoFileMeans words files out diag status =
 abbrev pub RefusedMeans : List (List ℕ) → FilesRun → SinkRun → SinkRun → Status → Type 0
 RefusedMeans words files out diag status =
     status ≡ Refused → (walked : Walked) × (source : Source) × (f : Refusal) × IsRead words files walked source × IsLeast (SourceBroken walked source) (Some f)
-    × Says (refusal_line (name_of (names_read walked) f.place.file) f.place f.rule) out diag
+    × StandsAmong (names_read walked) f × Says (refusal_line (name_of (names_read walked) f.place.file) f.place f.rule) out diag
 
 abbrev pub DoneMeans : List (List ℕ) → FilesRun → SinkRun → SinkRun → Status → Type 0
 DoneMeans words files out diag status =

@@ -6,7 +6,7 @@ use Rattle.fp_meaning.specs.Broken.{NamesBroken}
 use Rattle.fp_meaning.specs.Least.{IsLeast, IsUnbroken}
 use Rattle.fp_main.specs.Delivery.{SinkRun, Delivered}
 use Rattle.fp_main.specs.FilesRun.{FilesRun, NoFault, NoMiss}
-use Rattle.fp_main.specs.gathering.Gathered.{AreRead, IsAbsent, IsUnread, SourceBroken, name_of, names_read}
+use Rattle.fp_main.specs.gathering.Gathered.{AreRead, IsAbsent, IsUnread, SourceBroken, StandsAmong, name_of, names_read}
 use Rattle.fp_main.specs.gathering.Walks.{Walked}
 use Rattle.fp_main.specs.Lines.{usage_line, refusal_line, read_fault_line, no_file_line, no_memory_line}
 use Rattle.fp_main.specs.Listing.{listing_of}
@@ -53,12 +53,13 @@ pub record SaysBroken (broken : Refusal → Type 0) (names : List (List ℕ)) (o
   pub silent : output ≡ []
   pub said : line ≡ refusal_line (name_of names refusal.place.file) refusal.place refusal.rule
 
--- a rule is broken in the source
+-- a rule is broken in the source, in one of the files that were read
 pub record DueRefused (words : List (List ℕ)) (files : FilesRun) (output line : List ℕ) : Type 0 where
   pub walked : Walked
   pub source : Source
   pub read : IsRead words files walked source
   pub says : SaysBroken (SourceBroken walked source) (names_read walked) output line
+  pub among : StandsAmong (names_read walked) says.refusal
 
 -- the listing of what the source defines
 pub record DueListing (words : List (List ℕ)) (files : FilesRun) (output line : List ℕ) : Type 0 where

@@ -4,7 +4,7 @@ ghost use Rattle.fp_main.specs.FilesRun.{files_run};
 ghost use Rattle.fp_main.specs.Output.{IsDue, IsDueFor};
 ghost use Rattle.fp_main.specs.Words.{IsCheck};
 
-use crate::gathering::{Halt, gather};
+use crate::gathering::{Halt, gather, in_files_read};
 use crate::lines::{name_of, no_file_line, read_fault_line, refusal_line, usage_line};
 use crate::listing::listing;
 use crate::status::Status;
@@ -56,6 +56,8 @@ fn check(alloc: Global, source: &Source) -> Result<Due, NoMemory>
 fn answer_check<F: Files>(alloc: Global, names: &[String], files: &mut F) -> Result<Due, NoMemory>
     ensures { (words : List (List ℕ)) → IsCheck words (map string_bytes names.now) → IfOk result (λ due. IsDue words (files_run F.told F.faults F.misses files.old files.new) due.status due.output due.line) }
 {
+    // for the file in which a rule of names is broken
+    in_files_read();
     match gather(alloc, names, files) {
         Ok(source) => check(alloc, &source),
         Err(Halt::Broken(name, refusal)) => {

@@ -15,7 +15,7 @@ use concluding::conclude;
 use fp_base::{NoMemory, Refusal, Text};
 use fp_outside::Files;
 use fp_tree::Source;
-pub use laws::one_reading;
+pub use laws::{in_files_read, one_reading};
 use progress::nothing_read;
 use std::alloc::Global;
 use walking::walk_files;
@@ -46,6 +46,8 @@ impl From<NoMemory> for Halt {
 pub fn gather<F: Files>(alloc: Global, names: &[String], files: &mut F) -> Result<Source, Halt>
     ensures { Gathers (map string_bytes names.now) (files_run F.told F.faults F.misses files.old files.new) result }
 {
+    // for the file in which a rule is broken
+    in_files_read();
     let mut progress = nothing_read(alloc);
     let units = walk_files(alloc, files, &mut progress, names)?;
     conclude(alloc, progress, units)

@@ -11,7 +11,7 @@ mod serving;
 mod status;
 mod words;
 
-pub use gathering::one_reading;
+pub use gathering::{in_files_read, one_reading};
 pub use laws::worked_lines;
 pub use serving::serve;
 pub use status::Status;

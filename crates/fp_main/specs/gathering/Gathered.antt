@@ -1,5 +1,5 @@
 -- What files are gathered to: a source, or the first rule that they break before names are looked up.
-use Rattle.std.specs.Prelude.{ℕ, ◌≡◌, ◌≢◌, List, [], map, Contains, Some, Result, Ok, Err}
+use Rattle.std.specs.Prelude.{ℕ, ◌≡◌, ◌≢◌, ◌<◌, List, [], length, map, Contains, Some, Result, Ok, Err}
 use Rattle.std.specs.List.{slice_index_or}
 use Rattle.fp_base.specs.declared.refusal.Refusal.{Refusal}
 use Rattle.fp_tree.specs.declared.member.Member.{Member}
@@ -46,6 +46,10 @@ FilesBroken walked source =
 abbrev pub name_of : List (List ℕ) → ℕ → List ℕ
 name_of names number = slice_index_or names number []
 
+-- it stands in one of the files of these names
+abbrev pub StandsAmong : List (List ℕ) → Refusal → Type 0
+StandsAmong names f = f.place.file < length names
+
 -- all files asked for were read, and give this source
 pub record AreRead (names : List (List ℕ)) (files : FilesRun) (walked : Walked) (source : Source) : Type 0 where
   pub sound : NoFault files
@@ -66,12 +70,13 @@ pub record IsUnread (names : List (List ℕ)) (files : FilesRun) (failed : List 
   pub found : NoMiss files
   pub stopped : WalksFiles files.told names nothing_read (Stops (ReadFault failed))
 
--- the files break a rule, the first of which is this, in the file of this name
+-- the files break a rule, the first of which is this, in one of the files that were read, of this name
 pub record AreBroken (names : List (List ℕ)) (files : FilesRun) (name : List ℕ) (refusal : Refusal) : Type 0 where
   pub walked : Walked
   pub source : Source
   pub read : AreRead names files walked source
   pub first : IsLeast (FilesBroken walked source) (Some refusal)
+  pub among : StandsAmong (names_read walked) refusal
   pub named : name ≡ name_of (names_read walked) refusal.place.file
 
 -- what gathering the files of these names answers

@@ -1,6 +1,5 @@
--- The includes of a file, the files that they stand for, and the members that stand in their places. FPP Language Specification,
--- "Include Specifiers".
-use Rattle.std.specs.Prelude.{ℕ, ◌-◌, ◌==◌, not, List, [], ◌∷◌, ◌++◌, length, take, map, flat_map}
+-- The files that includes stand for, and the members that stand in their places. FPP Language Specification, "Include Specifiers".
+use Rattle.std.specs.Prelude.{ℕ, ◌-◌, ◌==◌, not, List, [], ◌∷◌, ◌++◌, length, take, map}
 use Rattle.std.specs.List.{suffix_len}
 use Rattle.fp_tree.specs.declared.member.Include.{Include}
 use Rattle.fp_tree.specs.declared.member.Member.{Member, Member-F, fold-Member}
@@ -20,22 +19,6 @@ nearest_directory (nearest ∷ round) = directory nearest
 -- the name of the file that an include stands for, behind that directory part
 abbrev pub included_name : List (List ℕ) → Include → List ℕ
 included_name round i = nearest_directory round ++ i.file.text
-
--- the includes of members, in source order
-abbrev pub includes_of_member : Member-F (List Include) (List Include) → List Include
-includes_of_member (open_member.Module inner) = inner
-includes_of_member (open_member.Def d) = []
-includes_of_member (open_member.Include i) = i ∷ []
-includes_of_member (open_member.Locate l) = []
-
-abbrev pub includes_of_module : Module-F (List Include) (List Include) → List Include
-includes_of_module m = flat_map (λ is. is) m.members
-
-abbrev pub includes_within : Member → List Include
-includes_within m = fold-Member (List Include) (List Include) includes_of_member includes_of_module m
-
-abbrev pub includes_in : List Member → List Include
-includes_in ms = flat_map includes_within ms
 
 -- what stands in place of includes, for each the members of the file that it stands for
 abbrev pub Parts : Type 0

@@ -8,7 +8,8 @@ use Rattle.fp_tree.specs.declared.member.Include.{Include}
 use Rattle.fp_tree.specs.declared.member.Member.{Member}
 use Rattle.fp_meaning.specs.Least.{broken_at}
 use Rattle.fp_main.specs.FilesRun.{IsHeld}
-use Rattle.fp_main.specs.gathering.Includes.{included_name, includes_in, replaced}
+use Rattle.fp_sites.specs.Includes.{includes_in}
+use Rattle.fp_main.specs.gathering.Includes.{included_name, replaced}
 use Rattle.fp_main.specs.gathering.Reading.{Reading, Gives}
 
 -- the files that were read, in their order, and where an include breaks its rule

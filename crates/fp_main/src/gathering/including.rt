@@ -1,5 +1,6 @@
 ghost use Rattle.std.specs.Prelude.{◌≡◌, ◌++◌, ◌∷◌, [], ◌↔◌, Contains, IfOk, IsTrue, OnOk};
-ghost use Rattle.fp_main.specs.gathering.Includes.{directory as directory_of, included_name, nearest_directory as nearest_directory_of, includes_in, includes_within};
+ghost use Rattle.fp_sites.specs.Includes.{includes_in, includes_within};
+ghost use Rattle.fp_main.specs.gathering.Includes.{directory as directory_of, included_name, nearest_directory as nearest_directory_of};
 
 use fp_base::{NoMemory, Row, Text};
 use fp_tree::{Include, Member, Module};

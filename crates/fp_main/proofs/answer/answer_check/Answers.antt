@@ -4,7 +4,7 @@ use Rattle.fp_main.specs.declared.status.Status.TheVariants.{Refused}
 use Rattle.fp_main.proofs.answer.answer_check.Goals as goal
 
 pub returns-in-Ok : goal.returns-in-Ok
-returns-in-Ok g c words asked = if_ok_then c.check.result _ _ (λ due d. due_source words _ _ asked _ due.status due.output due.line c.in-Ok.ensures d) c.check.ensures
+returns-in-Ok g c words asked = if_ok_then c.check.result _ _ (λ due d. due_source words _ _ asked c.in_files_read.ensures _ due.status due.output due.line c.in-Ok.ensures d) c.check.ensures
 
 pub returns-in_ok-line-in-Err-Broken : goal.returns-in_ok-line-in-Err-Broken
 returns-in_ok-line-in-Err-Broken g c words asked =

@@ -12,5 +12,5 @@ returns-in_err-units g c =
 
 pub returns : goal.returns
 returns g c =
-    gathers_concluded (map string_bytes c.args.names.now) (files_run g.F.Files.told g.F.Files.faults g.F.Files.misses c.args.files.now c.walk_files.new.files) c.walk_files.new.progress c.in_ok-units.units
+    gathers_concluded c.in_files_read.ensures (map string_bytes c.args.names.now) (files_run g.F.Files.told g.F.Files.faults g.F.Files.misses c.args.files.now c.walk_files.new.files) c.walk_files.new.progress c.in_ok-units.units
     c.conclude.result (c.in_ok-units.ensures nothing_read c.nothing_read-progress.ensures) c.conclude.ensures

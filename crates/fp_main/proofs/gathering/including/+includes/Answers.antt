@@ -1,7 +1,7 @@
 use Rattle.std.proofs.Common.{◌≡◌, List, ◌++◌, sym, ap, subst, ◌∙◌}
 use Rattle.std.specs.Prelude.{OnOk}
 use Rattle.fp_tree.specs.declared.member.Include.{Include}
-use Rattle.fp_main.specs.gathering.Includes.{includes_within}
+use Rattle.fp_sites.specs.Includes.{includes_within}
 use Rattle.fp_main.proofs.PartsPlaced.{module_includes}
 use Rattle.fp_main.proofs.gathering.including.+includes.Goals as goal
 

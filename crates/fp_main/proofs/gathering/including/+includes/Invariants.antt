@@ -1,5 +1,5 @@
 use Rattle.std.proofs.Common.{◌≡◌, ◌++◌, take}
-use Rattle.fp_main.specs.gathering.Includes.{includes_in}
+use Rattle.fp_sites.specs.Includes.{includes_in}
 use Rattle.fp_main.proofs.gathering.including.+includes.Given as goal
 
 abbrev pub invariant-of_members-loop-member : goal.invariant-of_members-loop-member

@@ -1,7 +1,7 @@
 use Rattle.std.proofs.Common.{ℕ, ◌+◌, ◌-◌, List, ◌∷◌, take, drop, refl, inl, ap, ◌∙◌, arith}
 use Rattle.std.proofs.lemmas.Bool.{MatchBool-at_true, MatchBool-at_false}
 use Rattle.fp_main.specs.FilesRun.{files_run}
-use Rattle.fp_main.specs.gathering.Includes.{includes_in}
+use Rattle.fp_sites.specs.Includes.{includes_in}
 use Rattle.fp_main.specs.gathering.Walks.{Each, Reads, WalksFile, WalksInclude}
 use Rattle.fp_main.proofs.WalkSteps.{comes_as, each_begins, each_ends, each_goes_on, each_stops_on, file_goes, file_stops_later, handed_on, include_at_end, include_bad, include_read, memory_refused, refused_comes, split_there, stops_first, taken_next}
 use Rattle.fp_main.proofs.gathering.walking.+walk.Goals as goal
