@@ -1,6 +1,5 @@
 -- When each status comes, from what a call writes.
-use Rattle.std.proofs.Common.{◌≡◌, ◌<◌, ◌⊎◌, ℕ, List, [], ◌∷◌, ◌++◌, Option, Some, codes, inl, inr, refl, sym, ◌∙◌, subst, arith, drop, take, take-append-drop}
-use Rattle.fp_base.specs.declared.refusal.Refusal.{Refusal}
+use Rattle.std.proofs.Common.{◌≡◌, ◌<◌, ◌⊎◌, ℕ, List, ◌∷◌, Option, Some, codes, inl, inr, refl, sym, ◌∙◌, subst, arith, drop, take-append-drop}
 use Rattle.fp_tree.specs.declared.member.Member.{Member}
 use Rattle.fp_tree.specs.declared.source.Source.{Source}
 use Rattle.fp_meaning.specs.Least.{IsUnbroken}

@@ -1,12 +1,12 @@
 -- What is due for `check`, from what gathering answers.
-use Rattle.std.proofs.Common.{◌≡◌, ℕ, List, [], Some, Result, Ok, Err, IfOk, refl, ap, ◌∙◌, subst, sym}
+use Rattle.std.proofs.Common.{◌≡◌, ℕ, List, [], Result, Ok, Err, IfOk, refl, ap, ◌∙◌, subst, sym}
 use Rattle.fp_base.specs.declared.refusal.Refusal.{Refusal}
 use Rattle.fp_tree.specs.declared.source.Source.{Source}
 use Rattle.fp_main.proofs.AmongRead.{InFilesRead}
 use Rattle.fp_main.proofs.SourceFaults.{first_of_files, first_of_names, unbroken_source}
 use Rattle.fp_main.specs.FilesRun.{FilesRun}
 use Rattle.fp_main.specs.Lines.{no_file_line, read_fault_line, refusal_line}
-use Rattle.fp_main.specs.Output.{DueListing, DueNoFile, DueReadFault, DueRefused, IsDue, IsDueFor}
+use Rattle.fp_main.specs.Output.{DueNoFile, DueReadFault, DueRefused, IsDue, IsDueFor}
 use Rattle.fp_main.specs.Words.{IsCheck}
 use Rattle.fp_main.specs.gathering.Gathered.{AreBroken, AreRead, Gathers, IsAbsent, IsUnread, SourceBroken, StandsAmong, name_of, names_read}
 use Rattle.fp_main.specs.gathering.Walks.{Walked}

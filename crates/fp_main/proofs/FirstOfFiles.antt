@@ -15,7 +15,7 @@ use Rattle.fp_main.specs.declared.gathering.Halt.{Halt}
 use Rattle.fp_main.specs.declared.gathering.Halt.TheVariants as halt
 use Rattle.fp_main.specs.declared.gathering.progress.Progress.{Progress}
 
-some_there : (refused : List Refusal) (f : Refusal) → Contains refused f → refused ≢ []
+pub some_there : (refused : List Refusal) (f : Refusal) → Contains refused f → refused ≢ []
 some_there refused f c e = let long : length refused ≡ 0 = ap length e in let lt = c.1 in absurd (omega (arith, long, lt))
 
 head_there : (f : Refusal) (refused : List Refusal) → Contains (f ∷ refused) f
