@@ -1,5 +1,5 @@
 -- The values of all expressions, Opaque in the place of those that have none.
-use Rattle.std.proofs.Common.{◌≡◌, ℕ, List, map, length, slice_get, Option, Some, None, option_map, inl, inr, refl, sym, ap, subst, ◌∙◌}
+use Rattle.std.proofs.Common.{◌≡◌, List, map, length, slice_get, Option, Some, None, option_map, inl, inr, refl, sym, ap, subst, ◌∙◌}
 use Rattle.std.proofs.lemmas.List.{length-map}
 use Rattle.std.proofs.lemmas.Option.{slice_get-map}
 use Rattle.fp_base.specs.declared.value.Value.{Value}

@@ -5,7 +5,7 @@ ghost use Rattle.fp_tree.specs.declared.part.EnumConst.{EnumConst as Counted};
 ghost use Rattle.fp_meaning.specs.Names.{in_member, in_members, in_optional, in_source};
 ghost use Rattle.fp_consts.specs.Pieces.{bare, constant_piece, constants_from, defined, field_pieces, formal_pieces, has_no_value, kind_piece, located, loose, numbered, pieces_in, type_form_pieces, type_pieces};
 
-use crate::scopes::with_dots;
+use crate::dotting::with_dots;
 use fp_base::{NoMemory, Place, Row, Text};
 use fp_meaning::{Group, Mention, behind, copy_scope, texts_of};
 use fp_tree::{
