@@ -19,16 +19,12 @@ use Rattle.fp_meaning.specs.declared.names.Mention.{Mention}
 use Rattle.fp_meaning.specs.Names.{Path, mentioned, in_optional, in_expression}
 use Rattle.fp_meaning.specs.Origins.{Placed, placed}
 use Rattle.fp_meaning.specs.Values.{dotted}
-use Rattle.fp_consts.specs.declared.pieces.Located.{Located}
 use Rattle.fp_consts.specs.declared.pieces.Numbered.{Numbered}
 use Rattle.fp_consts.specs.declared.pieces.Numbered.TheVariants as numbered_by
 use Rattle.fp_consts.specs.declared.pieces.Basis.{Basis}
 use Rattle.fp_consts.specs.declared.pieces.Basis.TheVariants as basis
 use Rattle.fp_consts.specs.declared.pieces.Piece.{Piece}
 use Rattle.fp_consts.specs.declared.pieces.Piece.TheVariants as piece
-
-abbrev pub located : Path → Expr → Located
-located s e = record { scope = s; expression = e }
 
 abbrev pub defined : Name → Basis → Piece
 defined name b = piece.Defined name.at.first b
@@ -37,7 +33,7 @@ abbrev pub bare : Name → Piece
 bare name = defined name basis.Nothing
 
 abbrev pub loose : Path → Expr → List Piece
-loose scope e = piece.Loose (located scope e) ∷ []
+loose scope e = piece.Loose (placed scope e) ∷ []
 
 abbrev pub kind_piece : Path → Qual → Piece
 kind_piece scope name = piece.Kind (mentioned group.Kind scope name)
@@ -61,7 +57,7 @@ has_no_value c = is_none c.value
 
 -- a position counts only where its whole enumeration has no value written
 abbrev pub numbered : Path → Bool → ℕ → Option Expr → Numbered
-numbered scope implied position (Some e) = numbered_by.Written (located scope e)
+numbered scope implied position (Some e) = numbered_by.Written (placed scope e)
 numbered scope implied position None = cond implied (numbered_by.Position position) numbered_by.Missing
 
 abbrev pub constant_piece : List ℕ → Path → Bool → ℕ → EnumConst → Piece
@@ -73,7 +69,7 @@ constants_from scope e position (c ∷ cs) =
     constant_piece (dotted (scope ++ e.name.text ∷ [])) scope (list_all has_no_value e.constants) position c ∷ constants_from scope e (suc position) cs
 
 abbrev pub pieces_in : Path → Def → List Piece
-pieces_in scope (def.Constant d) = defined d.name (basis.Constant (located scope d.value)) ∷ []
+pieces_in scope (def.Constant d) = defined d.name (basis.Constant (placed scope d.value)) ∷ []
 pieces_in scope (def.Abstract d) = bare d.name ∷ []
 pieces_in scope (def.Alias d) = bare d.name ∷ type_pieces scope d.target
 pieces_in scope (def.Array d) = bare d.name ∷ (loose scope d.size ++ type_pieces scope d.element ++ in_optional (loose scope) d.default)

@@ -3,7 +3,7 @@ use Rattle.std.specs.Prelude.{◌≡◌, ℕ, ℤ, pos, List, [], ◌∷◌, ◌
 use Rattle.std.specs.List.{list_all}
 use Rattle.fp_base.specs.declared.value.Value.{Value, Enumerated as Constant_}
 use Rattle.fp_tree.specs.declared.source.Source.{Source}
-use Rattle.fp_meaning.specs.Origins.{Origin, Constant, Enumerated, NoValue}
+use Rattle.fp_meaning.specs.Origins.{Origin, Constant, Enumerated, NoValue, placed}
 use Rattle.fp_meaning.specs.Values.{dotted, number_in, opened, Val}
 use Rattle.fp_consts.specs.declared.measured.Measured.{Measured}
 use Rattle.fp_consts.specs.declared.pieces.Numbered.{Numbered}
@@ -11,11 +11,11 @@ use Rattle.fp_consts.specs.declared.pieces.Numbered.TheVariants as numbered_by
 use Rattle.fp_consts.specs.declared.pieces.Basis.{Basis}
 use Rattle.fp_consts.specs.declared.pieces.Basis.TheVariants as basis
 use Rattle.fp_consts.specs.Examined.{AreGiven, AreMeasured, plain}
-use Rattle.fp_consts.specs.Pieces.{located, numbered, has_no_value, uses_in_numbered, uses_in_basis}
+use Rattle.fp_consts.specs.Pieces.{numbered, has_no_value, uses_in_numbered, uses_in_basis}
 
 -- the basis of an origin
 abbrev pub basis_of : Origin → Basis
-basis_of (Constant scope e) = basis.Constant (located scope e)
+basis_of (Constant scope e) = basis.Constant (placed scope e)
 basis_of (Enumerated scope enum position c) =
     basis.Enumerated (dotted (scope ++ enum.name.text ∷ [])) c.name.text (numbered scope (list_all has_no_value enum.constants) position c.value)
 basis_of NoValue = basis.Nothing

@@ -71,7 +71,7 @@ pub fn past_piece(piece: &Piece, next: usize, limit: usize) -> usize
 {
     match piece {
         Piece::Kind(_) => past_use(next, limit),
-        Piece::Loose(written) => past_expression(&written.expression, next, limit),
+        Piece::Loose(written) => past_expression(written.expression(), next, limit),
         Piece::Defined { basis, .. } => past_basis(basis, next, limit),
     }
 }
@@ -81,7 +81,7 @@ fn past_basis(basis: &Basis, next: usize, limit: usize) -> usize
 {
     match basis {
         Basis::Nothing => next,
-        Basis::Constant(written) => past_expression(&written.expression, next, limit),
+        Basis::Constant(written) => past_expression(written.expression(), next, limit),
         Basis::Enumerated { number, .. } => past_number(number, next, limit),
     }
 }
@@ -90,7 +90,7 @@ fn past_number(number: &Numbered, next: usize, limit: usize) -> usize
     ensures { IsPast (uses_in_numbered number.now) limit next result }
 {
     match number {
-        Numbered::Written(written) => past_expression(&written.expression, next, limit),
+        Numbered::Written(written) => past_expression(written.expression(), next, limit),
         Numbered::Position(_) => next,
         Numbered::Missing => next,
     }

@@ -23,7 +23,7 @@ pub fn settled(
     match basis {
         Basis::Nothing => Ok(None),
         Basis::Constant(written) => {
-            let found = examine(alloc, &written.expression, table, meanings, next)?;
+            let found = examine(alloc, written.expression(), table, meanings, next)?;
             Ok(found.value)
         }
         Basis::Enumerated {
@@ -48,7 +48,7 @@ fn number_of(
 {
     match number {
         Numbered::Written(written) => {
-            let found = examine(alloc, &written.expression, table, meanings, next)?;
+            let found = examine(alloc, written.expression(), table, meanings, next)?;
             Ok(number_found(&found.value))
         }
         Numbered::Position(position) => Ok(Some(*position as i128)),

@@ -14,6 +14,7 @@ mod found;
 mod gathered;
 mod laws;
 mod laying;
+mod located;
 mod marking;
 mod measured;
 mod operand;

@@ -59,7 +59,7 @@ fn with_piece(
         Piece::Kind(_) => Ok(past_use(before, meanings)),
         Piece::Loose(written) => with_expression(
             alloc,
-            &written.expression,
+            written.expression(),
             before,
             table,
             meanings,
@@ -81,7 +81,7 @@ fn with_basis(
         Basis::Nothing => Ok(before),
         Basis::Constant(written) => with_expression(
             alloc,
-            &written.expression,
+            written.expression(),
             before,
             table,
             meanings,
@@ -102,7 +102,7 @@ fn with_number(
     match number {
         Numbered::Written(written) => with_expression(
             alloc,
-            &written.expression,
+            written.expression(),
             before,
             table,
             meanings,

@@ -3,57 +3,51 @@ ghost use Rattle.std.specs.List.{list_all};
 ghost use Rattle.fp_tree.specs.declared.member.Unit.{Unit as File};
 ghost use Rattle.fp_tree.specs.declared.part.EnumConst.{EnumConst as Counted};
 ghost use Rattle.fp_meaning.specs.Names.{in_member, in_members, in_optional, in_source};
-ghost use Rattle.fp_consts.specs.Pieces.{bare, constant_piece, constants_from, defined, field_pieces, formal_pieces, has_no_value, kind_piece, located, loose, numbered, pieces_in, type_form_pieces, type_pieces};
+ghost use Rattle.fp_consts.specs.Pieces.{bare, constant_piece, constants_from, defined, field_pieces, formal_pieces, has_no_value, kind_piece, loose, numbered, pieces_in, type_form_pieces, type_pieces};
 
 use crate::dotting::with_dots;
+use crate::located::{Located, NamedKind};
 use fp_base::{NoMemory, Place, Row, Text};
-use fp_meaning::{Group, Mention, behind, copy_scope, texts_of};
+use fp_meaning::behind;
 use fp_tree::{
     Array, Def, Enum, EnumConst, Expr, Field, Formal, Member, Module, Name, Port, Qual, Source,
     Struct, TypeForm, TypeName, Unit,
 };
 use std::alloc::Global;
 
-/// An expression in the scope in which its names are looked up.
-#[derive(Debug, Drop)]
-pub struct Located {
-    pub scope: Row<Text>,
-    pub expression: Expr,
-}
-
 /// What gives an enumerated constant its number.
-#[derive(Debug, Drop)]
-pub enum Numbered {
-    Written(Located),
+#[derive(Drop)]
+pub enum Numbered<'a> {
+    Written(Located<'a>),
     /// Its position, where its enumeration has no value written.
     Position(usize),
     Missing,
 }
 
 /// What gives a definition its value.
-#[derive(Debug, Drop)]
-pub enum Basis {
+#[derive(Drop)]
+pub enum Basis<'a> {
     Nothing,
-    Constant(Located),
+    Constant(Located<'a>),
     /// The constant `constant` of the enumeration with the qualified name `of`.
     Enumerated {
         of: Text,
         constant: Text,
-        number: Numbered,
+        number: Numbered<'a>,
     },
 }
 
 /// A part of a source, where the source is laid out flat: what is a use of a name, a definition, or an expression that gives no
 /// definition its value.
-#[derive(Debug, Drop)]
-pub enum Piece {
-    Kind(Mention),
-    Loose(Located),
-    Defined { place: Place, basis: Basis },
+#[derive(Drop)]
+pub enum Piece<'a> {
+    Kind(NamedKind),
+    Loose(Located<'a>),
+    Defined { place: Place, basis: Basis<'a> },
 }
 
 /// The parts of a source, in source order.
-pub fn pieces_of(alloc: Global, source: &Source) -> Result<Row<Piece>, NoMemory>
+pub fn pieces_of<'a>(alloc: Global, source: &'a Source) -> Result<Row<Piece<'a>>, NoMemory>
     ensures { IfOk result (λ row. row ≡ in_source pieces_in source.now) }
 {
     let mut found = Row::new(alloc);
@@ -62,11 +56,11 @@ pub fn pieces_of(alloc: Global, source: &Source) -> Result<Row<Piece>, NoMemory>
     Ok(found)
 }
 
-fn of_units(
+fn of_units<'a>(
     alloc: Global,
-    units: &[Unit],
+    units: &'a [Unit],
     root: &Row<Text>,
-    found: &mut Row<Piece>,
+    found: &mut Row<Piece<'a>>,
 ) -> Result<(), NoMemory>
     ensures { OnOk result (found.new ≡ found.old ++ flat_map (λ (u : File). in_members pieces_in root.now u.members) units.now) }
 {
@@ -77,11 +71,11 @@ fn of_units(
 }
 
 #[cycle(pieces)]
-fn of_members(
+fn of_members<'a>(
     alloc: Global,
-    members: &[Member],
+    members: &'a [Member],
     scope: &Row<Text>,
-    found: &mut Row<Piece>,
+    found: &mut Row<Piece<'a>>,
 ) -> Result<(), NoMemory>
     ensures { OnOk result (found.new ≡ found.old ++ in_members pieces_in scope.now members.now) }
 {
@@ -92,11 +86,11 @@ fn of_members(
 }
 
 #[cycle(pieces)]
-fn of_member(
+fn of_member<'a>(
     alloc: Global,
-    member: &Member,
+    member: &'a Member,
     scope: &Row<Text>,
-    found: &mut Row<Piece>,
+    found: &mut Row<Piece<'a>>,
 ) -> Result<(), NoMemory>
     ensures { OnOk result (found.new ≡ found.old ++ in_member pieces_in scope.now member.now) }
 {
@@ -109,11 +103,11 @@ fn of_member(
 }
 
 #[cycle(pieces)]
-fn of_module(
+fn of_module<'a>(
     alloc: Global,
-    opened: &Module,
+    opened: &'a Module,
     scope: &Row<Text>,
-    found: &mut Row<Piece>,
+    found: &mut Row<Piece<'a>>,
 ) -> Result<(), NoMemory>
     ensures { OnOk result (found.new ≡ found.old ++ in_members pieces_in (scope.now ++ opened.now.name.text ∷ []) opened.now.members) }
 {
@@ -121,34 +115,34 @@ fn of_module(
     of_members(alloc, opened.members.as_slice(), &within, found)
 }
 
-fn of_definition(
+fn of_definition<'a>(
     alloc: Global,
-    definition: &Def,
+    definition: &'a Def,
     scope: &Row<Text>,
-    found: &mut Row<Piece>,
+    found: &mut Row<Piece<'a>>,
 ) -> Result<(), NoMemory>
     ensures { OnOk result (found.new ≡ found.old ++ pieces_in scope.now definition.now) }
 {
     match definition {
         Def::Constant(constant) => {
-            let value = located_at(alloc, scope, &constant.value)?;
+            let value = Located::of(scope, &constant.value);
             define(&constant.name, Basis::Constant(value), found)
         }
         Def::Abstract(kind) => define(&kind.name, Basis::Nothing, found),
         Def::Alias(kind) => {
             let kind = kind.get();
             define(&kind.name, Basis::Nothing, found)?;
-            of_type(alloc, &kind.target, scope, found)
+            of_type(&kind.target, scope, found)
         }
-        Def::Array(kind) => of_array(alloc, kind.get(), scope, found),
-        Def::Struct(kind) => of_struct(alloc, kind.get(), scope, found),
+        Def::Array(kind) => of_array(kind.get(), scope, found),
+        Def::Struct(kind) => of_struct(kind.get(), scope, found),
         Def::Enum(kind) => of_enum(alloc, kind.get(), scope, found),
-        Def::Port(port) => of_port(alloc, port.get(), scope, found),
+        Def::Port(port) => of_port(port.get(), scope, found),
     }
 }
 
-fn define(name: &Name, basis: Basis, found: &mut Row<Piece>) -> Result<(), NoMemory>
-    ensures { OnOk result (found.new ≡ found.old ++ defined name.now basis ∷ []) }
+fn define<'a>(name: &Name, basis: Basis<'a>, found: &mut Row<Piece<'a>>) -> Result<(), NoMemory>
+    ensures { OnOk result (found.new ≡ found.old ++ defined name.now basis.entry ∷ []) }
 {
     found.push(Piece::Defined {
         place: name.at.first,
@@ -156,113 +150,98 @@ fn define(name: &Name, basis: Basis, found: &mut Row<Piece>) -> Result<(), NoMem
     })
 }
 
-fn located_at(alloc: Global, scope: &Row<Text>, expression: &Expr) -> Result<Located, NoMemory>
-    ensures { IfOk result (λ found. found ≡ located scope.now expression.now) }
-{
-    let scope = copy_scope(alloc, scope)?;
-    let expression = expression.copy(alloc)?;
-    Ok(Located { scope, expression })
-}
-
 /// Adds an expression that gives no definition its value.
-fn of_expression(
-    alloc: Global,
-    expression: &Expr,
+fn of_expression<'a>(
+    expression: &'a Expr,
     scope: &Row<Text>,
-    found: &mut Row<Piece>,
+    found: &mut Row<Piece<'a>>,
 ) -> Result<(), NoMemory>
     ensures { OnOk result (found.new ≡ found.old ++ loose scope.now expression.now) }
 {
-    let value = located_at(alloc, scope, expression)?;
-    found.push(Piece::Loose(value))
+    found.push(Piece::Loose(Located::of(scope, expression)))
 }
 
-fn of_optional(
-    alloc: Global,
-    expression: &Option<Expr>,
+fn of_optional<'a>(
+    expression: &'a Option<Expr>,
     scope: &Row<Text>,
-    found: &mut Row<Piece>,
+    found: &mut Row<Piece<'a>>,
 ) -> Result<(), NoMemory>
     ensures { OnOk result (found.new ≡ found.old ++ in_optional (loose scope.now) expression.now) }
 {
     match expression {
-        Some(expression) => of_expression(alloc, expression, scope, found),
+        Some(expression) => of_expression(expression, scope, found),
         None => Ok(()),
     }
 }
 
-fn of_array(
-    alloc: Global,
-    kind: &Array,
+fn of_array<'a>(
+    kind: &'a Array,
     scope: &Row<Text>,
-    found: &mut Row<Piece>,
+    found: &mut Row<Piece<'a>>,
 ) -> Result<(), NoMemory>
     ensures { OnOk result (found.new ≡ found.old ++ bare kind.now.name ∷ (loose scope.now kind.now.size ++ type_pieces scope.now kind.now.element ++ in_optional (loose scope.now) kind.now.default)) }
 {
     define(&kind.name, Basis::Nothing, found)?;
-    of_expression(alloc, &kind.size, scope, found)?;
-    of_type(alloc, &kind.element, scope, found)?;
-    of_optional(alloc, &kind.default, scope, found)
+    of_expression(&kind.size, scope, found)?;
+    of_type(&kind.element, scope, found)?;
+    of_optional(&kind.default, scope, found)
 }
 
-fn of_struct(
-    alloc: Global,
-    kind: &Struct,
+fn of_struct<'a>(
+    kind: &'a Struct,
     scope: &Row<Text>,
-    found: &mut Row<Piece>,
+    found: &mut Row<Piece<'a>>,
 ) -> Result<(), NoMemory>
     ensures { OnOk result (found.new ≡ found.old ++ bare kind.now.name ∷ (flat_map (field_pieces scope.now) kind.now.fields ++ in_optional (loose scope.now) kind.now.default)) }
 {
     define(&kind.name, Basis::Nothing, found)?;
-    of_fields(alloc, kind.fields.as_slice(), scope, found)?;
-    of_optional(alloc, &kind.default, scope, found)
+    of_fields(kind.fields.as_slice(), scope, found)?;
+    of_optional(&kind.default, scope, found)
 }
 
-fn of_fields(
-    alloc: Global,
-    fields: &[Field],
+fn of_fields<'a>(
+    fields: &'a [Field],
     scope: &Row<Text>,
-    found: &mut Row<Piece>,
+    found: &mut Row<Piece<'a>>,
 ) -> Result<(), NoMemory>
     ensures { OnOk result (found.new ≡ found.old ++ flat_map (field_pieces scope.now) fields.now) }
 {
     for field in fields {
-        of_field(alloc, field, scope, found)?;
+        of_field(field, scope, found)?;
     }
     Ok(())
 }
 
-fn of_field(
-    alloc: Global,
-    field: &Field,
+fn of_field<'a>(
+    field: &'a Field,
     scope: &Row<Text>,
-    found: &mut Row<Piece>,
+    found: &mut Row<Piece<'a>>,
 ) -> Result<(), NoMemory>
     ensures { OnOk result (found.new ≡ found.old ++ field_pieces scope.now field.now) }
 {
-    of_optional(alloc, &field.size, scope, found)?;
-    of_type(alloc, &field.of, scope, found)
+    of_optional(&field.size, scope, found)?;
+    of_type(&field.of, scope, found)
 }
 
-fn of_enum(
+fn of_enum<'a>(
     alloc: Global,
-    kind: &Enum,
+    kind: &'a Enum,
     scope: &Row<Text>,
-    found: &mut Row<Piece>,
+    found: &mut Row<Piece<'a>>,
 ) -> Result<(), NoMemory>
     ensures { OnOk result (found.new ≡ found.old ++ bare kind.now.name ∷ (in_optional (type_pieces scope.now) kind.now.repr ++ constants_from scope.now kind.now 0 kind.now.constants ++ in_optional (loose scope.now) kind.now.default)) }
 {
     define(&kind.name, Basis::Nothing, found)?;
-    of_optional_type(alloc, &kind.repr, scope, found)?;
+    of_optional_type(&kind.repr, scope, found)?;
     of_constants(alloc, kind, scope, found)?;
-    of_optional(alloc, &kind.default, scope, found)
+    of_optional(&kind.default, scope, found)
 }
 
-fn of_constants(
+fn of_constants<'a>(
     alloc: Global,
-    kind: &Enum,
+    kind: &'a Enum,
     scope: &Row<Text>,
-    found: &mut Row<Piece>,
+    found: &mut Row<Piece<'a>>,
 ) -> Result<(), NoMemory>
     ensures { OnOk result (found.new ≡ found.old ++ constants_from scope.now kind.now 0 kind.now.constants) }
 {
@@ -282,20 +261,20 @@ fn none_written(constants: &[EnumConst]) -> bool
     constants.iter().all(|constant| constant.value.is_none())
 }
 
-fn of_constant(
+fn of_constant<'a>(
     alloc: Global,
     of: &Text,
     implied: bool,
     position: usize,
-    constant: &EnumConst,
+    constant: &'a EnumConst,
     scope: &Row<Text>,
-    found: &mut Row<Piece>,
+    found: &mut Row<Piece<'a>>,
 ) -> Result<(), NoMemory>
     ensures { OnOk result (found.new ≡ found.old ++ constant_piece of.now scope.now implied position constant.now ∷ []) }
 {
     let of = of.copy(alloc)?;
     let name = constant.name.text.copy(alloc)?;
-    let number = number_of(alloc, implied, position, &constant.value, scope)?;
+    let number = number_of(implied, position, &constant.value, scope);
     let basis = Basis::Enumerated {
         of,
         constant: name,
@@ -304,76 +283,71 @@ fn of_constant(
     define(&constant.name, basis, found)
 }
 
-fn number_of(
-    alloc: Global,
+fn number_of<'a>(
     implied: bool,
     position: usize,
-    value: &Option<Expr>,
+    value: &'a Option<Expr>,
     scope: &Row<Text>,
-) -> Result<Numbered, NoMemory>
-    ensures { IfOk result (λ number. number ≡ numbered scope.now implied position value.now) }
+) -> Numbered<'a>
+    ensures { result ≡ numbered scope.now implied position value.now }
 {
     match value {
-        Some(expression) => Ok(Numbered::Written(located_at(alloc, scope, expression)?)),
+        Some(expression) => Numbered::Written(Located::of(scope, expression)),
         None => {
             if implied {
-                Ok(Numbered::Position(position))
+                Numbered::Position(position)
             } else {
-                Ok(Numbered::Missing)
+                Numbered::Missing
             }
         }
     }
 }
 
-fn of_port(
-    alloc: Global,
-    port: &Port,
+fn of_port<'a>(
+    port: &'a Port,
     scope: &Row<Text>,
-    found: &mut Row<Piece>,
+    found: &mut Row<Piece<'a>>,
 ) -> Result<(), NoMemory>
     ensures { OnOk result (found.new ≡ found.old ++ bare port.now.name ∷ (flat_map (formal_pieces scope.now) port.now.formals ++ in_optional (type_pieces scope.now) port.now.result)) }
 {
     define(&port.name, Basis::Nothing, found)?;
-    of_formals(alloc, port.formals.as_slice(), scope, found)?;
-    of_optional_type(alloc, &port.result, scope, found)
+    of_formals(port.formals.as_slice(), scope, found)?;
+    of_optional_type(&port.result, scope, found)
 }
 
-fn of_formals(
-    alloc: Global,
-    formals: &[Formal],
+fn of_formals<'a>(
+    formals: &'a [Formal],
     scope: &Row<Text>,
-    found: &mut Row<Piece>,
+    found: &mut Row<Piece<'a>>,
 ) -> Result<(), NoMemory>
     ensures { OnOk result (found.new ≡ found.old ++ flat_map (formal_pieces scope.now) formals.now) }
 {
     for formal in formals {
-        of_type(alloc, &formal.of, scope, found)?;
+        of_type(&formal.of, scope, found)?;
     }
     Ok(())
 }
 
-fn of_type(
-    alloc: Global,
-    name: &TypeName,
+fn of_type<'a>(
+    name: &'a TypeName,
     scope: &Row<Text>,
-    found: &mut Row<Piece>,
+    found: &mut Row<Piece<'a>>,
 ) -> Result<(), NoMemory>
     ensures { OnOk result (found.new ≡ found.old ++ type_pieces scope.now name.now) }
 {
-    of_type_form(alloc, &name.form, scope, found)
+    of_type_form(&name.form, scope, found)
 }
 
-fn of_type_form(
-    alloc: Global,
-    form: &TypeForm,
+fn of_type_form<'a>(
+    form: &'a TypeForm,
     scope: &Row<Text>,
-    found: &mut Row<Piece>,
+    found: &mut Row<Piece<'a>>,
 ) -> Result<(), NoMemory>
     ensures { OnOk result (found.new ≡ found.old ++ type_form_pieces scope.now form.now) }
 {
     match form {
-        TypeForm::Text { size } => of_optional(alloc, size, scope, found),
-        TypeForm::Use(name) => of_kind(alloc, name, scope, found),
+        TypeForm::Text { size } => of_optional(size, scope, found),
+        TypeForm::Use(name) => of_kind(name, scope, found),
         TypeForm::U8 => Ok(()),
         TypeForm::U16 => Ok(()),
         TypeForm::U32 => Ok(()),
@@ -389,34 +363,25 @@ fn of_type_form(
 }
 
 /// Adds the use of a type's name.
-fn of_kind(
-    alloc: Global,
-    name: &Qual,
+fn of_kind<'a>(
+    name: &'a Qual,
     scope: &Row<Text>,
-    found: &mut Row<Piece>,
+    found: &mut Row<Piece<'a>>,
 ) -> Result<(), NoMemory>
     ensures { OnOk result (found.new ≡ found.old ++ kind_piece scope.now name.now ∷ []) }
 {
-    let scope = copy_scope(alloc, scope)?;
-    let texts = texts_of(alloc, name.names.as_slice())?;
-    found.push(Piece::Kind(Mention {
-        group: Group::Kind,
-        scope,
-        name: texts,
-        place: name.at.first,
-    }))
+    found.push(Piece::Kind(NamedKind::of(scope, name)))
 }
 
-fn of_optional_type(
-    alloc: Global,
-    name: &Option<TypeName>,
+fn of_optional_type<'a>(
+    name: &'a Option<TypeName>,
     scope: &Row<Text>,
-    found: &mut Row<Piece>,
+    found: &mut Row<Piece<'a>>,
 ) -> Result<(), NoMemory>
     ensures { OnOk result (found.new ≡ found.old ++ in_optional (type_pieces scope.now) name.now) }
 {
     match name {
-        Some(name) => of_type(alloc, name, scope, found),
+        Some(name) => of_type(name, scope, found),
         None => Ok(()),
     }
 }
