@@ -5,6 +5,7 @@ ghost use Rattle.fp_consts.specs.Examined.{leaf_of, plain};
 ghost use Rattle.fp_consts.specs.Settled.{Numbers, Settles, number_within};
 
 use crate::examining::examine;
+use crate::located::ConstantName;
 use crate::measured::{Measured, leaf};
 use crate::pieces::{Basis, Numbered};
 use fp_base::{NoMemory, Text, Value};
@@ -78,7 +79,7 @@ fn number_with(value: &Value) -> Option<i128>
 fn enumerated(
     alloc: Global,
     of: &Text,
-    constant: &Text,
+    constant: &ConstantName,
     number: Option<i128>,
 ) -> Result<Option<Measured>, NoMemory>
     ensures { IfOk result (λ o. o ≡ option_map (λ n. leaf_of (Enumerated of.now constant.now n)) number) }

@@ -1,10 +1,11 @@
-ghost use Rattle.std.specs.Prelude.{◌≡◌};
+ghost use Rattle.std.specs.Prelude.{◌≡◌, IfOk};
 ghost use Rattle.fp_meaning.specs.declared.group.Group.TheVariants.{Kind};
 ghost use Rattle.fp_meaning.specs.Names.{mentioned};
 ghost use Rattle.fp_meaning.specs.Origins.{placed};
 
-use fp_base::{Row, Text};
-use fp_tree::{Expr, Qual};
+use fp_base::{NoMemory, Row, Text};
+use fp_tree::{Expr, Name, Qual};
+use std::alloc::Global;
 use std::marker::Model;
 use std::snapshot::Snapshot;
 
@@ -44,6 +45,34 @@ impl<'a> Located<'a> {
     }
 }
 
+/// The name of an enumerated constant.
+#[derive(Drop)]
+pub struct ConstantName<'a> {
+    text: &'a Text,
+}
+
+impl<'a> Model for ConstantName<'a> {
+    ghost use Rattle.std.specs.Prelude.{ℕ, List};
+
+    ghost Value = { List ℕ };
+
+    ghost view = { λ n. n.text.now };
+}
+
+impl<'a> ConstantName<'a> {
+    pub fn of(name: &'a Name) -> ConstantName<'a>
+        ensures { result ≡ name.now.text }
+    {
+        ConstantName { text: &name.text }
+    }
+
+    pub fn copy(&self, alloc: Global) -> Result<Text, NoMemory>
+        ensures { IfOk result (λ copy. copy ≡ self.now) }
+    {
+        self.text.copy(alloc)
+    }
+}
+
 /// The use of a type's name in a scope. Only proofs see it.
 #[derive(Drop)]
 pub struct NamedKind {
@@ -52,7 +81,6 @@ pub struct NamedKind {
 }
 
 impl Model for NamedKind {
-    ghost use Rattle.std.specs.Coded.{codes};
     ghost use Rattle.fp_meaning.specs.declared.group.Group.TheVariants.{Kind};
     ghost use Rattle.fp_meaning.specs.declared.names.Mention.{Mention};
     ghost use Rattle.fp_meaning.specs.Names.{mentioned};

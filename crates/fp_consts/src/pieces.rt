@@ -6,7 +6,7 @@ ghost use Rattle.fp_meaning.specs.Names.{in_member, in_members, in_optional, in_
 ghost use Rattle.fp_consts.specs.Pieces.{bare, constant_piece, constants_from, defined, field_pieces, formal_pieces, has_no_value, kind_piece, loose, numbered, pieces_in, type_form_pieces, type_pieces};
 
 use crate::dotting::with_dots;
-use crate::located::{Located, NamedKind};
+use crate::located::{ConstantName, Located, NamedKind};
 use fp_base::{NoMemory, Place, Row, Text};
 use fp_meaning::behind;
 use fp_tree::{
@@ -32,7 +32,7 @@ pub enum Basis<'a> {
     /// The constant `constant` of the enumeration with the qualified name `of`.
     Enumerated {
         of: Text,
-        constant: Text,
+        constant: ConstantName<'a>,
         number: Numbered<'a>,
     },
 }
@@ -273,11 +273,10 @@ fn of_constant<'a>(
     ensures { OnOk result (found.new ≡ found.old ++ constant_piece of.now scope.now implied position constant.now ∷ []) }
 {
     let of = of.copy(alloc)?;
-    let name = constant.name.text.copy(alloc)?;
     let number = number_of(implied, position, &constant.value, scope);
     let basis = Basis::Enumerated {
         of,
-        constant: name,
+        constant: ConstantName::of(&constant.name),
         number,
     };
     define(&constant.name, basis, found)
@@ -363,11 +362,7 @@ fn of_type_form<'a>(
 }
 
 /// Adds the use of a type's name.
-fn of_kind<'a>(
-    name: &'a Qual,
-    scope: &Row<Text>,
-    found: &mut Row<Piece<'a>>,
-) -> Result<(), NoMemory>
+fn of_kind(name: &Qual, scope: &Row<Text>, found: &mut Row<Piece>) -> Result<(), NoMemory>
     ensures { OnOk result (found.new ≡ found.old ++ kind_piece scope.now name.now ∷ []) }
 {
     found.push(Piece::Kind(NamedKind::of(scope, name)))
