@@ -1,4 +1,4 @@
-ghost use Rattle.std.specs.Prelude.{◌≡◌, IfOk, map, replicate, length};
+ghost use Rattle.std.specs.Prelude.{◌≡◌, IfOk, map};
 ghost use Rattle.fp_consts.specs.Graph.{IsSorted};
 ghost use Rattle.fp_consts.specs.Visits.{state_of, begun, is_cyclic};
 

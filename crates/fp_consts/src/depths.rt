@@ -1,4 +1,4 @@
-ghost use Rattle.std.specs.Prelude.{◌≡◌, ℕ, ◌+◌, ◌<◌, ◌≤◌, Bool, MatchBool, List, IfOk, Some, length, map, min, nat_lt, slice_get, slice_index, slice_set};
+ghost use Rattle.std.specs.Prelude.{◌≡◌, ◌+◌, ◌<◌, IfOk, Some, length, map, min, nat_lt, slice_get, slice_index, slice_set};
 ghost use Rattle.fp_consts.specs.Graph.{IsSorted, AreHeads};
 ghost use Rattle.fp_consts.specs.Depths.{depth_in, IsDeepest, AreDepths};
 

@@ -1,4 +1,4 @@
-ghost use Rattle.std.specs.Prelude.{◌≡◌, ◌∷◌, [], Some, None, option_map, IfOk};
+ghost use Rattle.std.specs.Prelude.{◌≡◌, Some, None, option_map, IfOk};
 ghost use Rattle.fp_base.specs.declared.rule.Rule.TheVariants.{FloatUsed};
 ghost use Rattle.fp_base.specs.declared.value.Value.TheVariants.{Int, Text as Words};
 ghost use Rattle.fp_meaning.specs.Least.{broken_at, lesser_of};

@@ -1,7 +1,6 @@
 ghost use Rattle.std.specs.Prelude.{◌≡◌, ◌++◌, ◌∷◌, [], flat_map, IfOk, OnOk};
 ghost use Rattle.std.specs.List.{list_all};
 ghost use Rattle.fp_tree.specs.declared.member.Unit.{Unit as File};
-ghost use Rattle.fp_tree.specs.declared.part.EnumConst.{EnumConst as Counted};
 ghost use Rattle.fp_meaning.specs.Names.{in_member, in_members, in_optional, in_source};
 ghost use Rattle.fp_consts.specs.Pieces.{bare, constant_piece, constants_from, defined, field_pieces, formal_pieces, has_no_value, kind_piece, loose, numbered, pieces_in, type_form_pieces, type_pieces};
 
