@@ -197,9 +197,7 @@ fn noted_member(alloc: Global, member: BareMember, note: Text) -> Result<Member,
             Ok(Member::Def(noted_definition(alloc, definition, note)?))
         }
         BareMember::Include { file, at } => Ok(Member::Include(Include { file, at, note })),
-        BareMember::Locate { of, file, at } => {
-            Ok(Member::Locate(Locate { of, file, at, note }))
-        }
+        BareMember::Locate { of, file, at } => Ok(Member::Locate(Locate { of, file, at, note })),
     }
 }
 
