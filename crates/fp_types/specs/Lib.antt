@@ -1,0 +1,6 @@
+pub mod Converting
+pub mod Given
+pub mod Reaching
+pub mod Faults
+pub mod Meeting
+pub mod Read

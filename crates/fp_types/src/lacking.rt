@@ -1,0 +1,54 @@
+ghost use Rattle.std.specs.Prelude.{◌≡◌, List, is_none, not, ◌&&◌, int_le};
+ghost use Rattle.std.specs.List.{list_any};
+ghost use Rattle.fp_base.specs.declared.value.Part.{Part};
+ghost use Rattle.fp_types.specs.Converting.{opened, member_named};
+ghost use Rattle.fp_types.specs.Read.{meant};
+ghost use Rattle.fp_types.specs.Faults.{lacks_member, is_outside};
+
+use crate::target::{Target, member_named};
+use fp_base::{Part, Value};
+use fp_tables::Field;
+
+/// Whether a struct value names a member that the struct lacks.
+pub fn lacks_member(value: &Value, target: &Target) -> bool
+    ensures { result ≡ lacks_member (opened value.now) (meant target.now) }
+{
+    match (value, target) {
+        (Value::Struct(parts), Target::Struct { fields, .. }) => are_lacking(
+            parts.as_slice(),
+            fields,
+        ),
+        _ => false,
+    }
+}
+
+fn are_lacking(parts: &[Part], fields: &[Field]) -> bool
+    ensures { result ≡ list_any (λ (part : Part). is_none (member_named fields.now part.name)) parts.now }
+{
+    parts.iter().any(|part| is_lacking(part, fields))
+}
+
+fn is_lacking(part: &Part, fields: &[Field]) -> bool
+    ensures { result ≡ is_none (member_named fields.now part.now.name) }
+{
+    member_named(fields, &part.name).is_none()
+}
+
+/// Whether a number isn't in the integer type.
+pub fn is_outside(value: &Value, target: &Target) -> bool
+    ensures { result ≡ is_outside (opened value.now) (meant target.now) }
+{
+    match (value, target) {
+        (Value::Int(number), Target::Integer { low, high }) => is_beyond(*number, low, high),
+        (Value::Enumerated { number, .. }, Target::Integer { low, high }) => is_beyond(
+            *number, low, high,
+        ),
+        _ => false,
+    }
+}
+
+fn is_beyond(number: i128, low: &i128, high: &i128) -> bool
+    ensures { result ≡ not (int_le low.now number && int_le number high.now) }
+{
+    !(*low <= number && number <= *high)
+}

@@ -1,0 +1,103 @@
+ghost use Rattle.std.specs.Prelude.{◌≡◌, ◌↔◌, IsTrue, IfOk, cond, Some, None};
+ghost use Rattle.std.specs.List.{list_any};
+ghost use Rattle.fp_base.specs.Same.{same};
+ghost use Rattle.fp_tables.specs.declared.kind.Constant.{Constant};
+ghost use Rattle.fp_types.specs.Converting.{opened, IsSingle};
+ghost use Rattle.fp_types.specs.Reaching.{number_within, as_integer, as_truth, as_words, as_constant};
+
+use fp_base::{NoMemory, Value};
+use fp_tables::Constant;
+use std::alloc::Global;
+
+/// Whether a value is given to each part of an array or struct.
+pub fn is_single(value: &Value) -> bool
+    ensures { IsTrue result ↔ IsSingle (opened value.now) }
+{
+    match value {
+        Value::Int(_) => true,
+        Value::Bool(_) => true,
+        Value::Text(_) => true,
+        Value::Enumerated { .. } => true,
+        Value::Array(_) => false,
+        Value::Struct(_) => false,
+        Value::Opaque => false,
+    }
+}
+
+fn number_within(number: i128, low: i128, high: i128) -> Option<Value>
+    ensures { result ≡ number_within low high number }
+{
+    if low <= number && number <= high {
+        Some(Value::Int(number))
+    } else {
+        None
+    }
+}
+
+/// The number of an integer or enumerated constant, where the integer type has it.
+pub fn as_integer(value: &Value, low: i128, high: i128) -> Option<Value>
+    ensures { result ≡ as_integer low high (opened value.now) }
+{
+    match value {
+        Value::Int(number) => number_within(*number, low, high),
+        Value::Enumerated { number, .. } => number_within(*number, low, high),
+        _ => None,
+    }
+}
+
+pub fn as_truth(value: &Value) -> Option<Value>
+    ensures { result ≡ as_truth (opened value.now) }
+{
+    match value {
+        Value::Bool(truth) => Some(Value::Bool(*truth)),
+        _ => None,
+    }
+}
+
+pub fn as_words(alloc: Global, value: &Value) -> Result<Option<Value>, NoMemory>
+    ensures { IfOk result (λ made. made ≡ as_words (opened value.now)) }
+{
+    match value {
+        Value::Text(text) => Ok(Some(Value::Text(text.copy(alloc)?))),
+        _ => Ok(None),
+    }
+}
+
+/// A constant, where it is one of the enum's.
+pub fn as_constant(
+    alloc: Global,
+    value: &Value,
+    constants: &[Constant],
+) -> Result<Option<Value>, NoMemory>
+    ensures { IfOk result (λ made. made ≡ as_constant constants.now (opened value.now)) }
+{
+    match value {
+        Value::Enumerated { .. } => among(alloc, value, constants),
+        _ => Ok(None),
+    }
+}
+
+fn among(alloc: Global, value: &Value, constants: &[Constant]) -> Result<Option<Value>, NoMemory>
+    ensures { IfOk result (λ made. made ≡ cond (list_any (λ (constant : Constant). same constant.value value.now) constants.now) (Some value.now) None) }
+{
+    if is_among(value, constants) {
+        Ok(Some(value.copy(alloc)?))
+    } else {
+        Ok(None)
+    }
+}
+
+/// Whether a value is that of one of the constants.
+fn is_among(value: &Value, constants: &[Constant]) -> bool
+    ensures { result ≡ list_any (λ (constant : Constant). same constant.value value.now) constants.now }
+{
+    constants
+        .iter()
+        .any(|constant| is_same(&constant.value, value))
+}
+
+fn is_same(left: &Value, right: &Value) -> bool
+    ensures { result ≡ same left.now right.now }
+{
+    left.same(right)
+}

@@ -1,0 +1,16 @@
+//! Types: what a value becomes in a type.
+#![tactic(auto)]
+
+mod becoming;
+mod converting;
+mod faults;
+mod lacking;
+mod laws;
+mod leaves;
+mod parts;
+mod target;
+mod unfit;
+
+pub use converting::convert;
+pub use laws::one_result;
+pub use unfit::Unfit;
