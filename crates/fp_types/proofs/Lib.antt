@@ -5,3 +5,6 @@ pub mod Loops
 pub mod Reached
 pub mod Meetings
 pub mod Causes
+pub mod Aliases
+pub mod Shaped
+pub mod OfKind

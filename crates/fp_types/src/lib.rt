@@ -12,5 +12,5 @@ mod target;
 mod unfit;
 
 pub use converting::convert;
-pub use laws::one_result;
+pub use laws::{converted_has_kind, one_result};
 pub use unfit::Unfit;
