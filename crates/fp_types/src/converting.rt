@@ -1,3 +1,5 @@
+ghost use Rattle.std.specs.Prelude.{◌≡◌, true};
+ghost use Rattle.fp_tables.specs.Chains.{chains_are_short};
 ghost use Rattle.fp_types.specs.Faults.{Converted, IsCause};
 ghost use Rattle.fp_types.specs.Given.{AreTypes};
 
@@ -17,6 +19,13 @@ pub fn convert(alloc: Global, types: &[TypeDef], value: &Value, to: Kind) -> Res
     requires { AreTypes types.now }
     ensures { Converted types.now value.now to result }
 {
+    converted(alloc, types, value, to)
+}
+
+/// The same over types of which no chain is too long.
+pub fn converted(alloc: Global, types: &[TypeDef], value: &Value, to: Kind) -> Result<Value, Unfit>
+    ensures { chains_are_short types.now ≡ true → Converted types.now value.now to result }
+{
     let made = becomes(alloc, types, value, to, STEPS)?;
     match made {
         Some(value) => Ok(value),
@@ -26,8 +35,7 @@ pub fn convert(alloc: Global, types: &[TypeDef], value: &Value, to: Kind) -> Res
 
 /// Why a value that becomes nothing does so.
 fn cause(types: &[TypeDef], value: &Value, to: Kind) -> Unfit
-    requires { AreTypes types.now }
-    ensures { IsCause types.now value.now to result }
+    ensures { chains_are_short types.now ≡ true → IsCause types.now value.now to result }
 {
     let member = meets(types, value, to, Sought::Member, STEPS);
     if member {

@@ -9,6 +9,8 @@ mod laws;
 mod leaves;
 mod parts;
 mod target;
+#[cfg(test)]
+mod tests;
 mod unfit;
 
 pub use converting::convert;
