@@ -8,3 +8,4 @@ pub mod Causes
 pub mod Aliases
 pub mod Shaped
 pub mod OfKind
+pub mod OfSize

@@ -29,7 +29,7 @@ use Rattle.fp_types.proofs.Shaped.{all_beside, part_has, array_has, struct_has}
 same_some : {A : Type 0} {x y : A} → Some x ≡ Some y → x ≡ y
 same_some e = cc
 
-both : (a b : Bool) → (a && b) ≡ true → (a ≡ true) × (b ≡ true)
+pub both : (a b : Bool) → (a && b) ≡ true → (a ≡ true) × (b ≡ true)
 both true b e = (refl, e)
 both false b e = absurd (cc)
 
@@ -40,7 +40,7 @@ and false b e d = absurd (cc)
 same_name : (a : List ℕ) → bytes_eq a a ≡ true
 same_name a = (bytes_eq-Decides a a).1 refl
 
-all_at : {A : Type 0} (p : A → Bool) (xs : List A) (k : ℕ) (x : A) → list_all p xs ≡ true → slice_get xs k ≡ Some x → p x ≡ true
+pub all_at : {A : Type 0} (p : A → Bool) (xs : List A) (k : ℕ) (x : A) → list_all p xs ≡ true → slice_get xs k ≡ Some x → p x ≡ true
 all_at p [] k x h e = absurd (cc)
 all_at p (y ∷ xs) zero x h e = ap p (sym (same_some e)) ∙ (both (p y) (list_all p xs) h).0
 all_at p (y ∷ xs) (suc k) x h e = all_at p xs k x (both (p y) (list_all p xs) h).1 e

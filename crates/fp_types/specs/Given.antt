@@ -6,7 +6,8 @@ use Rattle.fp_tables.specs.Chains.{chains_are_short}
 use Rattle.fp_tables.specs.Sound.{form_differs}
 use Rattle.fp_tables.specs.declared.kind.TypeDef.{TypeDef}
 
--- a part of what makes a model sound: no type uses itself, no chain of types is too long, and each type has a default, which is one of its values and of a size that values may have
+-- a part of what makes a model sound: no type uses itself, no chain of types is too long, and each type has a default, which is one of its values and of a size that values may have.
+-- A type that by its form is past that size has no such default: it is in no such list, and nothing converts to it
 pub record AreTypes (types : List TypeDef) : Type 0 where
   pub no_type_uses_itself : (i : ℕ) → Leads types i i → ⊥
   pub chains_are_short : chains_are_short types ≡ true

@@ -14,5 +14,5 @@ mod tests;
 mod unfit;
 
 pub use converting::convert;
-pub use laws::{converted_has_kind, one_result};
+pub use laws::{converted_has_kind, converted_is_of_size, one_result};
 pub use unfit::Unfit;
