@@ -9,3 +9,4 @@ pub mod Aliases
 pub mod Shaped
 pub mod OfKind
 pub mod OfSize
+pub mod Firsts

@@ -4,3 +4,4 @@ pub mod Reaching
 pub mod Faults
 pub mod Meeting
 pub mod Read
+pub mod Found

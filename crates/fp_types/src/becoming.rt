@@ -1,15 +1,18 @@
 ghost use Rattle.std.specs.Prelude.{◌≡◌, IfOk};
 ghost use Rattle.fp_types.specs.Converting.{opened, target, member, array, struct};
+ghost use Rattle.fp_types.specs.Found.{FindsFields};
 ghost use Rattle.fp_types.specs.Read.{meant};
 ghost use Rattle.fp_types.specs.Reaching.{Reaches, ReachesEach, ReachesIn, IsMade, IsMadeOfEach, IsMadeOfPart, AreMadeOfMembers, AreMadeInEach};
 ghost use Rattle.fp_base.specs.declared.value.Value.TheOpen as value;
 
+use crate::index::{field_named, places_of_fields};
 use crate::leaves::{as_constant, as_integer, as_truth, as_words, is_single};
 use crate::parts::{completed, items_of, listed, parts_of, repeated, structured};
-use crate::target::{Target, member_named, target_of};
+use crate::target::{Target, target_of};
 use fp_base::{NoMemory, Part, Row, Value};
 use fp_tables::{Field, Kind, TypeDef};
 use std::alloc::Global;
+use std::collections::BTreeMap;
 
 /// What a value becomes in a type, if anything, with so many steps left through the types.
 #[cycle(becoming)]
@@ -133,7 +136,8 @@ fn in_struct(
     }
     match parts_of(value) {
         Some(parts) => {
-            let given = members(alloc, types, parts, fields, depth)?;
+            let places = places_of_fields(alloc, fields)?;
+            let given = members(alloc, types, parts, fields, &places, depth)?;
             completed(alloc, given, default)
         }
         None => Ok(None),
@@ -146,13 +150,15 @@ fn members(
     types: &[TypeDef],
     parts: &[Part],
     fields: &[Field],
+    places: &BTreeMap<String, usize>,
     depth: u32,
 ) -> Result<Option<Row<Part>>, NoMemory>
+    requires { FindsFields fields.now places.now }
     ensures { IfOk result (λ given. AreMadeOfMembers types.now (ReachesEach types.now depth fields.now) fields.now parts.now given) }
 {
     let mut given = Row::new(alloc);
     for part in parts {
-        let next = in_named(alloc, types, part, fields, depth)?;
+        let next = in_named(alloc, types, part, fields, places, depth)?;
         match next {
             Some(value) => {
                 let name = part.name.copy(alloc)?;
@@ -170,11 +176,13 @@ fn in_named(
     types: &[TypeDef],
     part: &Part,
     fields: &[Field],
+    places: &BTreeMap<String, usize>,
     depth: u32,
 ) -> Result<Option<Value>, NoMemory>
+    requires { FindsFields fields.now places.now }
     ensures { IfOk result (λ made. IsMadeOfPart types.now (ReachesEach types.now depth fields.now) fields.now part.now made) }
 {
-    match member_named(fields, &part.name) {
+    match field_named(places, fields, &part.name) {
         Some(field) => in_member(alloc, types, &part.value, field, depth),
         None => Ok(None),
     }

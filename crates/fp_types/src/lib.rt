@@ -4,6 +4,7 @@
 mod becoming;
 mod converting;
 mod faults;
+mod index;
 mod lacking;
 mod laws;
 mod leaves;

@@ -1,13 +1,15 @@
-ghost use Rattle.std.specs.Prelude.{◌≡◌, IfOk, option_map, replicate, unwrap_or, find};
-ghost use Rattle.std.specs.Str.{bytes_eq};
+ghost use Rattle.std.specs.Prelude.{◌≡◌, IfOk, option_map, replicate, unwrap_or};
 ghost use Rattle.std.specs.Option.{option_copied};
 ghost use Rattle.fp_base.specs.declared.value.Part.{Part};
 ghost use Rattle.fp_types.specs.Converting.{opened, value_named, with_given, parts_in};
+ghost use Rattle.fp_types.specs.Found.{FindsParts};
 ghost use Rattle.fp_types.specs.Reaching.{items_of, parts_of, listed, structured, repeated, completed};
 
+use crate::index::{part_named, places_of_parts};
 use crate::target::parts_in;
-use fp_base::{NoMemory, Part, Row, Text, Value};
+use fp_base::{NoMemory, Part, Row, Value};
 use std::alloc::Global;
+use std::collections::BTreeMap;
 
 pub fn items_of(value: &Value) -> Option<&[Value]>
     ensures { option_copied result ≡ items_of (opened value.now) }
@@ -78,38 +80,43 @@ pub fn completed(
 {
     match given {
         Some(given) => {
-            let parts = with_given(alloc, given.as_slice(), parts_in(default))?;
+            let places = places_of_parts(alloc, given.as_slice())?;
+            let parts = with_given(alloc, given.as_slice(), &places, parts_in(default))?;
             Ok(Some(Value::Struct(parts)))
         }
         None => Ok(None),
     }
 }
 
-fn with_given(alloc: Global, given: &[Part], parts: &[Part]) -> Result<Row<Part>, NoMemory>
+fn with_given(
+    alloc: Global,
+    given: &[Part],
+    places: &BTreeMap<String, usize>,
+    parts: &[Part],
+) -> Result<Row<Part>, NoMemory>
+    requires { FindsParts given.now places.now }
     ensures { IfOk result (λ row. row ≡ with_given given.now parts.now) }
 {
     let mut row = Row::new(alloc);
     for part in parts {
         let name = part.name.copy(alloc)?;
-        let value = given_or_own(alloc, given, part)?;
+        let value = given_or_own(alloc, given, places, part)?;
         row.push(Part { name, value })?;
     }
     Ok(row)
 }
 
-fn given_or_own(alloc: Global, given: &[Part], part: &Part) -> Result<Value, NoMemory>
+fn given_or_own(
+    alloc: Global,
+    given: &[Part],
+    places: &BTreeMap<String, usize>,
+    part: &Part,
+) -> Result<Value, NoMemory>
+    requires { FindsParts given.now places.now }
     ensures { IfOk result (λ value. value ≡ unwrap_or (value_named given.now part.now.name) part.now.value) }
 {
-    match part_named(given, &part.name) {
+    match part_named(places, given, &part.name) {
         Some(other) => other.value.copy(alloc),
         None => part.value.copy(alloc),
     }
-}
-
-fn part_named<'a>(parts: &'a [Part], name: &Text) -> Option<&'a Part>
-    ensures { option_copied result ≡ find (λ (part : Part). bytes_eq part.name name.now) parts.now }
-{
-    parts
-        .iter()
-        .find(|part| part.name.as_bytes() == name.as_bytes())
 }
