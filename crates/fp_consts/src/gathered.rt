@@ -48,7 +48,8 @@ fn joined(
     value: Value,
     leaves: u32,
 ) -> Result<Row<Value>, NoMemory>
-    ensures { IfOk result (λ row. leaves ≤ 65536 → row ≡ values ++ value ∷ []) }
+    ensures few { IfOk result (λ row. leaves ≤ 65536 → row ≡ values ++ value ∷ []) }
+    ensures many { IfOk result (λ row. 65536 < leaves → row ≡ []) }
 {
     if leaves > MOST_LEAVES {
         return Ok(Row::new(alloc));
