@@ -2,7 +2,7 @@ use crate::row::Row;
 use crate::text::Text;
 
 /// A piece of a format: text as it stands, or a field with its form.
-#[derive(Debug, Drop)]
+#[derive(Drop)]
 pub enum Piece {
     Plain(Text),
     /// `{}`: the value text.
@@ -18,7 +18,7 @@ pub enum Piece {
 }
 
 /// A format that has been read.
-#[derive(Debug, Drop)]
+#[derive(Drop)]
 pub struct Format {
     pub parts: Row<Piece>,
 }

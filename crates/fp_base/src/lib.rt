@@ -3,6 +3,7 @@
 
 mod boxed;
 mod format;
+mod least;
 mod memory;
 mod place;
 mod print;
@@ -14,13 +15,11 @@ mod value;
 
 pub use boxed::Boxed;
 pub use format::{Format, Piece};
+pub use least::{earlier, lesser, refusal_at, refusal_if, stands_no_later};
 pub use memory::NoMemory;
 pub use place::{Place, Span, place_after, place_of};
-pub use refusal::{Refusal, Stop};
+pub use refusal::{PathStop, Refusal, Stop};
 pub use row::Row;
 pub use rule::Rule;
 pub use text::Text;
 pub use value::{Part, Value};
-
-#[cfg(test)]
-mod tests;

@@ -3,7 +3,7 @@ ghost use Rattle.fp_base.specs.Places.{place_at};
 
 /// A place in a source: the file's position in the list of files read, and a line and a column that count from 1, columns in
 /// bytes.
-#[derive(Clone, Copy, Debug, PartialEq, Eq)]
+#[derive(Clone, Copy, PartialEq, Eq)]
 pub struct Place {
     pub file: u32,
     pub line: u32,
@@ -11,7 +11,7 @@ pub struct Place {
 }
 
 /// A stretch of a source: the place of its first byte, and the place directly after its last.
-#[derive(Clone, Copy, Debug, PartialEq, Eq)]
+#[derive(Clone, Copy, PartialEq, Eq)]
 pub struct Span {
     pub first: Place,
     pub past: Place,

@@ -3,10 +3,11 @@ ghost use Rattle.std.specs.Prelude.{◌≡◌};
 use crate::memory::NoMemory;
 use crate::place::Place;
 use crate::rule::Rule;
+use crate::text::Text;
 use std::alloc::{AllocError, AllocFailed};
 
 /// A broken rule and its place.
-#[derive(Clone, Copy, Debug, PartialEq, Eq)]
+#[derive(Clone, Copy, PartialEq, Eq)]
 pub struct Refusal {
     pub rule: Rule,
     pub place: Place,
@@ -14,8 +15,15 @@ pub struct Refusal {
     pub other: Option<Place>,
 }
 
+/// A broken rule of scenarios, and the path of the value that breaks it: `/` for the root, else `/` before each key or position from 0.
+#[derive(Drop)]
+pub struct PathStop {
+    pub rule: Rule,
+    pub path: Text,
+}
+
 /// Why a call that reads a source stops.
-#[derive(Clone, Copy, Debug, PartialEq, Eq)]
+#[derive(Clone, Copy, PartialEq, Eq)]
 pub enum Stop {
     Broken(Refusal),
     NoMemory,

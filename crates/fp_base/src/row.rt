@@ -9,7 +9,7 @@ use std::marker::Model;
 use std::slice::Iter;
 
 /// A vector that contracts see as the list of its items.
-#[derive(Debug, Drop)]
+#[derive(Drop)]
 pub struct Row<T> {
     items: Vec<T>,
 }

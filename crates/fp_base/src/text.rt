@@ -7,7 +7,7 @@ use std::marker::Model;
 use std::str;
 
 /// UTF-8 text that contracts see as the list of its bytes.
-#[derive(Debug, Drop)]
+#[derive(Drop)]
 pub struct Text {
     inner: String,
 }

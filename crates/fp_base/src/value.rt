@@ -7,7 +7,7 @@ use std::alloc::Global;
 
 /// A value of the language.
 #[cycle(value)]
-#[derive(Debug, Drop)]
+#[derive(Drop)]
 pub enum Value {
     Int(i128),
     Bool(bool),
@@ -26,7 +26,7 @@ pub enum Value {
 
 /// A member of a struct value.
 #[cycle(value)]
-#[derive(Debug, Drop)]
+#[derive(Drop)]
 pub struct Part {
     pub name: Text,
     pub value: Value,

@@ -6,11 +6,11 @@ use Rattle.fp_base.specs.declared.refusal.Refusal.{Refusal}
 use Rattle.fp_base.specs.declared.rule.Rule.TheVariants.{Cycle, ChainTooLong}
 use Rattle.fp_tree.specs.declared.source.Source.{Source}
 use Rattle.fp_meaning.specs.declared.names.Definition.{Definition}
-use Rattle.fp_meaning.specs.Least.{broken_at, lesser_of, Either, InOne, InSome, IsLeast}
+use Rattle.fp_base.specs.Least.{broken_at, lesser_of, Either, InOne, InSome, IsLeast}
 use Rattle.fp_meaning.specs.Names.{definitions}
 use Rattle.fp_meaning.specs.ConstantFaults.{Uses, Reaches, IsOnCycle, Chain, alone as ends, longer as goes_on, IsCyclic as CyclicHere, IsTooDeep, BrokenByChains}
-use Rattle.fp_meaning.proofs.Calculus.{least_along, least_either, least_if, least_same}
-use Rattle.fp_meaning.proofs.Elements.{least_in_one}
+use Rattle.fp_base.proofs.Calculus.{least_along, least_either, least_if, least_same}
+use Rattle.fp_base.proofs.Elements.{least_in_one}
 use Rattle.fp_consts.specs.declared.stretch.Stretch.{Stretch}
 use Rattle.fp_consts.specs.Graph.{Leads, IsCyclic, Line, alone, longer, one, more, IsSorted, AreHeads}
 use Rattle.fp_consts.specs.Chains.{SameUses, name_places, Marked, MarkedAt}

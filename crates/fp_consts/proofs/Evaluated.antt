@@ -4,11 +4,11 @@ use Rattle.fp_base.specs.declared.place.Place.{Place}
 use Rattle.fp_base.specs.declared.refusal.Refusal.{Refusal}
 use Rattle.fp_tree.specs.declared.source.Source.{Source}
 use Rattle.fp_meaning.specs.ConstantFaults.{ConstantsBroken}
-use Rattle.fp_meaning.specs.Least.{IsLeast, InSome, lesser_of}
+use Rattle.fp_base.specs.Least.{IsLeast, InSome, lesser_of}
 use Rattle.fp_meaning.specs.Meaning.{AreMeanings}
 use Rattle.fp_meaning.specs.Names.{in_source, definitions, mentions}
 use Rattle.fp_meaning.specs.Origins.{Placed, expressions}
-use Rattle.fp_meaning.proofs.Calculus.{least_either}
+use Rattle.fp_base.proofs.Calculus.{least_either}
 use Rattle.fp_consts.specs.declared.marking.Marking.{Marking}
 use Rattle.fp_consts.specs.declared.measured.Measured.{Measured}
 use Rattle.fp_consts.specs.declared.pieces.Piece.{Piece}

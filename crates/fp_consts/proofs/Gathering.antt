@@ -8,11 +8,11 @@ use Rattle.fp_base.specs.declared.refusal.Refusal.{Refusal}
 use Rattle.fp_base.specs.declared.value.Value.{Value}
 use Rattle.fp_tree.specs.declared.source.Source.{Source}
 use Rattle.fp_tree.specs.declared.expression.Expr.{Expr}
-use Rattle.fp_meaning.specs.Least.{IsLeast, Either, lesser_of}
+use Rattle.fp_base.specs.Least.{IsLeast, Either, lesser_of}
 use Rattle.fp_meaning.specs.Names.{Path, in_expression}
 use Rattle.fp_meaning.specs.Values.{opened, leaves, levels, deepest, Val, Vals, none, more}
 use Rattle.fp_meaning.specs.ConstantFaults.{BrokenIn}
-use Rattle.fp_meaning.proofs.Calculus.{least_none, least_same, least_along, least_either}
+use Rattle.fp_base.proofs.Calculus.{least_none, least_same, least_along, least_either}
 use Rattle.fp_consts.specs.declared.measured.Measured.{Measured}
 use Rattle.fp_consts.specs.declared.found.Found.{Found}
 use Rattle.fp_consts.specs.declared.gathered.Gathered.{Gathered}

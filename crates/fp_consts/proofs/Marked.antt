@@ -8,12 +8,12 @@ use Rattle.fp_base.specs.declared.refusal.Refusal.{Refusal}
 use Rattle.fp_tree.specs.declared.source.Source.{Source}
 use Rattle.fp_tree.specs.declared.expression.Expr.{Expr}
 use Rattle.fp_meaning.specs.declared.names.Mention.{Mention}
-use Rattle.fp_meaning.specs.Least.{IsLeast, Either, lesser_of}
+use Rattle.fp_base.specs.Least.{IsLeast, Either, lesser_of}
 use Rattle.fp_meaning.specs.Names.{Path, in_expression}
 use Rattle.fp_meaning.specs.Origins.{Placed, placed}
 use Rattle.fp_meaning.specs.Values.{opened, IsValue}
 use Rattle.fp_meaning.specs.ConstantFaults.{BrokenIn}
-use Rattle.fp_meaning.proofs.Calculus.{least_none, least_same, least_along, least_either}
+use Rattle.fp_base.proofs.Calculus.{least_none, least_same, least_along, least_either}
 use Rattle.fp_consts.specs.declared.measured.Measured.{Measured}
 use Rattle.fp_consts.specs.declared.found.Found.{Found}
 use Rattle.fp_consts.specs.declared.pieces.Piece.{Piece}

@@ -9,7 +9,7 @@ use Rattle.fp_tree.specs.declared.expression.Operator.{Operator}
 use Rattle.fp_tree.specs.declared.expression.Operator.TheVariants.{Divide}
 use Rattle.fp_tree.specs.declared.expression.Expr.{Expr}
 use Rattle.fp_tree.specs.declared.expression.Form.TheOpen as form
-use Rattle.fp_meaning.specs.Least.{Either}
+use Rattle.fp_base.specs.Least.{Either}
 use Rattle.fp_meaning.specs.Names.{Path}
 use Rattle.fp_meaning.specs.Values.{Opened, opened, number_in, result_of, HasResult, Val, negated, combined, IsValue}
 use Rattle.fp_meaning.specs.ConstantFaults.{BrokenHere, negation_outside, result_outside, zero_divisor, minus_kind, left_kind, right_kind}

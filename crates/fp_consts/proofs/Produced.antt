@@ -11,11 +11,11 @@ use Rattle.fp_tree.specs.declared.expression.Expr.{Expr}
 use Rattle.fp_tree.specs.declared.expression.Form.TheOpen as form
 use Rattle.fp_meaning.specs.declared.group.Group.TheVariants as group
 use Rattle.fp_meaning.specs.declared.names.Mention.{Mention}
-use Rattle.fp_meaning.specs.Least.{Either, broken_at, lesser_of}
+use Rattle.fp_base.specs.Least.{Either, broken_at, lesser_of}
 use Rattle.fp_meaning.specs.Names.{Path, mentioned, in_expression}
 use Rattle.fp_meaning.specs.Values.{Opened, opened, Val, number, text, truth, enclosed, IsValue}
 use Rattle.fp_meaning.specs.ConstantFaults.{BrokenHere, float}
-use Rattle.fp_meaning.proofs.Calculus.{least_none, least_one, least_along, least_either}
+use Rattle.fp_base.proofs.Calculus.{least_none, least_one, least_along, least_either}
 use Rattle.fp_consts.specs.declared.measured.Measured.{Measured}
 use Rattle.fp_consts.specs.declared.found.Found.{Found}
 use Rattle.fp_consts.specs.Operands.{operand_of, KindFault, NegationFault}

@@ -11,11 +11,11 @@ use Rattle.fp_tree.specs.declared.expression.Expr.{Expr}
 use Rattle.fp_tree.specs.declared.expression.Assignment.{Assignment}
 use Rattle.fp_tree.specs.declared.expression.Form.TheOpen as form
 use Rattle.fp_meaning.specs.declared.names.Mention.{Mention}
-use Rattle.fp_meaning.specs.Least.{IsLeast, broken_at, lesser_of}
+use Rattle.fp_base.specs.Least.{IsLeast, broken_at, lesser_of}
 use Rattle.fp_meaning.specs.Names.{Path, in_expression}
 use Rattle.fp_meaning.specs.Values.{Opened, opened, leaves, levels, leaves_among, deepest, parts_with, values_in, IsWithinSize, Val, Vals, listed, structured, IsValue}
 use Rattle.fp_meaning.specs.ConstantFaults.{BrokenHere, list_too_large, struct_too_large, parts_of, BrokenIn}
-use Rattle.fp_meaning.proofs.Calculus.{least_none, least_only, least_along}
+use Rattle.fp_base.proofs.Calculus.{least_none, least_only, least_along}
 use Rattle.fp_meaning.proofs.OneValue.{one_values}
 use Rattle.fp_consts.specs.declared.found.Found.{Found}
 use Rattle.fp_consts.specs.declared.gathered.Gathered.{Gathered}

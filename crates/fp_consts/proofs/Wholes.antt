@@ -3,12 +3,12 @@ use Rattle.std.proofs.Common.{◌≡◌, zero, suc, List, [], ◌∷◌, slice_g
 use Rattle.fp_base.specs.declared.refusal.Refusal.{Refusal}
 use Rattle.fp_tree.specs.declared.source.Source.{Source}
 use Rattle.fp_tree.specs.declared.expression.Expr.{Expr}
-use Rattle.fp_meaning.specs.Least.{IsLeast, Either, lesser_of}
+use Rattle.fp_base.specs.Least.{IsLeast, Either, lesser_of}
 use Rattle.fp_meaning.specs.Names.{Path}
 use Rattle.fp_meaning.specs.Values.{Opened, opened}
 use Rattle.fp_meaning.specs.ConstantFaults.{BrokenHere, parts_of, BrokenIn, itself, within}
 use Rattle.fp_consts.specs.Examined.{PartsBroken}
-use Rattle.fp_meaning.proofs.Calculus.{least_none, least_same, least_either}
+use Rattle.fp_base.proofs.Calculus.{least_none, least_same, least_either}
 
 module _ (source : Source) (scope : Path) where
   pub parts_none : IsLeast (PartsBroken source scope []) None

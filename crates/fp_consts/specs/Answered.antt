@@ -5,7 +5,7 @@ use Rattle.fp_base.specs.declared.refusal.Stop.{Stop}
 use Rattle.fp_base.specs.declared.refusal.Stop.TheVariants.{Broken, NoMemory}
 use Rattle.fp_base.specs.declared.value.Value.{Value, Opaque}
 use Rattle.fp_tree.specs.declared.source.Source.{Source}
-use Rattle.fp_meaning.specs.Least.{IsLeast}
+use Rattle.fp_base.specs.Least.{IsLeast}
 use Rattle.fp_meaning.specs.Origins.{Placed}
 use Rattle.fp_meaning.specs.Values.{opened, Val}
 

@@ -5,7 +5,7 @@ use Rattle.fp_base.specs.declared.refusal.Refusal.{Refusal}
 use Rattle.fp_base.specs.declared.rule.Rule.TheVariants.{Cycle, ChainTooLong}
 use Rattle.fp_tree.specs.declared.source.Source.{Source}
 use Rattle.fp_meaning.specs.declared.names.Definition.{Definition}
-use Rattle.fp_meaning.specs.Least.{broken_at, Either}
+use Rattle.fp_base.specs.Least.{broken_at, Either}
 use Rattle.fp_meaning.specs.Names.{definitions}
 use Rattle.fp_meaning.specs.ConstantFaults.{Uses}
 use Rattle.fp_consts.specs.declared.stretch.Stretch.{Stretch}

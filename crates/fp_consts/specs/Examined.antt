@@ -9,7 +9,7 @@ use Rattle.fp_tree.specs.declared.expression.Operator.{Operator}
 use Rattle.fp_tree.specs.declared.expression.Expr.{Expr}
 use Rattle.fp_tree.specs.declared.expression.Form.{Form}
 use Rattle.fp_meaning.specs.declared.names.Mention.{Mention}
-use Rattle.fp_meaning.specs.Least.{IsLeast, InSome, broken_at, lesser_of}
+use Rattle.fp_base.specs.Least.{IsLeast, InSome, broken_at, lesser_of}
 use Rattle.fp_meaning.specs.Names.{Path, definitions, in_expression}
 use Rattle.fp_meaning.specs.Meaning.{Means}
 use Rattle.fp_meaning.specs.Origins.{Origin, Constant, Enumerated, NoValue, origins}

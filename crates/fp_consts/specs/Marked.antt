@@ -5,7 +5,7 @@ use Rattle.fp_base.specs.declared.refusal.Refusal.{Refusal}
 use Rattle.fp_tree.specs.declared.source.Source.{Source}
 use Rattle.fp_tree.specs.declared.expression.Expr.{Expr}
 use Rattle.fp_meaning.specs.declared.names.Mention.{Mention}
-use Rattle.fp_meaning.specs.Least.{IsLeast, InSome, lesser_of}
+use Rattle.fp_base.specs.Least.{IsLeast, InSome, lesser_of}
 use Rattle.fp_meaning.specs.Names.{Path, in_expression}
 use Rattle.fp_meaning.specs.Origins.{Placed, placed}
 use Rattle.fp_meaning.specs.Values.{opened, IsValue}

@@ -7,7 +7,7 @@ use Rattle.fp_base.specs.declared.rule.Rule.TheVariants.{Outside128Bits, ZeroDiv
 use Rattle.fp_base.specs.declared.value.Value.{Value}
 use Rattle.fp_tree.specs.declared.expression.Operator.{Operator}
 use Rattle.fp_tree.specs.declared.expression.Operator.TheVariants.{Divide}
-use Rattle.fp_meaning.specs.Least.{broken_at}
+use Rattle.fp_base.specs.Least.{broken_at}
 use Rattle.fp_meaning.specs.Values.{number_in, result_of, HasDivisor, HasResult}
 use Rattle.fp_consts.specs.declared.operand.Operand.{Operand}
 use Rattle.fp_consts.specs.declared.operand.Operand.TheVariants.{Missing, Number, Other}

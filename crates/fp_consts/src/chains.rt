@@ -1,10 +1,9 @@
 ghost use Rattle.std.specs.Prelude.{◌≡◌, length};
-ghost use Rattle.fp_meaning.specs.Least.{InSome, IsLeast};
+ghost use Rattle.fp_base.specs.Least.{InSome, IsLeast};
 ghost use Rattle.fp_consts.specs.Chains.{Marked, MarkedAt};
 
 use crate::depths::is_flagged;
-use fp_base::{Place, Refusal, Rule};
-use fp_meaning::{lesser, refusal_if};
+use fp_base::{Place, Refusal, Rule, lesser, refusal_if};
 
 fn fault_at(place: Place, cyclic: bool, deep: bool) -> Option<Refusal>
     ensures { IsLeast (MarkedAt place cyclic deep) result }

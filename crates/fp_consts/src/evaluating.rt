@@ -1,6 +1,6 @@
 ghost use Rattle.std.specs.Prelude.{◌≡◌, map, IfErr, IfOk, OnOk};
 ghost use Rattle.fp_meaning.specs.ConstantFaults.{ConstantsBroken};
-ghost use Rattle.fp_meaning.specs.Least.{IsLeast, IsUnbroken};
+ghost use Rattle.fp_base.specs.Least.{IsLeast, IsUnbroken};
 ghost use Rattle.fp_meaning.specs.Meaning.{AreMeanings};
 ghost use Rattle.fp_meaning.specs.Names.{definitions, mentions};
 ghost use Rattle.fp_meaning.specs.Origins.{expressions};
@@ -14,8 +14,8 @@ use crate::laying::lay;
 use crate::marking::marked;
 use crate::pieces::pieces_of;
 use crate::tabling::table_of;
-use fp_base::{NoMemory, Row, Stop, Value};
-use fp_meaning::{Marks, lesser};
+use fp_base::{NoMemory, Row, Stop, Value, lesser};
+use fp_meaning::Marks;
 use fp_tree::{Source, Uses, Values};
 use std::alloc::Global;
 

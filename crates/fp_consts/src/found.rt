@@ -1,13 +1,12 @@
 ghost use Rattle.std.specs.Prelude.{◌≡◌, Some, None, option_map, IfOk};
 ghost use Rattle.fp_base.specs.declared.rule.Rule.TheVariants.{FloatUsed};
 ghost use Rattle.fp_base.specs.declared.value.Value.TheVariants.{Int, Text as Words};
-ghost use Rattle.fp_meaning.specs.Least.{broken_at, lesser_of};
+ghost use Rattle.fp_base.specs.Least.{broken_at, lesser_of};
 ghost use Rattle.fp_consts.specs.Examined.{leaf_of, value_at, UsesNext, MinusFound, BinaryFound};
 
 use crate::measured::{Measured, leaf};
 use crate::operand::{Outcome, kind_fault, negation, operand_in, operation};
-use fp_base::{NoMemory, Place, Refusal, Rule, Text, Value};
-use fp_meaning::{lesser, refusal};
+use fp_base::{NoMemory, Place, Refusal, Rule, Text, Value, lesser, refusal_at};
 use fp_tree::Operator;
 use std::alloc::Global;
 
@@ -87,7 +86,7 @@ pub fn float(place: Place, next: usize) -> Found
 {
     Found {
         value: None,
-        first: Some(refusal(Rule::FloatUsed, place)),
+        first: Some(refusal_at(Rule::FloatUsed, place)),
         next,
     }
 }

@@ -5,8 +5,7 @@ ghost use Rattle.fp_consts.specs.Examined.{found_of, IsNext, IsSized};
 
 use crate::found::Found;
 use crate::measured::Measured;
-use fp_base::{NoMemory, Part, Place, Refusal, Row, Rule, Value};
-use fp_meaning::{lesser, refusal};
+use fp_base::{NoMemory, Part, Place, Refusal, Row, Rule, Value, lesser, refusal_at};
 use fp_tree::Assignment;
 use std::alloc::Global;
 
@@ -141,7 +140,7 @@ pub fn sized(place: Place, parts: Gathered) -> Whole
     }
     if !fits(leaves, levels) {
         return without_values(
-            lesser(Some(refusal(Rule::ValueTooLarge, place)), first),
+            lesser(Some(refusal_at(Rule::ValueTooLarge, place)), first),
             next,
         );
     }

@@ -6,8 +6,7 @@ use crate::examining::examine;
 use crate::found::Found;
 use crate::measured::Measured;
 use crate::pieces::{Basis, Numbered, Piece};
-use fp_base::{NoMemory, Refusal, Row, Value};
-use fp_meaning::lesser;
+use fp_base::{NoMemory, Refusal, Row, Value, lesser};
 use fp_tree::Expr;
 use std::alloc::Global;
 

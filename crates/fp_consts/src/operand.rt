@@ -1,13 +1,12 @@
 ghost use Rattle.std.specs.Prelude.{◌≡◌, Some, None};
-ghost use Rattle.fp_meaning.specs.Least.{broken_at, IsLeast};
+ghost use Rattle.fp_base.specs.Least.{broken_at, IsLeast};
 ghost use Rattle.fp_meaning.specs.Values.{number_in};
 ghost use Rattle.fp_consts.specs.Examined.{plain};
 ghost use Rattle.fp_consts.specs.Operands.{operand_of, operand_with as operand_for, KindFault, NegationFault, NegationIs, OperationFault, OperationIs};
 
 use crate::arithmetic::{combined, divides_by_zero, negated};
 use crate::measured::Measured;
-use fp_base::{Place, Refusal, Rule, Value};
-use fp_meaning::refusal;
+use fp_base::{Place, Refusal, Rule, Value, refusal_at};
 use fp_tree::Operator;
 
 /// What an operator takes of an operand.
@@ -55,7 +54,7 @@ pub fn kind_fault(place: Place, operand: Operand) -> Option<Refusal>
     match operand {
         Operand::Missing => None,
         Operand::Number(_) => None,
-        Operand::Other => Some(refusal(Rule::OperandKind, place)),
+        Operand::Other => Some(refusal_at(Rule::OperandKind, place)),
     }
 }
 
@@ -114,7 +113,7 @@ fn breaks(rule: Rule, place: Place) -> Outcome
 {
     Outcome {
         number: None,
-        broken: Some(refusal(rule, place)),
+        broken: Some(refusal_at(rule, place)),
     }
 }
 

@@ -2,7 +2,7 @@
 use Rattle.std.proofs.Common.{◌≡◌, ◌<◌, ◌⊎◌, ℕ, List, ◌∷◌, Option, Some, codes, inl, inr, refl, sym, ◌∙◌, subst, arith, drop, take-append-drop}
 use Rattle.fp_tree.specs.declared.member.Member.{Member}
 use Rattle.fp_tree.specs.declared.source.Source.{Source}
-use Rattle.fp_meaning.specs.Least.{IsUnbroken}
+use Rattle.fp_base.specs.Least.{IsUnbroken}
 use Rattle.fp_outside.specs.Counts.{Rose, last_count}
 use Rattle.fp_outside.specs.declared.files.HeldFile.{HeldFile}
 use Rattle.fp_main.proofs.Absent.{gone_not_stopped}

@@ -6,8 +6,8 @@ use Rattle.fp_tree.specs.declared.member.Member.{Member}
 use Rattle.fp_tree.specs.declared.member.Unit.{Unit as File}
 use Rattle.fp_tree.specs.declared.source.Source.{Source}
 use Rattle.fp_meaning.specs.Broken.{NamesBroken}
-use Rattle.fp_meaning.specs.Least.{IsLeast, IsUnbroken, earlier_of, lesser_of}
-use Rattle.fp_meaning.proofs.Calculus.{least_none, least_along, least_same, least_either, least_phased, none_broken}
+use Rattle.fp_base.specs.Least.{IsLeast, IsUnbroken, earlier_of, lesser_of}
+use Rattle.fp_base.proofs.Calculus.{least_none, least_along, least_same, least_either, least_phased, none_broken}
 use Rattle.fp_main.specs.gathering.Answers.{Concludes, Knows}
 use Rattle.fp_main.specs.gathering.Gathered.{BrokenIncludes, FilesBroken, file_of, name_of, names_read, source_of}
 use Rattle.fp_main.specs.gathering.Walks.{Walked}

@@ -12,8 +12,8 @@ use Rattle.fp_lexer.specs.Broken.{IsBroken, IsFirstBroken, NotBehind, IsUnbroken
 use Rattle.fp_lexer.specs.Tokens.{Lexed}
 use Rattle.fp_lexer.specs.declared.token.Token.{Token}
 use Rattle.fp_tree.specs.declared.member.Member.{Member}
-use Rattle.fp_meaning.specs.Least.{broken_at, Either, IsLeast, NoLater, lesser_of, no_later}
-use Rattle.fp_meaning.proofs.Calculus.{least_none, least_only, least_one, least_same, least_either, least_flag, none_broken}
+use Rattle.fp_base.specs.Least.{broken_at, Either, IsLeast, NoLater, lesser_of, no_later}
+use Rattle.fp_base.proofs.Calculus.{least_none, least_only, least_one, least_same, least_either, least_flag, none_broken}
 use Rattle.fp_parse_parts.specs.Units.{SpellsUnit, BreaksUnit}
 use Rattle.fp_main.specs.gathering.Answers.{IsFound}
 use Rattle.fp_main.specs.gathering.Gathered.{InFiles}

@@ -5,8 +5,8 @@ use Rattle.std.proofs.lemmas.List.{map-append, length-map}
 use Rattle.std.proofs.lemmas.List.Sums.{sum_by-append}
 use Rattle.std.proofs.lemmas.Bool.Decides.{nat_tests}
 use Rattle.fp_base.specs.declared.refusal.Refusal.{Refusal}
-use Rattle.fp_meaning.specs.Least.{IsLeast, lesser_of}
-use Rattle.fp_meaning.proofs.Calculus.{least_none}
+use Rattle.fp_base.specs.Least.{IsLeast, lesser_of}
+use Rattle.fp_base.proofs.Calculus.{least_none}
 use Rattle.fp_main.proofs.FoundInFiles.{in_files_least, refused_least}
 use Rattle.fp_main.specs.gathering.Answers.{IsFound, Knows, room_left}
 use Rattle.fp_main.specs.gathering.Reading.{Reading, Gives, Passes, most_bytes}

@@ -3,8 +3,8 @@ use Rattle.std.proofs.Common.{Some, IsSomeAnd, inl, inr, refl}
 use Rattle.fp_base.specs.declared.refusal.Refusal.{Refusal}
 use Rattle.fp_tree.specs.declared.source.Source.{Source}
 use Rattle.fp_meaning.specs.Broken.{NamesBroken}
-use Rattle.fp_meaning.specs.Least.{IsLeast, IsUnbroken, NoLater}
-use Rattle.fp_meaning.proofs.Calculus.{least_same}
+use Rattle.fp_base.specs.Least.{IsLeast, IsUnbroken, NoLater}
+use Rattle.fp_base.proofs.Calculus.{least_same}
 use Rattle.fp_main.proofs.FirstOfFiles.{some_there}
 use Rattle.fp_main.specs.gathering.Gathered.{FilesBroken, InFiles, SourceBroken}
 use Rattle.fp_main.specs.gathering.Reading.{BreaksTokens}

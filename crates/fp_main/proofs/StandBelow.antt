@@ -6,7 +6,7 @@ use Rattle.fp_base.specs.declared.refusal.Refusal.{Refusal}
 use Rattle.fp_base.specs.declared.rule.Rule.TheVariants.{BadInclude}
 use Rattle.fp_tree.specs.declared.member.Include.{Include}
 use Rattle.fp_tree.specs.declared.member.Member.{Member}
-use Rattle.fp_meaning.specs.Least.{broken_at}
+use Rattle.fp_base.specs.Least.{broken_at}
 use Rattle.fp_meaning.specs.Names.{definitions_in, in_members, mentions_in}
 use Rattle.fp_meaning.specs.declared.names.Definition.{Definition}
 use Rattle.fp_meaning.specs.declared.names.Mention.{Mention}

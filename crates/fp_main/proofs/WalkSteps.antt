@@ -10,7 +10,7 @@ use Rattle.fp_outside.specs.declared.files.HeldFile.{HeldFile}
 use Rattle.fp_base.specs.declared.rule.Rule.TheVariants.{BadInclude}
 use Rattle.fp_tree.specs.declared.member.Include.{Include}
 use Rattle.fp_tree.specs.declared.member.Member.{Member}
-use Rattle.fp_meaning.specs.Least.{broken_at}
+use Rattle.fp_base.specs.Least.{broken_at}
 use Rattle.fp_main.specs.FilesRun.{FilesRun, files_run, IsHeld, NoFault, NoMiss}
 use Rattle.fp_main.specs.gathering.Answers.{Comes, Knows}
 use Rattle.fp_sites.specs.Includes.{includes_in}

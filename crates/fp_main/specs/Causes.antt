@@ -3,7 +3,7 @@ use Rattle.std.specs.Prelude.{ℕ, ◌≡◌, ◌<◌, ◌⊎◌, List, [], Some
 use Rattle.fp_base.specs.declared.refusal.Refusal.{Refusal}
 use Rattle.fp_tree.specs.declared.member.Member.{Member}
 use Rattle.fp_tree.specs.declared.source.Source.{Source}
-use Rattle.fp_meaning.specs.Least.{IsLeast, IsUnbroken}
+use Rattle.fp_base.specs.Least.{IsLeast, IsUnbroken}
 use Rattle.fp_outside.specs.Counts.{last_count}
 use Rattle.fp_outside.specs.declared.files.HeldFile.{HeldFile}
 use Rattle.fp_main.specs.Delivery.{SinkRun, Adds, AddsFront, OutFailed, DiagFailed}

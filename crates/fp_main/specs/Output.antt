@@ -3,7 +3,7 @@ use Rattle.std.specs.Prelude.{ℕ, ◌≡◌, List, [], Some}
 use Rattle.fp_base.specs.declared.refusal.Refusal.{Refusal}
 use Rattle.fp_tree.specs.declared.source.Source.{Source}
 use Rattle.fp_meaning.specs.Broken.{NamesBroken}
-use Rattle.fp_meaning.specs.Least.{IsLeast, IsUnbroken}
+use Rattle.fp_base.specs.Least.{IsLeast, IsUnbroken}
 use Rattle.fp_main.specs.Delivery.{SinkRun, Delivered}
 use Rattle.fp_main.specs.FilesRun.{FilesRun, NoFault, NoMiss}
 use Rattle.fp_main.specs.gathering.Gathered.{AreRead, IsAbsent, IsUnread, SourceBroken, StandsAmong, name_of, names_read}

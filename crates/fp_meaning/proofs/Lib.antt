@@ -1,6 +1,3 @@
-pub mod Ordering
-pub mod Calculus
-pub mod Elements
 pub mod Walks
 pub mod Meanings
 pub mod OneValue

@@ -6,7 +6,7 @@ use Rattle.fp_tree.specs.declared.source.Source.{Source}
 use Rattle.fp_meaning.specs.declared.group.Group.{Group}
 use Rattle.fp_meaning.specs.declared.names.Definition.{Definition}
 use Rattle.fp_meaning.specs.declared.names.Mention.{Mention}
-use Rattle.fp_meaning.specs.Least.{broken_at, Either, InSome}
+use Rattle.fp_base.specs.Least.{broken_at, Either, InSome}
 use Rattle.fp_meaning.specs.Meaning.{IsNamed, HasMeaning}
 use Rattle.fp_meaning.specs.Names.{definitions, mentions}
 

@@ -16,7 +16,7 @@ use Rattle.fp_tree.specs.declared.expression.Assignment.{Assignment}
 use Rattle.fp_meaning.specs.declared.group.Group.TheVariants as group
 use Rattle.fp_meaning.specs.declared.names.Definition.{Definition}
 use Rattle.fp_meaning.specs.declared.names.Mention.{Mention}
-use Rattle.fp_meaning.specs.Least.{broken_at, Either, InSome}
+use Rattle.fp_base.specs.Least.{broken_at, Either, InSome}
 use Rattle.fp_meaning.specs.Names.{Path, definitions, in_expression}
 use Rattle.fp_meaning.specs.Meaning.{Means}
 use Rattle.fp_meaning.specs.Origins.{Placed, Origin, origins, expressions, written_in}

@@ -1,4 +1,3 @@
-pub mod Least
 pub mod Names
 pub mod Meaning
 pub mod Broken

@@ -12,9 +12,9 @@ use Rattle.fp_meaning.specs.declared.names.Mention.{Mention}
 use Rattle.fp_meaning.specs.Names.{Path}
 use Rattle.fp_meaning.specs.Meaning.{Means, HasMeaning, AreMeanings}
 use Rattle.fp_meaning.specs.Broken.{HasEarlier, IsTwice, IsUnmeant}
-use Rattle.fp_meaning.specs.Least.{broken_at, no_later, IsLeast, lesser_of, InFirst}
-use Rattle.fp_meaning.proofs.Calculus.{least_none, least_only, least_flag}
-use Rattle.fp_meaning.proofs.Elements.{least_in_one, least_first_next}
+use Rattle.fp_base.specs.Least.{broken_at, no_later, IsLeast, lesser_of, InFirst}
+use Rattle.fp_base.proofs.Calculus.{least_none, least_only, least_flag}
+use Rattle.fp_base.proofs.Elements.{least_in_one, least_first_next}
 use Rattle.fp_names.specs.declared.lookups.Found.{Found}
 use Rattle.fp_names.specs.declared.tree.Node.{Node}
 use Rattle.fp_names.specs.Answers.{AreFound, Notes}

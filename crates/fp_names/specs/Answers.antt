@@ -6,7 +6,7 @@ use Rattle.fp_base.specs.declared.refusal.Stop.TheVariants.{Broken, NoMemory}
 use Rattle.fp_meaning.specs.declared.names.Definition.{Definition}
 use Rattle.fp_meaning.specs.declared.names.Mention.{Mention}
 use Rattle.fp_meaning.specs.Broken.{IsUnmeant}
-use Rattle.fp_meaning.specs.Least.{IsLeast, lesser_of}
+use Rattle.fp_base.specs.Least.{IsLeast, lesser_of}
 use Rattle.fp_meaning.specs.Meaning.{AreMeanings, Means}
 use Rattle.fp_names.specs.declared.lookups.Found.{Found}
 

@@ -1,6 +1,6 @@
 ghost use Rattle.std.specs.Prelude.{◌≡◌, ◌∷◌, Some, None, IfOk, OnOk, MatchBool, ℕ};
 ghost use Rattle.fp_meaning.specs.Broken.{IsUnmeant};
-ghost use Rattle.fp_meaning.specs.Least.{InSome, IsLeast};
+ghost use Rattle.fp_base.specs.Least.{InSome, IsLeast};
 ghost use Rattle.fp_meaning.specs.Meaning.{HasMeaning};
 ghost use Rattle.fp_meaning.specs.declared.group.Group.{Group as Groups};
 ghost use Rattle.fp_meaning.specs.declared.names.Mention.{Mention as Used};
@@ -8,8 +8,8 @@ ghost use Rattle.fp_base.specs.declared.refusal.Refusal.{Refusal as Refused};
 ghost use Rattle.fp_names.specs.Answers.{AreFound, Notes};
 
 use crate::names::Names;
-use fp_base::{NoMemory, Refusal, Row, Rule};
-use fp_meaning::{Group, Mention, lesser, refusal};
+use fp_base::{NoMemory, Refusal, Row, Rule, lesser, refusal_at};
+use fp_meaning::{Group, Mention};
 use std::alloc::Global;
 
 /// The numbers of what uses mean, and the least of what they break.
@@ -52,9 +52,9 @@ fn unmeant(names: &Names, mention: &Mention) -> Refusal
     ensures { IsLeast (IsUnmeant names.now mention.now) (Some result) }
 {
     if means_something(names, mention) {
-        refusal(Rule::WrongKindOfName, mention.place)
+        refusal_at(Rule::WrongKindOfName, mention.place)
     } else {
-        refusal(Rule::Undefined, mention.place)
+        refusal_at(Rule::Undefined, mention.place)
     }
 }
 

@@ -1,6 +1,6 @@
 ghost use Rattle.std.specs.Prelude.{◌≡◌, ◌∷◌, Some, None, IfOk, IfErr, OnOk, MatchOption, ℕ};
 ghost use Rattle.fp_meaning.specs.Broken.{BrokenByDefinitions, BrokenByUses, NamesBroken};
-ghost use Rattle.fp_meaning.specs.Least.{IsLeast, IsUnbroken};
+ghost use Rattle.fp_base.specs.Least.{IsLeast, IsUnbroken};
 ghost use Rattle.fp_meaning.specs.Meaning.{AreMeanings, Means};
 ghost use Rattle.fp_meaning.specs.Names.{definitions, mentions};
 ghost use Rattle.fp_names.specs.Answers.{AreFound, IsStop};
@@ -11,8 +11,8 @@ use crate::lookups::{Found, look_up};
 use crate::mentions::mentions_of;
 use crate::table::{Table, table_of};
 use crate::tree::{Node, longest_from, meaning_from, walk_from};
-use fp_base::{NoMemory, Refusal, Row, Stop, Text};
-use fp_meaning::{Definition, Group, lesser};
+use fp_base::{NoMemory, Refusal, Row, Stop, Text, lesser};
+use fp_meaning::{Definition, Group};
 use fp_tree::{Source, Uses};
 use std::alloc::Global;
 use std::marker::Model;

@@ -1,11 +1,11 @@
 ghost use Rattle.std.specs.Prelude.{◌≡◌, ◌++◌, ◌∷◌, [], length, IfOk, MatchBool};
 ghost use Rattle.fp_meaning.specs.Broken.{HasEarlier, IsTwice};
-ghost use Rattle.fp_meaning.specs.Least.{InSome, IsLeast};
+ghost use Rattle.fp_base.specs.Least.{InSome, IsLeast};
 ghost use Rattle.fp_names.specs.Tree.{IsTable, Within};
 
 use crate::tree::{Node, enter, root_of, roots, say};
-use fp_base::{NoMemory, Refusal, Rule};
-use fp_meaning::{Definition, lesser, refusal_if};
+use fp_base::{NoMemory, Refusal, Rule, lesser, refusal_if};
+use fp_meaning::Definition;
 use std::alloc::Global;
 
 /// The tree of the names of definitions, and the least name that is defined twice.

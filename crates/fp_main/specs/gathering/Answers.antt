@@ -3,7 +3,7 @@ use Rattle.std.specs.Prelude.{ℕ, ◌≡◌, ◌+◌, ◌-◌, ◌<◌, nat_le,
 use Rattle.fp_outside.specs.declared.files.HeldFile.{HeldFile}
 use Rattle.fp_tree.specs.declared.member.Member.{Member}
 use Rattle.fp_tree.specs.declared.source.Source.{Source}
-use Rattle.fp_meaning.specs.Least.{IsLeast, IsUnbroken}
+use Rattle.fp_base.specs.Least.{IsLeast, IsUnbroken}
 use Rattle.fp_main.specs.FilesRun.{FilesRun, NoFault, NoMiss, HadFault, HadMiss}
 use Rattle.fp_main.specs.gathering.Reading.{Reading, BreaksTokens, BreaksGrammar, Gives, most_bytes}
 use Rattle.fp_main.specs.gathering.Walks.{Walked, Walk, Went, Stops, NoFile, ReadFault, bytes_of, is_included}

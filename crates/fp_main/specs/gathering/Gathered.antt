@@ -6,7 +6,7 @@ use Rattle.fp_tree.specs.declared.member.Member.{Member}
 use Rattle.fp_tree.specs.declared.member.Unit.{Unit as File}
 use Rattle.fp_tree.specs.declared.source.Source.{Source}
 use Rattle.fp_meaning.specs.Broken.{NamesBroken}
-use Rattle.fp_meaning.specs.Least.{Either, IsLeast, IsUnbroken, Phased}
+use Rattle.fp_base.specs.Least.{Either, IsLeast, IsUnbroken, Phased}
 use Rattle.fp_main.specs.FilesRun.{FilesRun, NoFault, NoMiss, HadFault, HadMiss}
 use Rattle.fp_main.specs.gathering.Reading.{Reading, BreaksTokens, BreaksGrammar}
 use Rattle.fp_main.specs.gathering.Walks.{Walked, Went, Stops, NoFile, ReadFault, nothing_read, WalksFiles}

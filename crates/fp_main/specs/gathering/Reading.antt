@@ -7,7 +7,7 @@ use Rattle.fp_lexer.specs.Broken.{IsBroken}
 use Rattle.fp_lexer.specs.Tokens.{Lexed}
 use Rattle.fp_lexer.specs.declared.token.Token.{Token}
 use Rattle.fp_tree.specs.declared.member.Member.{Member}
-use Rattle.fp_meaning.specs.Least.{broken_at, Either, IsUnbroken}
+use Rattle.fp_base.specs.Least.{broken_at, Either, IsUnbroken}
 use Rattle.fp_parse_parts.specs.Units.{SpellsUnit, BreaksUnit}
 
 pub record Reading : Type 0 where

@@ -6,7 +6,7 @@ use Rattle.fp_base.specs.declared.rule.Rule.TheVariants.{BadInclude}
 use Rattle.fp_outside.specs.declared.files.HeldFile.{HeldFile}
 use Rattle.fp_tree.specs.declared.member.Include.{Include}
 use Rattle.fp_tree.specs.declared.member.Member.{Member}
-use Rattle.fp_meaning.specs.Least.{broken_at}
+use Rattle.fp_base.specs.Least.{broken_at}
 use Rattle.fp_main.specs.FilesRun.{IsHeld}
 use Rattle.fp_sites.specs.Includes.{includes_in}
 use Rattle.fp_main.specs.gathering.Includes.{included_name, replaced}

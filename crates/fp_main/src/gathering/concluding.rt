@@ -1,6 +1,6 @@
 ghost use Rattle.std.specs.Prelude.{◌≡◌, Contains, IfOk, List, map};
 ghost use Rattle.fp_base.specs.declared.refusal.Refusal.{Refusal};
-ghost use Rattle.fp_meaning.specs.Least.{IsLeast};
+ghost use Rattle.fp_base.specs.Least.{IsLeast};
 ghost use Rattle.fp_main.specs.gathering.Answers.{Concludes, Knows};
 ghost use Rattle.fp_main.specs.gathering.Gathered.{BrokenIncludes, file_of, name_of};
 ghost use Rattle.fp_main.specs.gathering.Walks.{Walked};
@@ -8,8 +8,7 @@ ghost use Rattle.fp_main.specs.gathering.Walks.{Walked};
 use super::Halt;
 use super::progress::Progress;
 use crate::lines::name_of;
-use fp_base::{NoMemory, Refusal, Row, Text};
-use fp_meaning::{earlier, lesser};
+use fp_base::{NoMemory, Refusal, Row, Text, earlier, lesser};
 use fp_names::name_faults;
 use fp_tree::{Member, Source, Unit};
 use std::alloc::Global;

@@ -1,5 +1,5 @@
 ghost use Rattle.std.specs.Prelude.{◌≡◌, ◌+◌, ◌<◌, cond, IfOk, IsSomeAnd, MatchBool};
-ghost use Rattle.fp_meaning.specs.Least.{broken_at};
+ghost use Rattle.fp_base.specs.Least.{broken_at};
 ghost use Rattle.fp_base.specs.declared.rule.Rule.TheVariants.{BadInclude};
 ghost use Rattle.fp_main.specs.gathering.Answers.{Knows, room_left};
 ghost use Rattle.fp_main.specs.gathering.Reading.{Gives};
@@ -7,8 +7,7 @@ ghost use Rattle.fp_main.specs.gathering.Walks.{Walked, IsBad, has_some, nothing
 
 use super::including::is_among;
 use super::reading::read_text;
-use fp_base::{NoMemory, Refusal, Row, Rule, Text};
-use fp_meaning::{lesser, refusal};
+use fp_base::{NoMemory, Refusal, Row, Rule, Text, lesser, refusal_at};
 use fp_tree::{Include, Member};
 use std::alloc::Global;
 
@@ -126,6 +125,6 @@ pub fn refuse(progress: &mut Progress, include: &Include)
 {
     progress.includes = lesser(
         progress.includes,
-        Some(refusal(Rule::BadInclude, include.at.first)),
+        Some(refusal_at(Rule::BadInclude, include.at.first)),
     );
 }

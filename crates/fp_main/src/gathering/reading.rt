@@ -4,9 +4,8 @@ ghost use Rattle.fp_parse_parts.specs.declared.parsing.Members.TheVariants.{Unit
 ghost use Rattle.fp_main.specs.gathering.Answers.{IsFound};
 ghost use Rattle.fp_main.specs.gathering.Reading.{Reading, HasTokens, Passes};
 
-use fp_base::{NoMemory, Refusal, Row, Rule, Stop, place_of};
+use fp_base::{NoMemory, Refusal, Row, Rule, Stop, lesser, place_of, refusal_if};
 use fp_lexer::{Token, lex};
-use fp_meaning::{lesser, refusal_if};
 use fp_parse_parts::{Inside, Members, one_refusal, parse};
 use fp_tree::Member;
 use std::alloc::Global;

@@ -1,9 +1,9 @@
 use Rattle.std.proofs.Common.{◌≡◌, ℕ, length, get_or, sym, subst, arith}
 use Rattle.std.proofs.lemmas.Option.{slice_get-get_or}
 use Rattle.fp_base.specs.declared.place.Place.{Place}
-use Rattle.fp_meaning.specs.Least.{InFirst, IsLeast}
-use Rattle.fp_meaning.proofs.Calculus.{least_along}
-use Rattle.fp_meaning.proofs.Elements.{least_first_none, least_first_next, least_first_all}
+use Rattle.fp_base.specs.Least.{InFirst, IsLeast}
+use Rattle.fp_base.proofs.Calculus.{least_along}
+use Rattle.fp_base.proofs.Elements.{least_first_none, least_first_next, least_first_all}
 use Rattle.fp_consts.specs.Chains.{Marked}
 use Rattle.fp_consts.proofs.Bridging.{one_marked}
 use Rattle.fp_consts.proofs.chains.chain_faults.Goals as goal

@@ -1,4 +1,4 @@
-use Rattle.fp_meaning.specs.Least.{InFirst, IsLeast}
+use Rattle.fp_base.specs.Least.{InFirst, IsLeast}
 use Rattle.fp_consts.specs.Chains.{Marked}
 use Rattle.fp_consts.proofs.chains.chain_faults.Given as goal
 

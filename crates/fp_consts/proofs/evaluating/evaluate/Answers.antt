@@ -1,4 +1,4 @@
-use Rattle.fp_meaning.proofs.Calculus.{none_broken, least_along}
+use Rattle.fp_base.proofs.Calculus.{none_broken, least_along}
 use Rattle.fp_consts.proofs.Answered.{all_stand}
 use Rattle.fp_consts.proofs.evaluating.evaluate.Goals as goal
 

@@ -2,7 +2,7 @@ use Rattle.std.proofs.Common.{◌≡◌, ℕ, Bool, List, length, Option, sym, a
 use Rattle.fp_base.specs.declared.refusal.Refusal.{Refusal}
 use Rattle.fp_tree.specs.declared.source.Source.{Source}
 use Rattle.fp_meaning.specs.ConstantFaults.{ConstantsBroken}
-use Rattle.fp_meaning.specs.Least.{IsLeast, InSome}
+use Rattle.fp_base.specs.Least.{IsLeast, InSome}
 use Rattle.fp_meaning.specs.Meaning.{AreMeanings}
 use Rattle.fp_meaning.specs.Names.{in_source, definitions, mentions}
 use Rattle.fp_consts.specs.declared.measured.Measured.{Measured}

@@ -1,4 +1,4 @@
-use Rattle.fp_meaning.proofs.Calculus.{least_along, none_broken}
+use Rattle.fp_base.proofs.Calculus.{least_along, none_broken}
 use Rattle.fp_main.proofs.answer.check.Goals as goal
 
 pub returns-in_ok-listing-in-None : goal.returns-in_ok-listing-in-None

@@ -2,7 +2,7 @@ use Rattle.std.proofs.Common.{◌≡◌, ℕ, List, [], Some, length, slice_get,
 use Rattle.std.proofs.lemmas.Option.{slice_get_read}
 use Rattle.fp_meaning.specs.Broken.{IsUnmeant}
 use Rattle.fp_meaning.specs.Meaning.{AreMeanings}
-use Rattle.fp_meaning.proofs.Elements.{least_first_none}
+use Rattle.fp_base.proofs.Elements.{least_first_none}
 use Rattle.fp_names.proofs.Faults.{least_next, found_next, meanings_none}
 use Rattle.fp_names.proofs.lookups.look_up.Goals as goal
 

@@ -1,6 +1,6 @@
 use Rattle.std.proofs.Common.{take}
 use Rattle.fp_meaning.specs.Broken.{IsUnmeant}
-use Rattle.fp_meaning.specs.Least.{InFirst, IsLeast}
+use Rattle.fp_base.specs.Least.{InFirst, IsLeast}
 use Rattle.fp_names.specs.Answers.{AreFound}
 use Rattle.fp_names.proofs.lookups.look_up.Given as goal
 

@@ -1,4 +1,4 @@
-use Rattle.fp_meaning.proofs.Calculus.{none_broken, least_along}
+use Rattle.fp_base.proofs.Calculus.{none_broken, least_along}
 use Rattle.fp_names.proofs.names.collect.Goals as goal
 
 pub returns-in-None-clause-once : goal.returns-in-None-clause-once

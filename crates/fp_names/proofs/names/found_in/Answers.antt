@@ -3,7 +3,7 @@ use Rattle.std.specs.Prelude.{IfOk}
 use Rattle.fp_meaning.specs.declared.names.Definition.{Definition}
 use Rattle.fp_meaning.specs.declared.names.Mention.{Mention}
 use Rattle.fp_meaning.specs.Broken.{IsUnmeant}
-use Rattle.fp_meaning.specs.Least.{InSome, IsLeast}
+use Rattle.fp_base.specs.Least.{InSome, IsLeast}
 use Rattle.fp_meaning.specs.Names.{mentions}
 use Rattle.fp_names.specs.declared.lookups.Found.{Found}
 use Rattle.fp_names.proofs.names.found_in.Goals as goal

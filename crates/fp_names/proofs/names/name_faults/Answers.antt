@@ -1,5 +1,5 @@
 use Rattle.std.proofs.Common.{sym}
-use Rattle.fp_meaning.proofs.Calculus.{least_along, least_either}
+use Rattle.fp_base.proofs.Calculus.{least_along, least_either}
 use Rattle.fp_names.proofs.names.name_faults.Goals as goal
 
 pub returns : goal.returns

@@ -2,8 +2,8 @@ use Rattle.std.proofs.Common.{◌≡◌, List, Some, length, slice_get, refl, su
 use Rattle.std.proofs.lemmas.Option.{slice_get_read}
 use Rattle.fp_meaning.specs.declared.names.Definition.{Definition}
 use Rattle.fp_meaning.specs.Broken.{IsTwice}
-use Rattle.fp_meaning.specs.Least.{InFirst, IsLeast}
-use Rattle.fp_meaning.proofs.Elements.{least_first_none, least_first_all}
+use Rattle.fp_base.specs.Least.{InFirst, IsLeast}
+use Rattle.fp_base.proofs.Elements.{least_first_none, least_first_all}
 use Rattle.fp_names.specs.Tree.{IsTable}
 use Rattle.fp_names.proofs.Faults.{twice_next}
 use Rattle.fp_names.proofs.Lists.{next_taken, all_taken}

@@ -1,6 +1,6 @@
 use Rattle.std.proofs.Common.{take}
 use Rattle.fp_meaning.specs.Broken.{IsTwice}
-use Rattle.fp_meaning.specs.Least.{InFirst, IsLeast}
+use Rattle.fp_base.specs.Least.{InFirst, IsLeast}
 use Rattle.fp_names.specs.Tree.{IsTable}
 use Rattle.fp_names.proofs.table.table_of.Given as goal
 

@@ -1,4 +1,4 @@
-use Rattle.fp_meaning.proofs.Calculus.{least_along}
+use Rattle.fp_base.proofs.Calculus.{least_along}
 use Rattle.fp_main.proofs.FirstOfFiles.{includes_none, includes_either}
 use Rattle.fp_main.proofs.gathering.concluding.includes_first.Goals as goal
 

@@ -2,7 +2,7 @@ use Rattle.std.proofs.Common.{Bool, Option, [], None, Some, cond, sym, ap, subst
 use Rattle.std.proofs.lemmas.Bool.{MatchBool-at_true, MatchBool-at_false}
 use Rattle.fp_base.specs.declared.refusal.Refusal.{Refusal}
 use Rattle.fp_base.specs.declared.rule.Rule.TheVariants.{TextTooLong}
-use Rattle.fp_meaning.specs.Least.{broken_at}
+use Rattle.fp_base.specs.Least.{broken_at}
 use Rattle.fp_main.specs.gathering.Answers.{IsFound}
 use Rattle.fp_main.specs.declared.gathering.reading.Found.{Found}
 use Rattle.fp_main.proofs.FoundInFiles.{found_in_broken, found_in_long, found_carried, has_tokens}

@@ -1,9 +1,9 @@
 -- The least of a union, of two phases, and of what a test tells.
 use Rattle.std.proofs.Common.{◌≡◌, Bool, true, false, cond, MatchBool, Option, Some, None, refl, inl, inr, sym, subst}
 use Rattle.fp_base.specs.declared.refusal.Refusal.{Refusal}
-use Rattle.fp_meaning.specs.Least.{NoLater, no_later}
-use Rattle.fp_meaning.specs.Least.{IsLeast, lesser_of, earlier_of, Either, Phased}
-use Rattle.fp_meaning.proofs.Ordering.{no_later_same, no_later_through, no_later_true, no_later_false}
+use Rattle.fp_base.specs.Least.{NoLater, no_later}
+use Rattle.fp_base.specs.Least.{IsLeast, lesser_of, earlier_of, Either, Phased}
+use Rattle.fp_base.proofs.Ordering.{no_later_same, no_later_through, no_later_true, no_later_false}
 
 -- nothing is broken
 pub least_none : {P : Refusal → Type 0} → ((f : Refusal) → P f → ⊥) → IsLeast P None

@@ -2,8 +2,8 @@
 use Rattle.std.proofs.Common.{◌≡◌, ℕ, ◌+◌, ◌<◌, ◌⊎◌, List, length, slice_get, Option, Some, None, inl, inr, arith, subst}
 use Rattle.std.proofs.lemmas.Option.{slice_get_within}
 use Rattle.fp_base.specs.declared.refusal.Refusal.{Refusal}
-use Rattle.fp_meaning.specs.Least.{IsLeast, lesser_of, Either, InFirst, InOne, InSome}
-use Rattle.fp_meaning.proofs.Calculus.{least_none, least_either, least_same}
+use Rattle.fp_base.specs.Least.{IsLeast, lesser_of, Either, InFirst, InOne, InSome}
+use Rattle.fp_base.proofs.Calculus.{least_none, least_either, least_same}
 
 -- of no element
 pub least_first_none : {A : Type 0} (P : ℕ → A → Refusal → Type 0) (xs : List A) → IsLeast (InFirst 0 P xs) None

@@ -4,7 +4,7 @@ use Rattle.std.specs.Prelude.{nat_eq, nat_lt, nat_le}
 use Rattle.std.proofs.lemmas.Bool.Decides.{nat_tests}
 use Rattle.fp_base.specs.Rules.{row}
 use Rattle.fp_base.specs.declared.refusal.Refusal.{Refusal}
-use Rattle.fp_meaning.specs.Least.{NoLater, no_later}
+use Rattle.fp_base.specs.Least.{NoLater, no_later}
 
 -- one step of the order: by a number, and where these are equal by what follows
 abbrev Then : ℕ → ℕ → Type 0 → Type 0

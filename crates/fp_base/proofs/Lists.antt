@@ -1,0 +1,88 @@
+-- What a list has at an index, and what holds of each of its items.
+use Rattle.std.proofs.Common.{◌≡◌, ℕ, zero, suc, ◌+◌, ◌<◌, Bool, true, List, [], ◌∷◌, ◌++◌, length, map, flat_map, take, slice_get, Option, Some, None, refl, sym, ap, ◌∙◌, subst, arith}
+use Rattle.std.specs.Prelude.{is_some, nat_lt}
+use Rattle.std.specs.List.{AllByRecursion, Contains, list_all, slice_index_or}
+use Rattle.std.proofs.lemmas.Bool.Decides.{nat_tests}
+use Rattle.std.proofs.lemmas.List.Elements.{All-contains, All-from_recursion, Contains-get_or, recursion_from_All}
+use Rattle.std.proofs.lemmas.Option.{get_or_from_slice_get, slice_get_within}
+use Rattle.fp_base.proofs.Bools.{both}
+use Rattle.fp_base.proofs.Options.{same_some}
+
+pub get_front : {A : Type 0} (xs ys : List A) (k : ℕ) (x : A) → slice_get xs k ≡ Some x → slice_get (xs ++ ys) k ≡ Some x
+get_front [] ys k x h = absurd (cc)
+get_front (y ∷ xs) ys zero x h = h
+get_front (y ∷ xs) ys (suc k) x h = get_front xs ys k x h
+
+pub get_last : {A : Type 0} (xs : List A) (x : A) → slice_get (xs ++ x ∷ []) (length xs) ≡ Some x
+get_last [] x = refl
+get_last (y ∷ xs) x = get_last xs x
+
+pub get_within : {A : Type 0} (xs : List A) (k : ℕ) (x : A) → slice_get xs k ≡ Some x → k < length xs
+get_within xs k x h = slice_get_within xs k x h
+
+there_below : {A : Type 0} (xs : List A) (k : ℕ) → k < length xs → is_some (slice_get xs k) ≡ true
+there_below [] k h = absurd (omega arith)
+there_below (x ∷ xs) zero h = refl
+there_below (x ∷ xs) (suc k) h = let low : k < length xs = omega arith in there_below xs k low
+
+pub get_below : {A : Type 0} (xs : List A) (k : ℕ) → nat_lt k (length xs) ≡ true → is_some (slice_get xs k) ≡ true
+get_below xs k h = let low : k < length xs = grind (arith, nat_tests) in there_below xs k low
+
+pub take_next : {A : Type 0} (xs : List A) (k : ℕ) (x : A) → slice_get xs k ≡ Some x → take (k + 1) xs ≡ take k xs ++ x ∷ []
+take_next xs k x h = let on : suc k ≡ k + 1 = omega arith in ap (λ n. take n xs) (sym on) ∙ step xs k x h
+  where
+    step : {A : Type 0} (xs : List A) (k : ℕ) (x : A) → slice_get xs k ≡ Some x → take (suc k) xs ≡ take k xs ++ x ∷ []
+    step [] k x h = absurd (cc)
+    step (y ∷ xs) zero x h = ap (λ z. z ∷ []) (same_some h)
+    step (y ∷ xs) (suc k) x h = ap (λ zs. y ∷ zs) (step xs k x h)
+
+pub all_get : {A : Type 0} (p : A → Bool) (xs : List A) (k : ℕ) (x : A) → list_all p xs ≡ true → slice_get xs k ≡ Some x → p x ≡ true
+all_get p [] k x h e = absurd (cc)
+all_get p (y ∷ xs) zero x h e = subst (λ z. p z ≡ true) (same_some e) (both (p y) (list_all p xs) h).0
+all_get p (y ∷ xs) (suc k) x h e = all_get p xs k x (both (p y) (list_all p xs) h).1 e
+
+-- of what an option holds
+abbrev pub InOption : {A : Type 0} → (A → Type 0) → Option A → Type 0
+InOption P None = Unit {0}
+InOption P (Some x) = P x
+
+module _ {A : Type 0} (P : A → Type 0) where
+  pub each_append : (xs ys : List A) → AllByRecursion P xs → AllByRecursion P ys → AllByRecursion P (xs ++ ys)
+  each_append [] ys h k = k
+  each_append (x ∷ xs) ys h k = (h.0, each_append xs ys h.1 k)
+
+  pub each_before : (xs ys : List A) → AllByRecursion P (xs ++ ys) → AllByRecursion P xs
+  each_before [] ys h = tt
+  each_before (x ∷ xs) ys h = (h.0, each_before xs ys h.1)
+
+  pub each_behind : (xs ys : List A) → AllByRecursion P (xs ++ ys) → AllByRecursion P ys
+  each_behind [] ys h = h
+  each_behind (x ∷ xs) ys h = each_behind xs ys h.1
+
+  pub each_push : (xs : List A) (x : A) → AllByRecursion P xs → P x → AllByRecursion P (xs ++ x ∷ [])
+  each_push xs x h k = each_append xs (x ∷ []) h (k, tt)
+
+  pub each_flat : {B : Type 0} (f : B → List A) (ys : List B) → AllByRecursion (λ y. AllByRecursion P (f y)) ys → AllByRecursion P (flat_map f ys)
+  each_flat f [] h = tt
+  each_flat f (y ∷ ys) h = each_append (f y) (flat_map f ys) h.0 (each_flat f ys h.1)
+
+  pub each_mapped : {B : Type 0} (f : B → A) (ys : List B) → AllByRecursion (λ y. P (f y)) ys → AllByRecursion P (map f ys)
+  each_mapped f [] h = tt
+  each_mapped f (y ∷ ys) h = (h.0, each_mapped f ys h.1)
+
+  pub each_of_any : ((x : A) → P x) → (xs : List A) → AllByRecursion P xs
+  each_of_any any [] = tt
+  each_of_any any (x ∷ xs) = (any x, each_of_any any xs)
+
+  pub each_contained : (xs : List A) → ((x : A) → Contains xs x → P x) → AllByRecursion P xs
+  each_contained xs h = recursion_from_All P xs (λ k d lt. h (slice_index_or xs k d) (Contains-get_or xs k d lt))
+
+  pub of_contained : (xs : List A) (x : A) → AllByRecursion P xs → Contains xs x → P x
+  of_contained xs x h c = All-contains P xs x (All-from_recursion P xs h) c
+
+  pub of_item : (xs : List A) (k : ℕ) (x : A) → AllByRecursion P xs → slice_get xs k ≡ Some x → P x
+  of_item xs k x h e = subst P (get_or_from_slice_get xs k x x e) (All-from_recursion P xs h k x (slice_get_within xs k x e))
+
+pub each_weaker : {A : Type 0} (P Q : A → Type 0) → ((x : A) → P x → Q x) → (xs : List A) → AllByRecursion P xs → AllByRecursion Q xs
+each_weaker P Q to [] h = tt
+each_weaker P Q to (x ∷ xs) h = (to x h.0, each_weaker P Q to xs h.1)
