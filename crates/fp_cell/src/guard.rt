@@ -7,7 +7,7 @@ use fp_base::NoMemory;
 use fp_events::Why;
 
 /// The actor that holds the guard, and how many of its sync, set and save frames opened here since are still open.
-#[derive(Clone, Copy, Debug)]
+#[derive(Clone, Copy)]
 pub(crate) struct Holding {
     pub actor: u32,
     pub frames: u64,

@@ -11,7 +11,7 @@ use fp_tables::{
 };
 
 /// How an instance treats what arrives at a place: by the place's way, or as the implied set or save command of a parameter.
-#[derive(Clone, Copy, Debug)]
+#[derive(Clone, Copy)]
 pub(crate) enum Manner {
     By(Way),
     Sets(u32),

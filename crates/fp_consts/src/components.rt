@@ -8,7 +8,7 @@ use fp_base::NoMemory;
 use std::alloc::Global;
 
 /// Definitions in an order in which they can be evaluated, and which of them are on a cycle.
-#[derive(Debug, Drop)]
+#[derive(Drop)]
 pub struct Sorted {
     pub order: Vec<usize>,
     pub cyclic: Vec<bool>,

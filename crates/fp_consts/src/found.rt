@@ -11,7 +11,7 @@ use fp_tree::Operator;
 use std::alloc::Global;
 
 /// What is found of an expression: its value, if it has one, the first of what is broken in it, and the number of the use behind it.
-#[derive(Debug, Drop)]
+#[derive(Drop)]
 pub struct Found {
     pub value: Option<Measured>,
     pub first: Option<Refusal>,

@@ -17,7 +17,7 @@ const MOST_LEVELS: u32 = 64;
 
 /// What is found of each of some expressions: whether all have values; the values, as long as they are few enough; their leaves in all and
 /// the levels of the deepest; the first of what is broken in them; and the number of the use behind them.
-#[derive(Debug, Drop)]
+#[derive(Drop)]
 pub struct Gathered {
     pub complete: bool,
     pub values: Row<Value>,
@@ -102,7 +102,7 @@ fn leaves_of(leaves: u32, empty: bool) -> u32
 
 /// The values of the parts of a list or struct that has a value, its leaves and levels, the first of what is broken in it, and the number
 /// of the use behind it.
-#[derive(Debug, Drop)]
+#[derive(Drop)]
 pub struct Whole {
     pub values: Option<Row<Value>>,
     pub leaves: u32,

@@ -10,7 +10,7 @@ use std::alloc::Global;
 
 /// For each definition of a source that is laid out flat: where its uses stand among all uses, which part it is, and where its name
 /// stands; and the number of the use behind.
-#[derive(Debug, Drop)]
+#[derive(Drop)]
 pub struct Laid {
     pub spans: Row<Stretch>,
     pub spots: Row<usize>,

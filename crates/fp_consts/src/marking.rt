@@ -12,7 +12,7 @@ use std::alloc::Global;
 
 /// The values of expressions in source order, where they have some, the least of what is broken in them, and the number of the use behind
 /// them.
-#[derive(Debug, Drop)]
+#[derive(Drop)]
 pub struct Marking {
     pub at: Row<Option<Value>>,
     pub first: Option<Refusal>,

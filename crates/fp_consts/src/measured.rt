@@ -5,7 +5,7 @@ use fp_base::{NoMemory, Value};
 use std::alloc::Global;
 
 /// A value with its leaves and levels.
-#[derive(Debug, Drop)]
+#[derive(Drop)]
 pub struct Measured {
     pub value: Value,
     pub leaves: u32,

@@ -10,7 +10,7 @@ use fp_base::{Place, Refusal, Rule, Value, refusal_at};
 use fp_tree::Operator;
 
 /// What an operator takes of an operand.
-#[derive(Clone, Copy, Debug, PartialEq, Eq)]
+#[derive(Clone, Copy, PartialEq, Eq)]
 pub enum Operand {
     /// It has no value.
     Missing,
@@ -21,7 +21,7 @@ pub enum Operand {
 }
 
 /// What an operator gives, if it gives something, and what it breaks by that.
-#[derive(Clone, Copy, Debug)]
+#[derive(Clone, Copy)]
 pub struct Outcome {
     pub number: Option<i128>,
     pub broken: Option<Refusal>,

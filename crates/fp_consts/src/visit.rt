@@ -6,7 +6,7 @@ use crate::stretch::Stretch;
 use fp_base::NoMemory;
 
 /// How far a definition is known.
-#[derive(Clone, Copy, Debug, PartialEq, Eq)]
+#[derive(Clone, Copy, PartialEq, Eq)]
 pub enum Mark {
     Unseen,
     /// It was reached, and stands at this place among those that are open.
@@ -16,7 +16,7 @@ pub enum Mark {
 }
 
 /// A definition whose uses are looked at: its place among those that are open, and the next use.
-#[derive(Clone, Copy, Debug)]
+#[derive(Clone, Copy)]
 pub struct Frame {
     pub vertex: usize,
     pub at: usize,
@@ -25,7 +25,7 @@ pub struct Frame {
 }
 
 /// What a use leads to.
-#[derive(Clone, Copy, Debug)]
+#[derive(Clone, Copy)]
 pub enum Met {
     New(usize),
     Open(usize),
@@ -34,7 +34,7 @@ pub enum Met {
 
 /// A depth-first walk over definitions with a stack of its own. What is open stands in parts of definitions that reach one another, and
 /// `heads` has the places where the parts begin.
-#[derive(Debug, Drop)]
+#[derive(Drop)]
 pub struct Walk {
     pub marks: Vec<Mark>,
     pub opened: Vec<usize>,

@@ -3,7 +3,7 @@ use fp_tables::End;
 
 /// A place of an instance at which something arrives: a port at one of its numbers, a command, an internal port, or a signal
 /// of a machine instance.
-#[derive(Clone, Copy, Debug, PartialEq, Eq)]
+#[derive(Clone, Copy, PartialEq, Eq)]
 pub enum Point {
     Port { port: u32, number: u32 },
     Command(u32),
@@ -30,7 +30,7 @@ pub struct Arrival {
 
 /// What became of an emission or a write: it was sent; held by a throttle; not sent since the value is the last one; or not
 /// sent since the port isn't connected.
-#[derive(Clone, Copy, Debug, PartialEq, Eq)]
+#[derive(Clone, Copy, PartialEq, Eq)]
 pub enum Fate {
     Sent,
     Held,
@@ -125,7 +125,7 @@ pub struct Entry {
 
 /// Why an ask has no step now: the queue is full under `block`, an actor holds the guard, an actor holds the turn, or nothing
 /// is pending.
-#[derive(Clone, Copy, Debug, PartialEq, Eq)]
+#[derive(Clone, Copy, PartialEq, Eq)]
 pub enum Why {
     Full,
     GuardHeld(u32),
@@ -134,7 +134,7 @@ pub enum Why {
 }
 
 /// How a run ends.
-#[derive(Clone, Copy, Debug, PartialEq, Eq)]
+#[derive(Clone, Copy, PartialEq, Eq)]
 pub enum Finish {
     Complete,
     Stuck,

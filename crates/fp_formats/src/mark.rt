@@ -5,7 +5,7 @@ ghost use Rattle.fp_formats.specs.Marks.{mark_text, form_text, IsStop};
 use crate::fault::FormatFault;
 
 /// What a field prints.
-#[derive(Clone, Copy, Debug)]
+#[derive(Clone, Copy)]
 pub enum Form {
     Any,
     Dec,
@@ -15,7 +15,7 @@ pub enum Form {
 }
 
 /// What a format's text is made of: bytes of its plain text, and fields.
-#[derive(Clone, Copy, Debug)]
+#[derive(Clone, Copy)]
 pub enum Mark {
     Byte(u8),
     Field(Form),

@@ -11,7 +11,7 @@ use fp_base::{NoMemory, Row, Span};
 const ELSE: u8 = 24;
 
 /// What a newline would mean at a place, by what stands before it.
-#[derive(Clone, Copy, Debug, PartialEq, Eq)]
+#[derive(Clone, Copy, PartialEq, Eq)]
 pub enum Standing {
     Counts,
     Ignored,

@@ -17,7 +17,7 @@ use fp_base::Rule;
 const ARROW: u8 = 10;
 
 /// What is wrong with a piece: the rule that is broken, and where.
-#[derive(Clone, Copy, Debug, PartialEq, Eq)]
+#[derive(Clone, Copy, PartialEq, Eq)]
 pub struct Flaw {
     pub rule: Rule,
     pub at: usize,

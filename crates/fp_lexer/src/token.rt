@@ -2,7 +2,7 @@ use fp_base::{Span, Text};
 
 /// What a token is. A reserved word is numbered by its place in the table of reserved words, and a mark by its place in
 /// `( ) [ ] { } * / + - -> , . : ; =`.
-#[derive(Debug, Drop)]
+#[derive(Drop)]
 pub enum Word {
     Name(Text),
     Reserved(u8),
@@ -17,7 +17,7 @@ pub enum Word {
     After(Text),
 }
 
-#[derive(Debug, Drop)]
+#[derive(Drop)]
 pub struct Token {
     pub what: Word,
     pub at: Span,

@@ -21,7 +21,7 @@ use std::alloc::Global;
 use walking::walk_files;
 
 /// Why files aren't gathered to a source.
-#[derive(Debug, Drop)]
+#[derive(Drop)]
 pub enum Halt {
     /// The name of a file, and the rule that is broken in it.
     Broken(Text, Refusal),

@@ -2,7 +2,7 @@ use crate::group::Group;
 use fp_base::{Place, Row, Text};
 
 /// A definition by its name. FPP Language Specification, "Names of Definitions".
-#[derive(Debug, Drop)]
+#[derive(Drop)]
 pub struct Definition {
     pub group: Group,
     /// The names of the modules and the enumeration round it, from the outside, and its own.
@@ -12,7 +12,7 @@ pub struct Definition {
 }
 
 /// A use of a name.
-#[derive(Debug, Drop)]
+#[derive(Drop)]
 pub struct Mention {
     pub group: Group,
     /// The names of the modules round it, from the outside.

@@ -15,7 +15,7 @@ pub enum ReadRefusal {
 }
 
 /// A name and the bytes that it stands for.
-#[derive(Debug, Drop)]
+#[derive(Drop)]
 pub struct HeldFile {
     pub name: Text,
     pub bytes: Row<u8>,

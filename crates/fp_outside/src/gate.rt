@@ -8,7 +8,7 @@ pub trait Gate: Sync {
 }
 
 /// The gate at which nothing happens.
-#[derive(Clone, Copy, Debug)]
+#[derive(Clone, Copy)]
 pub struct OpenGate;
 
 impl Gate for OpenGate {

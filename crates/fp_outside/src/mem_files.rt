@@ -9,7 +9,7 @@ use fp_base::{NoMemory, Row, Text};
 use std::alloc::Global;
 
 /// Files in memory, of which some reads fail. Reads count from 1.
-#[derive(Debug, Drop)]
+#[derive(Drop)]
 pub struct MemFiles {
     pub held: Row<HeldFile>,
     /// The numbers of the reads that fail.
@@ -21,7 +21,7 @@ pub struct MemFiles {
 }
 
 /// Files in memory of which no read fails.
-#[derive(Debug, Drop)]
+#[derive(Drop)]
 pub struct SureFiles {
     pub held: Row<HeldFile>,
     pub misses: u64,

@@ -10,7 +10,7 @@ use std::alloc::Global;
 use std::marker::Model;
 
 /// A sink in memory, of which some writes fail. Writes count from 1.
-#[derive(Debug, Drop)]
+#[derive(Drop)]
 pub struct MemSink {
     written: Vec<u8>,
     most: usize,

@@ -2,28 +2,28 @@ use fp_base::Row;
 use fp_tree::{Assignment, Expr, Name};
 
 /// An expression, and how deep it nests.
-#[derive(Debug, Drop)]
+#[derive(Drop)]
 pub struct Measured {
     pub expr: Expr,
     pub height: u32,
 }
 
 /// A member of a struct expression, without its annotation.
-#[derive(Debug, Drop)]
+#[derive(Drop)]
 pub struct Setting {
     pub name: Name,
     pub value: Measured,
 }
 
 /// Expressions, and how deep the deepest nests.
-#[derive(Debug, Drop)]
+#[derive(Drop)]
 pub struct Items {
     pub row: Row<Expr>,
     pub height: u32,
 }
 
 /// Members of a struct expression, and how deep the deepest nests.
-#[derive(Debug, Drop)]
+#[derive(Drop)]
 pub struct Members {
     pub row: Row<Assignment>,
     pub height: u32,

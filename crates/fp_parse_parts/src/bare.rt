@@ -2,7 +2,7 @@ use fp_base::{Row, Span};
 use fp_tree::{Def, Member, Name, Qual, Str};
 
 /// A member without its annotation.
-#[derive(Debug, Drop)]
+#[derive(Drop)]
 pub enum BareMember {
     Module {
         name: Name,

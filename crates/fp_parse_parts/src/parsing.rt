@@ -12,14 +12,14 @@ use std::alloc::Global;
 pub const LIMIT: u32 = 64;
 
 /// What a list of tokens stands in.
-#[derive(Clone, Copy, Debug, PartialEq, Eq)]
+#[derive(Clone, Copy, PartialEq, Eq)]
 pub enum Inside {
     /// A file.
     Unit,
 }
 
 /// The members of what a list of tokens stands in.
-#[derive(Debug, Drop)]
+#[derive(Drop)]
 pub enum Members {
     Unit(Row<Member>),
 }

@@ -2,14 +2,14 @@ use crate::topology::End;
 use fp_base::{Row, Text, Value};
 
 /// An argument: a value, or the name that is bound to one.
-#[derive(Debug, Drop)]
+#[derive(Drop)]
 pub enum Arg {
     Given(Value),
     Bound(Text),
 }
 
 /// What an action does.
-#[derive(Clone, Copy, Debug)]
+#[derive(Clone, Copy)]
 pub enum Verb {
     Call,
     Command,
@@ -27,7 +27,7 @@ pub enum Verb {
 /// respond, and the machine instance of a signal. `name` is the command, event, channel, parameter or signal. `bind` is the
 /// name for the answer of a call or read, and the identifier of a respond; a return has its value in `with`. A field that
 /// an action lacks is 0, empty or None.
-#[derive(Debug, Drop)]
+#[derive(Drop)]
 pub struct Act {
     pub verb: Verb,
     pub subject: End,
@@ -37,7 +37,7 @@ pub struct Act {
 }
 
 /// The place of a handler at its instance: a port, a command, or an action of a machine instance.
-#[derive(Clone, Copy, Debug, PartialEq, Eq, PartialOrd, Ord)]
+#[derive(Clone, Copy, PartialEq, Eq, PartialOrd, Ord)]
 pub enum Spot {
     Port(u32),
     Command(u32),
@@ -45,14 +45,14 @@ pub enum Spot {
 }
 
 /// A caller with its own actions.
-#[derive(Debug, Drop)]
+#[derive(Drop)]
 pub struct Caller {
     pub name: Text,
     pub acts: Row<Act>,
 }
 
 /// What an instance does at a place.
-#[derive(Debug, Drop)]
+#[derive(Drop)]
 pub struct Handler {
     pub instance: u32,
     pub place: Spot,
@@ -60,7 +60,7 @@ pub struct Handler {
 }
 
 /// What a guard of a machine instance answers, asking by asking.
-#[derive(Debug, Drop)]
+#[derive(Drop)]
 pub struct Answers {
     pub instance: u32,
     pub running: u32,
@@ -69,7 +69,7 @@ pub struct Answers {
 }
 
 /// The scenario with names replaced by positions.
-#[derive(Debug, Drop)]
+#[derive(Drop)]
 pub struct Program {
     pub steps: u32,
     pub callers: Row<Caller>,

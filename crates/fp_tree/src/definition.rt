@@ -8,7 +8,7 @@ use fp_base::{Boxed, NoMemory, Row, Span, Text};
 use std::alloc::Global;
 
 /// A definition. What takes more room than a constant is boxed, since most definitions are constants.
-#[derive(Debug, Drop)]
+#[derive(Drop)]
 pub enum Def {
     Constant(Constant),
     Abstract(Abstract),
@@ -20,7 +20,7 @@ pub enum Def {
 }
 
 /// A constant definition.
-#[derive(Debug, Drop)]
+#[derive(Drop)]
 pub struct Constant {
     pub name: Name,
     pub value: Expr,
@@ -29,7 +29,7 @@ pub struct Constant {
 }
 
 /// A type of which nothing but the name is given.
-#[derive(Debug, Drop)]
+#[derive(Drop)]
 pub struct Abstract {
     pub name: Name,
     pub at: Span,
@@ -37,7 +37,7 @@ pub struct Abstract {
 }
 
 /// A further name of a type.
-#[derive(Debug, Drop)]
+#[derive(Drop)]
 pub struct Alias {
     pub name: Name,
     pub target: TypeName,
@@ -46,7 +46,7 @@ pub struct Alias {
 }
 
 /// An array type.
-#[derive(Debug, Drop)]
+#[derive(Drop)]
 pub struct Array {
     pub name: Name,
     pub size: Expr,
@@ -58,7 +58,7 @@ pub struct Array {
 }
 
 /// A struct type.
-#[derive(Debug, Drop)]
+#[derive(Drop)]
 pub struct Struct {
     pub name: Name,
     pub fields: Row<Field>,
@@ -68,7 +68,7 @@ pub struct Struct {
 }
 
 /// An enumeration type.
-#[derive(Debug, Drop)]
+#[derive(Drop)]
 pub struct Enum {
     pub name: Name,
     pub repr: Option<TypeName>,
@@ -79,7 +79,7 @@ pub struct Enum {
 }
 
 /// A port type.
-#[derive(Debug, Drop)]
+#[derive(Drop)]
 pub struct Port {
     pub name: Name,
     pub formals: Row<Formal>,

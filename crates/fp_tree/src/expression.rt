@@ -7,7 +7,7 @@ use std::alloc::Global;
 
 /// An expression.
 #[cycle(expression)]
-#[derive(Debug, Drop)]
+#[derive(Drop)]
 pub struct Expr {
     pub form: Form,
     pub at: Span,
@@ -16,7 +16,7 @@ pub struct Expr {
 
 /// What an expression is made of.
 #[cycle(expression)]
-#[derive(Debug, Drop)]
+#[derive(Drop)]
 pub enum Form {
     Number(i128),
     Float,
@@ -34,7 +34,7 @@ pub enum Form {
     Struct(Row<Assignment>),
 }
 
-#[derive(Clone, Copy, Debug, PartialEq, Eq)]
+#[derive(Clone, Copy, PartialEq, Eq)]
 pub enum Operator {
     Add,
     Subtract,
@@ -44,7 +44,7 @@ pub enum Operator {
 
 /// A member of a struct expression: `name = value`.
 #[cycle(expression)]
-#[derive(Debug, Drop)]
+#[derive(Drop)]
 pub struct Assignment {
     pub name: Name,
     pub value: Expr,

@@ -6,14 +6,14 @@ use fp_base::{NoMemory, Row, Span, Text};
 use std::alloc::Global;
 
 /// What one file holds.
-#[derive(Debug, Drop)]
+#[derive(Drop)]
 pub struct Unit {
     pub members: Row<Member>,
 }
 
 /// A member of a file or of a module.
 #[cycle(member)]
-#[derive(Debug, Drop)]
+#[derive(Drop)]
 pub enum Member {
     Module(Module),
     Def(Def),
@@ -23,7 +23,7 @@ pub enum Member {
 
 /// Members under a name.
 #[cycle(member)]
-#[derive(Debug, Drop)]
+#[derive(Drop)]
 pub struct Module {
     pub name: Name,
     pub members: Row<Member>,
@@ -32,7 +32,7 @@ pub struct Module {
 }
 
 /// A file whose members stand here.
-#[derive(Debug, Drop)]
+#[derive(Drop)]
 pub struct Include {
     pub file: Str,
     pub at: Span,
@@ -40,7 +40,7 @@ pub struct Include {
 }
 
 /// Where a definition is to be found.
-#[derive(Debug, Drop)]
+#[derive(Drop)]
 pub struct Locate {
     pub of: Qual,
     pub file: Str,

@@ -4,21 +4,21 @@ use fp_base::{NoMemory, Row, Span, Text};
 use std::alloc::Global;
 
 /// A name where it stands.
-#[derive(Debug, Drop)]
+#[derive(Drop)]
 pub struct Name {
     pub text: Text,
     pub at: Span,
 }
 
 /// A string literal where it stands.
-#[derive(Debug, Drop)]
+#[derive(Drop)]
 pub struct Str {
     pub text: Text,
     pub at: Span,
 }
 
 /// A qualified name: names with a `.` between each two.
-#[derive(Debug, Drop)]
+#[derive(Drop)]
 pub struct Qual {
     pub names: Row<Name>,
     pub at: Span,

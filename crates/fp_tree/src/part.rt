@@ -7,7 +7,7 @@ use fp_base::{NoMemory, Row, Span, Text};
 use std::alloc::Global;
 
 /// A member of a struct type; with a size it is an array of so many.
-#[derive(Debug, Drop)]
+#[derive(Drop)]
 pub struct Field {
     pub name: Name,
     pub size: Option<Expr>,
@@ -18,7 +18,7 @@ pub struct Field {
 }
 
 /// A constant of an enumeration type.
-#[derive(Debug, Drop)]
+#[derive(Drop)]
 pub struct EnumConst {
     pub name: Name,
     pub value: Option<Expr>,
@@ -27,7 +27,7 @@ pub struct EnumConst {
 }
 
 /// A formal parameter.
-#[derive(Debug, Drop)]
+#[derive(Drop)]
 pub struct Formal {
     pub by_ref: bool,
     pub name: Name,

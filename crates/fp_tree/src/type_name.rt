@@ -6,14 +6,14 @@ use fp_base::{NoMemory, Span};
 use std::alloc::Global;
 
 /// The name of a type.
-#[derive(Debug, Drop)]
+#[derive(Drop)]
 pub struct TypeName {
     pub form: TypeForm,
     pub at: Span,
 }
 
 /// Which type is named.
-#[derive(Debug, Drop)]
+#[derive(Drop)]
 pub enum TypeForm {
     U8,
     U16,
