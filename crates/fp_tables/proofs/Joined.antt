@@ -1,6 +1,6 @@
 -- Tests joined: of one thing, and of each of a list.
 use Rattle.std.proofs.Common.{◌≡◌, Bool, true, false, ◌&&◌, List, [], ◌∷◌, refl, sym, ap, ap₂, ◌∙◌}
-use Rattle.fp_tables.specs.Parts.{all_hold}
+use Rattle.fp_tables.specs.Lists.{all_hold}
 
 -- as the program joins them
 abbrev pub joined : Bool → List Bool → Bool

@@ -1,4 +1,3 @@
-pub mod Behind
 pub mod Acts
 pub mod Arguments
 pub mod Bound
@@ -11,14 +10,9 @@ pub mod Lists
 pub mod Lookup
 pub mod Machines
 pub mod Names
-pub mod Parts
 pub mod Positions
 pub mod Programs
-pub mod Shapes
 pub mod Sound
-pub mod SoundParts
 pub mod SoundPrograms
-pub mod SoundStructure
+pub mod Specials
 pub mod Types
-pub mod Walks
-pub mod Wanted

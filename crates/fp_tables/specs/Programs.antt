@@ -5,13 +5,12 @@ use Rattle.fp_base.specs.Same.{same_bool}
 use Rattle.fp_tables.specs.Lists.{some_and}
 use Rattle.fp_tables.specs.Names.{is_name}
 use Rattle.fp_tables.specs.Positions.{port_of}
-use Rattle.fp_tables.specs.Components.{same_special}
+use Rattle.fp_tables.specs.Specials.{is_special}
 use Rattle.fp_tables.specs.Arguments.{Scope, nothing_bound, with_bound, formals_bound, arguments_suit}
 use Rattle.fp_tables.specs.Acts.{is_placed, component_at, command_of, definition_at, has_role, machine_at, takes, takes_one, suit_in_turn, result_at}
 use Rattle.fp_tables.specs.Lookup.{Described, wire_from}
 use Rattle.fp_tables.specs.declared.kind.Kind.{Kind}
 use Rattle.fp_tables.specs.declared.kind.PortDef.{PortDef}
-use Rattle.fp_tables.specs.declared.component.Special.{Special}
 use Rattle.fp_tables.specs.declared.component.Special.TheVariants.{CmdRecv, CmdResp}
 use Rattle.fp_tables.specs.declared.component.Role.{Role}
 use Rattle.fp_tables.specs.declared.component.Role.TheVariants as role
@@ -43,10 +42,6 @@ is_general_output _ = false
 abbrev pub is_internal : Role → Bool
 is_internal (role.Internal way) = true
 is_internal _ = false
-
-abbrev pub is_of_kind : Special → Role → Bool
-is_of_kind s (role.Special r) = same_special s r
-is_of_kind s _ = false
 
 abbrev pub is_queued : Queueing → Bool
 is_queued Queued = true
@@ -113,7 +108,7 @@ module _ (t : Described) where
 
   abbrev pub sends_command : Scope → Act → Bool
   sends_command scope a =
-      has_role t is_general_output a.subject && is_of_commands a.subject && leads_to (is_of_kind CmdRecv) a.subject
+      has_role t is_general_output a.subject && is_of_commands a.subject && leads_to (is_special CmdRecv) a.subject
       && takes_sent scope a
 
   abbrev pub calls : Scope → Act → Bool
@@ -143,7 +138,7 @@ module _ (t : Described) where
 
   -- in a command's handler, at a wired resp port
   abbrev pub responds : Spot → Act → Bool
-  responds place a = is_command place && has_role t (is_of_kind CmdResp) a.subject && is_some (wire_from t a.subject) && has_identifier a
+  responds place a = is_command place && has_role t (is_special CmdResp) a.subject && is_some (wire_from t a.subject) && has_identifier a
 
   -- what the port of a handler returns
   abbrev pub returned_at : ℕ → Spot → Option Kind

@@ -1,25 +1,33 @@
-//! The resolved model, the tables of a run and its program, and whether they are sound.
+//! The resolved model, the tables of a run and its program, what of these is looked up, and what it is that they are sound.
 #![tactic(auto)]
 
+mod bindings;
 mod component;
+mod distinct;
 mod finding;
 mod kind;
+mod kinds;
+mod looking_up;
 mod machine;
 mod model;
 mod program;
-#[cfg(test)]
-mod program_tests;
-mod sound;
+mod specials;
 mod tables;
 mod topology;
+mod waiting;
 
+pub use bindings::Bound;
 pub use component::{
     Channel, Command, Component, Event, Full, Limit, Param, Part, Port, Queueing, Role, Running,
     Special, Way,
 };
+pub use distinct::{all_differ, numbers_differ, set_of};
 pub use kind::{Constant, Field, Form, Formal, Kind, PortDef, TypeDef};
+pub use kinds::{form_at, is_one_kind, same_kind, target};
 pub use machine::{Machine, Named, Node, On, Step, Vertex};
 pub use model::{Item, Model};
 pub use program::{Act, Answers, Arg, Caller, Handler, Program, Spot, Verb};
+pub use specials::{is_special, place_of_special};
 pub use tables::Tables;
 pub use topology::{End, Instance, Link, Topology, Wire, Written};
+pub use waiting::priorities;

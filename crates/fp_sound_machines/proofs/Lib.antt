@@ -1,0 +1,9 @@
+pub mod Branches
+pub mod Chains
+pub mod Families
+pub mod Found
+pub mod Going
+pub mod Holding
+pub mod Insides
+pub mod Nesting
+pub mod Wants

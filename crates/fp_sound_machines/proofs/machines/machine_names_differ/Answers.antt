@@ -1,0 +1,5 @@
+use Rattle.std.proofs.Common.{refl}
+use Rattle.fp_sound_machines.proofs.machines.machine_names_differ.Goals as goal
+
+pub returns : goal.returns
+returns c = rw (c.in_ok-signals.ensures, c.in_ok-actions.ensures, c.in_ok-guards.ensures) refl

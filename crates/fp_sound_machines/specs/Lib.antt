@@ -1,0 +1,4 @@
+pub mod Behind
+pub mod Walks
+pub mod Wanted
+pub mod SoundMachine

@@ -1,0 +1,50 @@
+ghost use Rattle.std.specs.Prelude.{◌≡◌, ◌↔◌, IsTrue, IfOk};
+ghost use Rattle.fp_tables.specs.Sound.{IsSoundFor};
+ghost use Rattle.fp_sound_model.specs.SoundStructure.{HasSoundStructure, IsSoundBeside};
+
+use crate::parts::parts_are_sound;
+use crate::placing::positions_lie;
+use crate::ranges::{all_numbers_are_in_range, ranges_are_apart, tops_of};
+use crate::topologies::is_sound_with;
+use fp_base::NoMemory;
+use fp_sound_machines::machines_are_sound;
+use fp_tables::Model;
+use std::alloc::Global;
+
+/// Whether a model's positions, instances and machines are sound.
+fn structure_is_sound(alloc: Global, model: &Model) -> Result<bool, NoMemory>
+    ensures { IfOk result (λ sound. IsTrue sound ↔ HasSoundStructure model.now) }
+{
+    let tops = tops_of(alloc, model.components.as_slice())?;
+    let positions = positions_lie(model);
+    let ranges = ranges_are_apart(alloc, model, tops.as_slice())?;
+    let numbers = all_numbers_are_in_range(model, tops.as_slice(), model.instances.as_slice());
+    let machines = machines_are_sound(alloc, model.types.as_slice(), model.machines.as_slice())?;
+    Ok(positions & ranges & numbers & machines)
+}
+
+fn is_sound_beside(alloc: Global, model: &Model, topology: Option<u32>) -> Result<bool, NoMemory>
+    ensures { IfOk result (λ sound. IsTrue sound ↔ IsSoundBeside model.now topology) }
+{
+    match topology {
+        Some(at) => match model.topologies.get(at as usize) {
+            Some(topology) => is_sound_with(alloc, model, topology),
+            None => Ok(false),
+        },
+        None => Ok(true),
+    }
+}
+
+impl Model {
+    /// Whether the model is sound, by itself or with one of its topologies.
+    pub fn is_sound(&self, alloc: Global, topology: Option<u32>) -> Result<bool, NoMemory>
+        ensures { IfOk result (λ sound. IsTrue sound ↔ IsSoundFor self.now topology) }
+    {
+        if !parts_are_sound(alloc, self)? {
+            return Ok(false);
+        }
+        let structure = structure_is_sound(alloc, self)?;
+        let beside = is_sound_beside(alloc, self, topology)?;
+        Ok(structure & beside)
+    }
+}

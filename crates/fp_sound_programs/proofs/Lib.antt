@@ -1,0 +1,5 @@
+pub mod Arguing
+pub mod Counting
+pub mod Programming
+pub mod Repeating
+pub mod Returning

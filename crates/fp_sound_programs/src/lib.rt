@@ -1,0 +1,13 @@
+//! Whether a program is sound for the tables of a run.
+#![tactic(auto)]
+
+mod acts;
+mod arguments;
+mod callers;
+mod handlers;
+mod limits;
+mod programs;
+mod queues;
+mod repeats;
+mod verbs;
+

@@ -1,0 +1,5 @@
+pub mod Beside
+pub mod Chained
+pub mod Shaped
+pub mod Shaping
+pub mod Sized

@@ -1,0 +1,7 @@
+use Rattle.std.proofs.Common.{◌≡◌, true, take}
+use Rattle.std.specs.List.{list_all}
+use Rattle.fp_tables.specs.Names.{is_qualified}
+use Rattle.fp_sound_types.proofs.own_names.have_qualified_names.Given as goal
+
+abbrev pub invariant-loop-item : goal.invariant-loop-item
+invariant-loop-item g l = list_all (λ item. is_qualified (g.T.Called.name_of item)) (take l.item-index l.item-items) ≡ true

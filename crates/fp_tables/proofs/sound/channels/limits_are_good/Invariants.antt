@@ -1,7 +1,0 @@
-use Rattle.std.proofs.Common.{◌≡◌, true, take}
-use Rattle.std.specs.List.{list_all}
-use Rattle.fp_tables.specs.Components.{has_good_limits}
-use Rattle.fp_tables.proofs.sound.channels.limits_are_good.Given as goal
-
-abbrev pub invariant-loop-channel : goal.invariant-loop-channel
-invariant-loop-channel l = list_all (has_good_limits l.types) (take l.channel-index l.channels) ≡ true

@@ -1,7 +1,0 @@
-use Rattle.std.proofs.Common.{◌≡◌, ◌++◌, take}
-use Rattle.std.specs.Prelude.{flat_map}
-use Rattle.fp_tables.specs.Formats.{spelled}
-use Rattle.fp_tables.proofs.sound.formats.write_pieces.Given as goal
-
-abbrev pub invariant-loop-piece : goal.invariant-loop-piece
-invariant-loop-piece l = l.out ≡ l.initial.out ++ flat_map spelled (take l.piece-index l.pieces)

@@ -1,7 +1,0 @@
-use Rattle.std.proofs.Common.{◌∙◌, ap}
-use Rattle.fp_tables.proofs.Counting.{set_counted}
-use Rattle.fp_tables.specs.SoundPrograms.{count_different}
-use Rattle.fp_tables.proofs.sound.queues.count_priorities.Goals as goal
-
-pub returns : goal.returns
-returns c = c.len.ensures.len ∙ set_counted c.in_ok-found.found.items c.in_ok-distinct.distinct c.in_ok-distinct.ensures ∙ ap count_different c.in_ok-found.ensures
