@@ -2,9 +2,10 @@
 use Rattle.std.proofs.Common.{◌≡◌, ℕ, zero, suc, ◌+◌, ◌<◌, ◌≤◌, zero-le, Bool, true, false, cond, ◌&&◌, ◌||◌, nat_lt, nat_le, Option, Some, None, option_map, option_and_then, is_some, unwrap_or, List, [], ◌∷◌, refl, sym, ap, ◌∙◌, ◌↔◌, arith, ◌⊎◌, inl, inr}
 use Rattle.std.specs.List.{list_any, range_with_len}
 use Rattle.std.proofs.lemmas.Bool.Decides.{nat_tests}
+use Rattle.fp_base.proofs.Options.{mapped_some, then_some, some_of}
 use Rattle.fp_system.proofs.Ended.{ended_stuck, stuck_dues}
 use Rattle.fp_system.proofs.Spent.{spent_stamp}
-use Rattle.fp_base.proofs.Sameness.{both}
+use Rattle.fp_base.proofs.Bools.{both, neither}
 use Rattle.fp_tables.specs.Lookup.{Described}
 use Rattle.fp_tables.specs.declared.program.Program.{Program}
 use Rattle.fp_events.specs.declared.event.Ask.{Ask}
@@ -18,11 +19,7 @@ use Rattle.fp_events.specs.Fits.{fits, actor_count, is_placed, what_fits}
 use Rattle.fp_events.specs.Step.{core, instance_part}
 use Rattle.fp_events.specs.Run.{World, actors, RunTo, IsRun, HasStamp}
 use Rattle.fp_events.specs.Ends.{can_step, next_stamp, finish, is_asserted, is_complete, HasNoDueStep, IsEnded, EndsAs}
-use Rattle.fp_events.proofs.StepLaws.{given, core_laws, core_taking, mapped_some, then_some}
-
-neither : (a b : Bool) → (a || b) ≡ false → (a ≡ false) × (b ≡ false)
-neither true b h = absurd (cc)
-neither false b h = (refl, h)
+use Rattle.fp_events.proofs.StepLaws.{given, core_laws, core_taking}
 
 none_from : (p : ℕ → Bool) (b n a : ℕ) → b ≤ a → a < b + n → list_any p (range_with_len b n) ≡ false → p a ≡ false
 none_from p b zero a low high h = absurd (omega arith)
@@ -136,14 +133,10 @@ module _ (t : Described) (program : Program) where
       let is : finish t program es run.0 ≡ Some f = rw none refl in
       (f, (run.0, run.1, is))
 
-  some_is_some : (o : Option ℕ) → is_some o ≡ true → (n : ℕ) × (o ≡ Some n)
-  some_is_some None h = absurd (cc)
-  some_is_some (Some n) h = (n, refl)
-
   pub spent_limit : 0 < program.steps → (es : List Entry) → EndsAs t program es Spent → HasStamp program.steps es
   spent_limit positive es h =
       let some = any_is (λ a. is_some (next_stamp t program h.0 a)) (actors t program) (spent_above _ _ _ (is_complete t program h.0) h.2) in
-      let n = some_is_some (next_stamp t program h.0 some.0) some.1 in
+      let n = some_of (next_stamp t program h.0 some.0) some.1 in
       let s = next_step h.0 some.0 n.0 n.1 in
       spent_stamp (core t program) (core_laws t program) es h.0 h.1 positive some.0 s.instance s.ask s.state s.entry s.gives
       (none_due es Spent h some.0 s.instance s.ask s.state s.entry s.due s.gives)

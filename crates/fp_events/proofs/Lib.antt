@@ -8,6 +8,8 @@ pub mod Recorded
 pub mod Records
 pub mod NextCalls
 pub mod QueueLaws
+pub mod Policies
+pub mod FramesPair
 pub mod GuardLaws
 pub mod MachineStartsThenMoves
 pub mod CommandToResponse

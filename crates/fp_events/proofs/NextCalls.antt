@@ -2,6 +2,7 @@
 use Rattle.std.proofs.Common.{◌≡◌, Bool, true, false, cond, ℤ, pos, negsuc, int_lt, Option, Some, None, List, [], ◌∷◌, ◌++◌, refl, sym, ap, subst, arith}
 use Rattle.std.specs.List.{AllByRecursion}
 use Rattle.std.proofs.lemmas.Bool.Decides.{nat_tests}
+use Rattle.fp_base.proofs.Options.{same_some}
 use Rattle.fp_events.specs.Instance.{Pending}
 use Rattle.fp_events.specs.Queue.{greater, next_call}
 use Rattle.fp_events.specs.QueueOrder.{IsNext}
@@ -43,13 +44,10 @@ pub next_is : (ps : List Pending) (p : Pending) → next_call ps ≡ Some p → 
 next_is [] p h = absurd (cc)
 next_is (h ∷ ps) p e = go (next_call ps) refl (λ q f. next_is ps q f) e
   where
-    some_is : (x y : Pending) → Some x ≡ Some y → x ≡ y
-    some_is x y f = cc
-
     by_test : (q : Pending) → IsNext ps q → (b : Bool) → int_lt h.priority q.priority ≡ b → Some (cond b q h) ≡ Some p → IsNext (h ∷ ps) p
-    by_test q is true less f = subst (IsNext (h ∷ ps)) (some_is q p f) (h ∷ is.0, is.1, ap (λ l. h ∷ l) is.2, (less, is.3), is.4)
+    by_test q is true less f = subst (IsNext (h ∷ ps)) (same_some f) (h ∷ is.0, is.1, ap (λ l. h ∷ l) is.2, (less, is.3), is.4)
     by_test q is false less f =
-        subst (IsNext (h ∷ ps)) (some_is h p f) (
+        subst (IsNext (h ∷ ps)) (same_some f) (
           [],
           ps,
           refl,
@@ -65,5 +63,5 @@ next_is (h ∷ ps) p e = go (next_call ps) refl (λ q f. next_is ps q f) e
     alone qs f = ([], [], ap (λ l. h ∷ l) f, tt, tt)
 
     go : (o : Option Pending) → next_call ps ≡ o → ((q : Pending) → o ≡ Some q → IsNext ps q) → Some (greater h o) ≡ Some p → IsNext (h ∷ ps) p
-    go None is again f = subst (IsNext (h ∷ ps)) (some_is h p f) (alone ps (none_left ps is))
+    go None is again f = subst (IsNext (h ∷ ps)) (same_some f) (alone ps (none_left ps is))
     go (Some q) is again f = by_test q (again q refl) (int_lt h.priority q.priority) refl f

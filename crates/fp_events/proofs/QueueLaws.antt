@@ -1,6 +1,7 @@
 -- The queue of an instance is what its history leaves untaken.
 use Rattle.std.proofs.Common.{◌≡◌, ℕ, suc, ◌≤◌, Bool, true, false, cond, nat_lt, length, Option, Some, None, List, [], ◌∷◌, ◌++◌, refl, sym, ap, ◌∙◌, subst, arith, slice_get, ℤ, ◌==◌, zero-le}
 use Rattle.std.proofs.lemmas.Bool.Decides.{nat_tests}
+use Rattle.fp_base.proofs.Options.{mapped_some, then_some, same_some}
 use Rattle.fp_system.specs.Run.{InstanceStep, Run, World, at, opening}
 use Rattle.fp_system.proofs.Local.{instance_law}
 use Rattle.fp_tables.specs.Lookup.{Described}
@@ -25,7 +26,7 @@ use Rattle.fp_events.specs.Leaves.{leaves}
 use Rattle.fp_events.specs.QueueOrder.{untaken_after, untaken_from, IsInOrder, policy_of}
 use Rattle.fp_events.specs.Step.{core}
 use Rattle.fp_events.proofs.NextCalls.{next_is}
-use Rattle.fp_events.proofs.StepLaws.{mapped_some, then_some, some_is, given, core_laws}
+use Rattle.fp_events.proofs.StepLaws.{given, core_laws}
 
 -- more calls than none have a next one
 next_some : (p : Pending) (ps : List Pending) → next_call (p ∷ ps) ≡ None → ⊥
@@ -46,7 +47,7 @@ length-push (x ∷ ps) p = ap suc (length-push ps p)
 module _ (t : Described) (program : Program) (i : ℕ) where
   -- a told entry is in order where the one that it is is
   told_in_order : (ps : List Pending) (x w : What) → IsInOrder t i ps x → Some x ≡ Some w → IsInOrder t i ps w
-  told_in_order ps x w is h = subst (IsInOrder t i ps) (some_is x w h) is
+  told_in_order ps x w is h = subst (IsInOrder t i ps) (same_some h) is
 
   overflow_in_order : (ps : List Pending) (r : Arrival) (priority : ℤ) (policy : Full) (w : What) → manner t i r.point ≡ Some (by (Later priority policy)) → length ps ≡ queue_size t i
       → overflows r policy ≡ Some w → IsInOrder t i ps w

@@ -8,7 +8,7 @@ use Rattle.fp_system.proofs.Turns.{projection-other}
 use Rattle.fp_system.proofs.Rows.{kept_owned, row_of_joined}
 use Rattle.fp_system.proofs.Sorting.{NeverFalls, never_falls}
 use Rattle.fp_system.proofs.Merged.{sorted_run, sorted_histories, sorted_traces, entry_lt-stamps}
-use Rattle.fp_base.proofs.Sameness.{both}
+use Rattle.fp_base.proofs.Bools.{both}
 use Rattle.fp_tables.specs.Names.{numbers_differ}
 use Rattle.fp_tables.specs.Lookup.{Described, placed}
 use Rattle.fp_tables.specs.declared.program.Program.{Program}

@@ -1,8 +1,9 @@
 -- The tests of specs/Answers decide equality.
 use Rattle.std.proofs.Common.{◌≡◌, ℕ, true, ◌&&◌, Option, List, refl, ap₂, arith, ◌==◌}
 use Rattle.std.proofs.lemmas.Bool.Decides.{nat_tests}
+use Rattle.fp_base.proofs.Bools.{both}
 use Rattle.fp_base.specs.Same.{same, same_option, same_text}
-use Rattle.fp_base.proofs.Sameness.{Tests, both, value_same, list_same, option_same, text_same, nat_same}
+use Rattle.fp_base.proofs.Sameness.{Tests, value_same, list_same, option_same, text_same, nat_same}
 use Rattle.fp_tables.specs.Lookup.{same_end}
 use Rattle.fp_tables.specs.declared.topology.End.{End}
 use Rattle.fp_events.specs.declared.event.Point.{Point}

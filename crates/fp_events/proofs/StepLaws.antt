@@ -1,9 +1,11 @@
 -- The system of specs/Core has the laws of a system.
 use Rattle.std.proofs.Common.{◌≡◌, ℕ, suc, max, Bool, true, false, cond, ◌&&◌, ◌==◌, nat_lt, length, Option, Some, None, option_map, option_and_then, List, [], refl, sym, ap, ap₂, ◌∙◌, subst, slice_get, ◌||◌, ◌⊎◌, inl, inr, unwrap_or, ℤ}
+use Rattle.fp_base.proofs.Bools.{both}
+use Rattle.fp_base.proofs.Options.{mapped_some, same_some, then_some}
 use Rattle.fp_system.specs.System.{Laws, IsTaking, IsOneChange}
 use Rattle.fp_base.specs.Same.{same, same_text, same_option}
 use Rattle.fp_base.specs.declared.value.Value.{Value}
-use Rattle.fp_base.proofs.Sameness.{both, value_same, text_same, nat_same}
+use Rattle.fp_base.proofs.Sameness.{value_same, text_same, nat_same}
 use Rattle.fp_tables.specs.Lookup.{Described}
 use Rattle.fp_tables.specs.declared.component.Event.{Event}
 use Rattle.fp_tables.specs.declared.component.Full.{Full}
@@ -34,17 +36,6 @@ use Rattle.fp_events.specs.Step.{core, fitting, stamped, instance_part, answers_
 use Rattle.fp_events.specs.Answers.{arrival_in, suits, same_arrival, answers, text_of_event}
 use Rattle.fp_events.proofs.SameArrival.{arrival_itself, arrival_option_same, value_option_same}
 
-pub mapped_some : {T U : Type 0} (f : T → U) (o : Option T) (u : U) → option_map f o ≡ Some u → (t : T) × (o ≡ Some t) × (f t ≡ u)
-mapped_some f None u h = absurd (cc)
-mapped_some f (Some t) u h = (t, refl, cc)
-
-pub then_some : {T U : Type 0} (f : T → Option U) (o : Option T) (u : U) → option_and_then f o ≡ Some u → (t : T) × (o ≡ Some t) × (f t ≡ Some u)
-then_some f None u h = absurd (cc)
-then_some f (Some t) u h = (t, refl, h)
-
-pub some_is : {T : Type 0} (x y : T) → Some x ≡ Some y → x ≡ y
-some_is x y h = cc
-
 -- ---- what an entry says of its ask, by families
 
 -- the arrival in an ask
@@ -54,24 +45,24 @@ arrival_asked _ = None
 
 module _ (t : Described) (program : Program) (i : ℕ) where
   overflow_in : (r : Arrival) (policy : Full) (w : What) → overflows r policy ≡ Some w → arrival_in w ≡ Some r
-  overflow_in r full.Dropped w h = sym (ap arrival_in (some_is _ _ h))
-  overflow_in r full.Hook w h = sym (ap arrival_in (some_is _ _ h))
-  overflow_in r full.Assert w h = sym (ap arrival_in (some_is _ _ h))
+  overflow_in r full.Dropped w h = sym (ap arrival_in (same_some h))
+  overflow_in r full.Hook w h = sym (ap arrival_in (same_some h))
+  overflow_in r full.Assert w h = sym (ap arrival_in (same_some h))
   overflow_in r full.Block w h = absurd (cc)
 
   guard_in : (r : Arrival) (g : Option Holding) (w : What) → guards r g ≡ Some w → arrival_in w ≡ Some r
-  guard_in r None w h = sym (ap arrival_in (some_is _ _ h))
+  guard_in r None w h = sym (ap arrival_in (same_some h))
   guard_in r (Some held) w h = absurd (cc)
 
   put_in : (b : Bool) (n : ℕ) (r : Arrival) (policy : Full) (w : What) → cond b (Some (what.Put n r)) (overflows r policy) ≡ Some w → arrival_in w ≡ Some r
-  put_in true n r policy w h = sym (ap arrival_in (some_is _ _ h))
+  put_in true n r policy w h = sym (ap arrival_in (same_some h))
   put_in false n r policy w h = overflow_in r policy w h
 
   arrives_in : (s : Inside) (r : Arrival) (m : Manner) (w : What) → arrives t i s r m ≡ Some w → arrival_in w ≡ Some r
-  arrives_in s r (by Sync) w h = sym (ap arrival_in (some_is _ _ h))
+  arrives_in s r (by Sync) w h = sym (ap arrival_in (same_some h))
   arrives_in s r (by Guarded) w h = guard_in r s.guard w h
   arrives_in s r (by (Later priority policy)) w h = put_in (nat_lt (length s.pending) (queue_size t i)) (suc s.puts) r policy w h
-  arrives_in s r (sets k) w h = sym (ap arrival_in (some_is _ _ h))
+  arrives_in s r (sets k) w h = sym (ap arrival_in (same_some h))
   arrives_in s r (saves k) w h =
       let m = mapped_some (λ v. what.Save r v) (slice_get s.params k) w h in
       sym (ap arrival_in m.2)
@@ -79,7 +70,7 @@ module _ (t : Described) (program : Program) (i : ℕ) where
   takes_in : (turn : Option ℕ) (otherwise : Option What) (next : Option Pending) (w : What)
       → ((x : What) → otherwise ≡ Some x → arrival_in x ≡ None) → takes turn otherwise next ≡ Some w → arrival_in w ≡ None
   takes_in turn otherwise None w good h = good w h
-  takes_in None otherwise (Some p) w good h = sym (ap arrival_in (some_is _ _ h))
+  takes_in None otherwise (Some p) w good h = sym (ap arrival_in (same_some h))
   takes_in (Some holder) otherwise (Some p) w good h = absurd (cc)
 
   advances_in : (running signal : ℕ) (c : Option Configuration) (g : Walk) → arrival_in (advances running signal c g) ≡ None
@@ -91,10 +82,10 @@ module _ (t : Described) (program : Program) (i : ℕ) where
   tells_in s (ask.Arrive r) w h =
       let m = then_some (arrives t i s r) (manner t i r.point) w h in
       arrives_in s r m.0 w m.2
-  tells_in s (ask.Leave v) w h = sym (ap arrival_in (some_is _ _ h))
-  tells_in s ask.Done w h = sym (ap arrival_in (some_is _ _ h))
+  tells_in s (ask.Leave v) w h = sym (ap arrival_in (same_some h))
+  tells_in s ask.Done w h = sym (ap arrival_in (same_some h))
   tells_in s ask.Take w h = takes_in s.turn None (next_call s.pending) w (λ x e. absurd (cc)) h
-  tells_in s ask.Dispatch w h = takes_in s.turn (Some what.Empty) (next_call s.pending) w (λ x e. sym (ap arrival_in (some_is _ _ e))) h
+  tells_in s ask.Dispatch w h = takes_in s.turn (Some what.Empty) (next_call s.pending) w (λ x e. sym (ap arrival_in (same_some e))) h
   tells_in s (ask.Emit event with) w h =
       let m = mapped_some (emits t i s event with) (slice_get (component t i).events event) w h in
       sym (ap arrival_in m.2)
@@ -149,7 +140,7 @@ module _ (t : Described) (program : Program) (i : ℕ) where
   takes_kind : (turn : Option ℕ) (otherwise : Option What) (next : Option Pending) (w : What) → takes turn otherwise next ≡ Some w → (kind w ≡ 3) ⊎ (otherwise ≡ Some w)
   unfolding kind
   takes_kind turn otherwise None w h = inr h
-  takes_kind None otherwise (Some p) w h = inl (sym (ap kind (some_is _ _ h)))
+  takes_kind None otherwise (Some p) w h = inl (sym (ap kind (same_some h)))
   takes_kind (Some holder) otherwise (Some p) w h = absurd (cc)
 
   advances_kind : (running signal : ℕ) (c : Option Configuration) (g : Walk) → kind (advances running signal c g) ≡ 8
@@ -162,8 +153,8 @@ module _ (t : Described) (program : Program) (i : ℕ) where
   tells_kind s (ask.Arrive r) w h =
       let m = then_some (arrives t i s r) (manner t i r.point) w h in
       rw (kind_arrival w r (arrives_in t program i s r m.0 w m.2)) refl
-  tells_kind s (ask.Leave v) w h = rw (sym (some_is _ _ h)) refl
-  tells_kind s ask.Done w h = rw (sym (some_is _ _ h)) refl
+  tells_kind s (ask.Leave v) w h = rw (sym (same_some h)) refl
+  tells_kind s ask.Done w h = rw (sym (same_some h)) refl
   tells_kind s ask.Take w h = go (takes_kind s.turn None (next_call s.pending) w h)
     where
       go : (kind w ≡ 3) ⊎ (None ≡ Some w) → of_kind ask.Take (kind w) ≡ true
@@ -173,7 +164,7 @@ module _ (t : Described) (program : Program) (i : ℕ) where
     where
       go : (kind w ≡ 3) ⊎ (Some what.Empty ≡ Some w) → of_kind ask.Dispatch (kind w) ≡ true
       go (inl e) = rw e refl
-      go (inr e) = rw (sym (some_is _ _ e)) refl
+      go (inr e) = rw (sym (same_some e)) refl
   tells_kind s (ask.Emit event with) w h =
       let m = mapped_some (emits t i s event with) (slice_get (component t i).events event) w h in
       rw (sym m.2) refl
@@ -197,8 +188,25 @@ module _ (t : Described) (program : Program) (i : ℕ) where
 
   pub asked_arrival : (q : Ask) (x : Arrival) → arrival_asked q ≡ Some x → q ≡ ask.Arrive x
   unfolding arrival_asked
-  asked_arrival (ask.Arrive r) x h = ap ask.Arrive (some_is _ _ h)
+  asked_arrival (ask.Arrive r) x h = ap ask.Arrive (same_some h)
   asked_arrival _ x h = absurd (cc)
+
+  pub answered_arrival : (w : What) (q : Ask) (r : Arrival) → arrival_in w ≡ Some r → answers t i w q ≡ true → (q ≡ ask.Arrive r) × (suits (manner t i r.point) w ≡ true)
+  unfolding answers
+  answered_arrival w (ask.Arrive q) r is h =
+      let b = both (same_option same_arrival (arrival_in w) (Some q)) (suits (manner t i q.point) w) h in
+      let e : arrival_in w ≡ Some q = arrival_option_same.equal (arrival_in w) (Some q) b.0 in
+      let s : q ≡ r = same_some (sym e ∙ is) in
+      (ap ask.Arrive s, subst (λ (x : Arrival). suits (manner t i x.point) w ≡ true) s b.1)
+  answered_arrival (what.Enter x) _ r is h = absurd (cc)
+  answered_arrival (what.Guard x) _ r is h = absurd (cc)
+  answered_arrival (what.Set x) _ r is h = absurd (cc)
+  answered_arrival (what.Save x v) _ r is h = absurd (cc)
+  answered_arrival (what.Put number x) _ r is h = absurd (cc)
+  answered_arrival (what.Dropped x) _ r is h = absurd (cc)
+  answered_arrival (what.Hooked x) _ r is h = absurd (cc)
+  answered_arrival (what.Asserted x) _ r is h = absurd (cc)
+  answered_arrival _ _ r is h = absurd (cc)
 
   one_arrive : (s : Inside) (q : Ask) (x : Arrival) (w : What) → tells t program i s q ≡ Some w → answers t i w (ask.Arrive x) ≡ true → tells t program i s (ask.Arrive x) ≡ Some w
   one_arrive s q x w h is =
@@ -385,24 +393,24 @@ module _ (t : Described) (program : Program) (i : ℕ) where
   -- ---- what the instance tells for an ask answers it
 
   overflow_suits : (r : Arrival) (priority : ℤ) (policy : Full) (w : What) → overflows r policy ≡ Some w → suits (Some (by (Later priority policy))) w ≡ true
-  overflow_suits r priority full.Dropped w h = rw (sym (some_is _ _ h)) refl
-  overflow_suits r priority full.Hook w h = rw (sym (some_is _ _ h)) refl
-  overflow_suits r priority full.Assert w h = rw (sym (some_is _ _ h)) refl
+  overflow_suits r priority full.Dropped w h = rw (sym (same_some h)) refl
+  overflow_suits r priority full.Hook w h = rw (sym (same_some h)) refl
+  overflow_suits r priority full.Assert w h = rw (sym (same_some h)) refl
   overflow_suits r priority full.Block w h = absurd (cc)
 
   put_suits : (b : Bool) (n : ℕ) (r : Arrival) (priority : ℤ) (policy : Full) (w : What) → cond b (Some (what.Put n r)) (overflows r policy) ≡ Some w → suits (Some (by (Later priority policy))) w ≡ true
-  put_suits true n r priority policy w h = rw (sym (some_is _ _ h)) refl
+  put_suits true n r priority policy w h = rw (sym (same_some h)) refl
   put_suits false n r priority policy w h = overflow_suits r priority policy w h
 
   guard_suits : (r : Arrival) (g : Option Holding) (w : What) → guards r g ≡ Some w → suits (Some (by Guarded)) w ≡ true
-  guard_suits r None w h = rw (sym (some_is _ _ h)) refl
+  guard_suits r None w h = rw (sym (same_some h)) refl
   guard_suits r (Some held) w h = absurd (cc)
 
   arrives_suits : (s : Inside) (r : Arrival) (m : Manner) (w : What) → arrives t i s r m ≡ Some w → suits (Some m) w ≡ true
-  arrives_suits s r (by Sync) w h = rw (sym (some_is _ _ h)) refl
+  arrives_suits s r (by Sync) w h = rw (sym (same_some h)) refl
   arrives_suits s r (by Guarded) w h = guard_suits r s.guard w h
   arrives_suits s r (by (Later priority policy)) w h = put_suits (nat_lt (length s.pending) (queue_size t i)) (suc s.puts) r priority policy w h
-  arrives_suits s r (sets k) w h = rw (sym (some_is _ _ h)) refl
+  arrives_suits s r (sets k) w h = rw (sym (same_some h)) refl
   arrives_suits s r (saves k) w h =
       let m = mapped_some (λ v. what.Save r v) (slice_get s.params k) w h in
       rw (sym m.2) refl
@@ -430,8 +438,8 @@ module _ (t : Described) (program : Program) (i : ℕ) where
   pub answered : (s : Inside) (q : Ask) (w : What) → tells t program i s q ≡ Some w → answers t i w q ≡ true
   unfolding tells answers kind arrival_asked
   answered s (ask.Arrive r) w h = answers_arrival s r w h
-  answered s (ask.Leave v) w h = rw (sym (some_is _ _ h)) (value_option_same.itself v)
-  answered s ask.Done w h = rw (sym (some_is _ _ h)) refl
+  answered s (ask.Leave v) w h = rw (sym (same_some h)) (value_option_same.itself v)
+  answered s ask.Done w h = rw (sym (same_some h)) refl
   answered s ask.Take w h = go (takes_kind s.turn None (next_call s.pending) w h)
     where
       go : (kind w ≡ 3) ⊎ (None ≡ Some w) → answers t i w ask.Take ≡ true
@@ -441,7 +449,7 @@ module _ (t : Described) (program : Program) (i : ℕ) where
     where
       go : (kind w ≡ 3) ⊎ (Some what.Empty ≡ Some w) → answers t i w ask.Dispatch ≡ true
       go (inl e) = (answers_take w e).1
-      go (inr e) = rw (sym (some_is _ _ e)) refl
+      go (inr e) = rw (sym (same_some e)) refl
   answered s (ask.Emit event with) w h =
       let m = mapped_some (emits t i s event with) (slice_get (component t i).events event) w h in
       subst (λ (x : What). answers t i x (ask.Emit event with) ≡ true) m.2 (answers_emit s event with m.0 m.1)
@@ -469,7 +477,7 @@ module _ (t : Described) (program : Program) where
     pub last : u.last ≡ e.stamp
 
   fit_is : (a i : ℕ) (w v : What) (b : Bool) → fits t program a i w ≡ b → cond b (Some w) None ≡ Some v → (w ≡ v) × (fits t program a i w ≡ true)
-  fit_is a i w v true is h = (some_is _ _ h, is)
+  fit_is a i w v true is h = (same_some h, is)
   fit_is a i w v false is h = absurd (cc)
 
   pub given : (i a seen : ℕ) (s u : InstanceState) (q : Ask) (e : Entry) → instance_part t program i s a q seen ≡ Some (e, u) → Given i a seen s q e u
@@ -525,7 +533,7 @@ module _ (t : Described) (program : Program) where
           let p = both ((e.actor == a) && (e.instance == d.0) && answers t d.0 e.what d.1) (fits t program a d.0 e.what) test in
           let q = both ((e.actor == a) && (e.instance == d.0)) (answers t d.0 e.what d.1) p.0 in
           let r = both (e.actor == a) (e.instance == d.0) q.0 in
-          let made = some_is _ _ took in
+          let made = same_some took in
           record {
             asked = d;
             due = is;
@@ -549,7 +557,7 @@ module _ (t : Described) (program : Program) where
       let g = given i a seen s u q e gives in
       let k = taken a x z e takes in
       let same_due : Some k.asked ≡ Some (i, asked) = sym k.due ∙ is_due in
-      let pairs : k.asked ≡ (i, asked) = some_is _ _ same_due in
+      let pairs : k.asked ≡ (i, asked) = same_some same_due in
       let answer : answers t i e.what asked ≡ true = subst (λ (p : ℕ × Ask). answers t p.0 e.what p.1 ≡ true) pairs k.answer in
       gives_it i a x.last s u asked e
       (record { told = one_answer t program i s.inside q asked e.what g.told answer; fit = g.fit; actor = g.actor; instance = g.instance; stamp = stamp; inside = g.inside; last = g.last })

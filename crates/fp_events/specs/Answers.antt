@@ -13,6 +13,7 @@ use Rattle.fp_events.specs.declared.event.Ask.{Ask}
 use Rattle.fp_events.specs.declared.event.Ask.TheVariants as ask
 use Rattle.fp_events.specs.declared.event.What.{What}
 use Rattle.fp_events.specs.declared.event.What.TheVariants as what
+use Rattle.fp_tables.specs.declared.component.Full.TheVariants as full
 use Rattle.fp_tables.specs.declared.component.Way.TheVariants.{Later, Sync, Guarded}
 use Rattle.fp_base.specs.Rendered.{rendered}
 use Rattle.fp_events.specs.Manners.{Manner, by, sets, saves, manner}
@@ -48,16 +49,16 @@ arrival_in (what.Hooked r) = Some r
 arrival_in (what.Asserted r) = Some r
 arrival_in _ = None
 
--- whether an arrival at a place that is treated so can have such an entry
+-- whether an arrival at a place that is treated so can have such an entry: a drop, a hook or an assert only under its policy, so none under block
 abbrev pub suits : Option Manner → What → Bool
 suits (Some (by Sync)) (what.Enter r) = true
 suits (Some (by Guarded)) (what.Guard r) = true
 suits (Some (sets k)) (what.Set r) = true
 suits (Some (saves k)) (what.Save r v) = true
 suits (Some (by (Later priority policy))) (what.Put number r) = true
-suits (Some (by (Later priority policy))) (what.Dropped r) = true
-suits (Some (by (Later priority policy))) (what.Hooked r) = true
-suits (Some (by (Later priority policy))) (what.Asserted r) = true
+suits (Some (by (Later priority full.Dropped))) (what.Dropped r) = true
+suits (Some (by (Later priority full.Hook))) (what.Hooked r) = true
+suits (Some (by (Later priority full.Assert))) (what.Asserted r) = true
 suits _ _ = false
 
 module _ (t : Described) where

@@ -9,7 +9,7 @@ use Rattle.fp_events.specs.declared.event.What.{What}
 use Rattle.fp_events.specs.declared.event.What.TheVariants as what
 use Rattle.fp_events.specs.declared.event.Finish.{Finish}
 use Rattle.fp_events.specs.declared.event.Finish.TheVariants.{Complete, Stuck, Spent, Asserted}
-use Rattle.fp_events.specs.Lookup.{actives}
+use Rattle.fp_events.specs.Lookup.{actives, callers}
 use Rattle.fp_events.specs.Instance.{InstanceState, Pending}
 use Rattle.fp_events.specs.Actor.{Frame, Opened, own}
 use Rattle.fp_events.specs.Due.{due, first_action}
@@ -29,6 +29,10 @@ abbrev pub is_through : List Frame → Bool
 is_through [] = true
 is_through (f ∷ []) = is_own f.opened && is_none (first_action f.doing)
 is_through (f ∷ g ∷ fs) = false
+
+-- at its end: a caller without frames but its own list, of which no action is left
+abbrev pub IsAtEnd : Program → ℕ → List Frame → Type 0
+IsAtEnd program a frames = (a < callers program) × (is_through frames ≡ true)
 
 abbrev pub none_pending : List Pending → Bool
 none_pending [] = true

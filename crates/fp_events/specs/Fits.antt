@@ -5,17 +5,22 @@ use Rattle.fp_base.specs.declared.value.Value.{Value}
 use Rattle.fp_tables.specs.Lookup.{Described, placed}
 use Rattle.fp_tables.specs.declared.kind.Kind.{Kind}
 use Rattle.fp_tables.specs.declared.kind.Formal.{Formal}
+use Rattle.fp_tables.specs.declared.component.Channel.{Channel}
+use Rattle.fp_tables.specs.declared.component.Event.{Event}
 use Rattle.fp_tables.specs.declared.component.Port.{Port as PortOf}
 use Rattle.fp_tables.specs.declared.machine.Machine.{Machine}
 use Rattle.fp_tables.specs.declared.machine.Named.{Named}
 use Rattle.fp_tables.specs.declared.program.Program.{Program}
 use Rattle.fp_events.specs.Lookup.{component, machine, actives, callers}
 use Rattle.fp_tables.specs.Types.{has_kind, have_kinds}
+use Rattle.fp_tables.specs.Arguments.{is_one_kind}
 use Rattle.fp_events.specs.declared.event.Point.{Point}
 use Rattle.fp_events.specs.declared.event.Point.TheVariants.{Port, Command, Post, Signal}
 use Rattle.fp_events.specs.declared.event.Origin.{Origin}
 use Rattle.fp_events.specs.declared.event.Origin.TheVariants.{Wire}
 use Rattle.fp_events.specs.declared.event.Arrival.{Arrival}
+use Rattle.fp_events.specs.declared.event.Ask.{Ask}
+use Rattle.fp_events.specs.declared.event.Ask.TheVariants as ask
 use Rattle.fp_events.specs.declared.event.What.{What}
 use Rattle.fp_events.specs.declared.event.What.TheVariants as what
 use Rattle.fp_events.specs.Machine.{is_in}
@@ -68,11 +73,11 @@ module _ (t : Described) (program : Program) where
   saved_kind i (Some (saves k)) = option_map (λ x. x.kind) (slice_get (component t i).params k)
   saved_kind i _ = None
 
-  -- a machine's action, which takes a value of this kind at most
+  -- a machine's action that takes a value is given one of its type, aliases being their targets
   abbrev pub same_kind : Option Kind → Option Kind → Bool
   same_kind None k = true
   same_kind (Some j) None = false
-  same_kind (Some j) (Some k) = true
+  same_kind (Some j) (Some k) = is_one_kind t.model.types k j
 
   abbrev pub actions_fit : Option Kind → Machine → List ℕ → Bool
   actions_fit k m actions = list_all (λ a. unwrap_or (option_map (λ (x : Named). same_kind x.kind k) (slice_get m.actions a)) false) actions
@@ -104,3 +109,16 @@ module _ (t : Described) (program : Program) where
   -- the same, of an actor of the program and an instance of the topology
   unfoldable pub fits : ℕ → ℕ → What → Bool
   fits a i w = nat_lt a (actor_count t program) && is_placed i && what_fits i w
+
+  -- one value for each formal of an event
+  abbrev pub event_takes : List Value → Event → Bool
+  event_takes with e = have_kinds t.model.types (kinds e.formals) with
+
+  -- what an ask names is there, its values have the kinds of their places, and an arrival's origin names a port of the topology
+  unfoldable pub ask_fits : ℕ → Ask → Bool
+  ask_fits i (ask.Arrive r) = arrival_fits i r
+  ask_fits i (ask.Emit event with) = unwrap_or (option_map (event_takes with) (slice_get (component t i).events event)) false
+  ask_fits i (ask.Write channel v) = value_fits (option_map (λ (x : Channel). x.kind) (slice_get (component t i).channels channel)) v
+  ask_fits i (ask.Read param) = is_some (slice_get (component t i).params param)
+  ask_fits i (ask.Advance running signal v) = is_some (signal_at i running signal)
+  ask_fits i _ = true

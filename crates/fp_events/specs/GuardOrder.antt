@@ -1,25 +1,23 @@
--- What the entries at an instance say of its guard.
-use Rattle.std.specs.Prelude.{◌≡◌, ℕ, List, [], ◌∷◌, Option, Some, None, ⊤}
+-- What the entries say of the guard of an instance.
+use Rattle.std.specs.Prelude.{◌≡◌, ℕ, Bool, true, false, ◌&&◌, ◌==◌, List}
+use Rattle.std.specs.List.{list_any}
 use Rattle.fp_events.specs.declared.event.What.{What}
 use Rattle.fp_events.specs.declared.event.What.TheVariants as what
 use Rattle.fp_events.specs.declared.event.Entry.{Entry}
-use Rattle.fp_events.specs.Instance.{Holding}
-use Rattle.fp_events.specs.Leaves.{counted, freed}
+use Rattle.fp_events.specs.Frames.{open_frames}
 
--- who holds the guard after an entry of this actor, with the number of its further frames here that are still open
-abbrev pub holder_after : Option Holding → ℕ → What → Option Holding
-holder_after g a (what.Guard r) = Some (record { actor = a; frames = 0 })
-holder_after g a (what.Enter r) = counted a g
-holder_after g a (what.Set r) = counted a g
-holder_after g a (what.Save r v) = counted a g
-holder_after g a (what.Leave v) = freed a g
-holder_after g a _ = g
+abbrev pub is_guard : What → Bool
+is_guard (what.Guard r) = true
+is_guard _ = false
 
-abbrev pub holder_from : Option Holding → List Entry → Option Holding
-holder_from g [] = g
-holder_from g (e ∷ es) = holder_from (holder_after g e.actor e.what) es
+-- a guarded arrival at this instance
+abbrev pub guards_at : ℕ → Entry → Bool
+guards_at i e = is_guard e.what && (e.instance == i)
 
--- a guarded arrival comes only where nobody holds the guard
-abbrev pub IsFree : Option Holding → What → Type 0
-IsFree g (what.Guard r) = g ≡ None
-IsFree g _ = ⊤
+-- no actor has a frame open that a guarded arrival at this instance opened
+abbrev pub IsUnguarded : ℕ → List Entry → Type 0
+IsUnguarded i es = (a : ℕ) → list_any (guards_at i) (open_frames a es) ≡ false
+
+-- what an entry says of those before it: a guarded arrival comes only where the guard of its instance is free
+abbrev pub IsLetIn : List Entry → Entry → Type 0
+IsLetIn before e = is_guard e.what ≡ true → IsUnguarded e.instance before

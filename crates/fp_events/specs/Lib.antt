@@ -16,5 +16,7 @@ pub mod Ends
 pub mod Waits
 pub mod Worked
 pub mod FullQueue
+pub mod SignalValue
 pub mod QueueOrder
+pub mod Frames
 pub mod GuardOrder

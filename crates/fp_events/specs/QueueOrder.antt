@@ -47,3 +47,10 @@ module _ (t : Described) (i : ℕ) where
   IsInOrder ps (what.Take number point with) = (p : Pending) × IsNext ps p × (p.number ≡ number) × (p.point ≡ point) × (p.with ≡ with)
   IsInOrder ps what.Empty = ps ≡ []
   IsInOrder ps _ = ⊤
+
+  -- a drop, a hook and an assert come only by the policy of their place
+  abbrev pub IsByPolicy : What → Type 0
+  IsByPolicy (what.Dropped r) = policy_of (manner t i r.point) ≡ Some full.Dropped
+  IsByPolicy (what.Hooked r) = policy_of (manner t i r.point) ≡ Some full.Hook
+  IsByPolicy (what.Asserted r) = policy_of (manner t i r.point) ≡ Some full.Assert
+  IsByPolicy _ = ⊤

@@ -3,17 +3,14 @@
 
 mod copy;
 mod event;
-mod full_queue;
 mod laws;
 mod orders;
+mod worked;
 
 pub use event::{Arrival, Ask, Entry, Fate, Finish, Origin, Point, What, Why};
-pub use full_queue::full_queue_log;
 pub use laws::{
     causes, decomposition, ends, fitting_entries, merging, outcomes, prefixes, projections,
     rising_stamps, steps, walks,
 };
-pub use orders::{guard_order, queue_order};
-
-#[cfg(test)]
-mod tests;
+pub use orders::{frames_pair, guard_order, overflow_policies, queue_order};
+pub use worked::{full_queue_log, signal_value_log};

@@ -1,10 +1,11 @@
-ghost use Rattle.std.specs.Prelude.{◌≡◌, ◌++◌, ◌∷◌, [], List, None};
+ghost use Rattle.std.specs.Prelude.{◌≡◌, ◌++◌, ◌∷◌, [], ℕ, List};
 ghost use Rattle.fp_tables.specs.Lookup.{Described};
 ghost use Rattle.fp_tables.specs.declared.program.Program.{Program};
 ghost use Rattle.fp_events.specs.declared.event.Entry.{Entry};
-ghost use Rattle.fp_events.specs.Run.{at, IsRun};
-ghost use Rattle.fp_events.specs.QueueOrder.{IsInOrder, untaken_from};
-ghost use Rattle.fp_events.specs.GuardOrder.{IsFree, holder_from};
+ghost use Rattle.fp_events.specs.Run.{at, IsRun, IsTold};
+ghost use Rattle.fp_events.specs.QueueOrder.{IsByPolicy, IsInOrder, untaken_from};
+ghost use Rattle.fp_events.specs.Frames.{Pairs, open_frames, open_from};
+ghost use Rattle.fp_events.specs.GuardOrder.{IsLetIn};
 
 /// In each run, at each instance: a put comes where fewer calls than the queue size are untaken; a drop, hook or assert where
 /// that many are, by the policy of its place; a take takes the earliest untaken call of the greatest priority; and nothing is
@@ -15,9 +16,23 @@ pub fn queue_order()
         → IsInOrder tables e.instance (untaken_from tables e.instance [] (at e.instance before)) e.what }
 {}
 
-/// In each run, at each instance, a guarded arrival comes only where nobody holds the guard.
+/// In each trace a drop, a hook and an assert come only by the policy of their place, so that there is none under block.
+pub fn overflow_policies()
+    ensures { (tables : Described) (program : Program) (a : ℕ) (es : List Entry) → IsTold tables program a es
+        → (before rest : List Entry) (e : Entry) → es ≡ before ++ e ∷ rest → IsByPolicy tables e.instance e.what }
+{}
+
+/// Frames pair as brackets in each trace, and in each run by each actor: a leave closes the frame of an enter, a guard, a set
+/// or a save, and a done that of a take, which is the innermost that is open, at the instance where it was opened.
+pub fn frames_pair()
+    ensures told { (tables : Described) (program : Program) (a : ℕ) (es : List Entry) → IsTold tables program a es
+        → (before rest : List Entry) (e : Entry) → es ≡ before ++ e ∷ rest → Pairs (open_from [] before) e }
+    ensures run { (tables : Described) (program : Program) (es : List Entry) → IsRun tables program es
+        → (before rest : List Entry) (e : Entry) → es ≡ before ++ e ∷ rest → Pairs (open_frames e.actor before) e }
+{}
+
+/// In each run a guarded arrival comes only where no frame of a guarded arrival is open at its instance.
 pub fn guard_order()
     ensures { (tables : Described) (program : Program) (es : List Entry) → IsRun tables program es
-        → (before rest : List Entry) (e : Entry) → es ≡ before ++ e ∷ rest
-        → IsFree (holder_from None (at e.instance before)) e.what }
+        → (before rest : List Entry) (e : Entry) → es ≡ before ++ e ∷ rest → IsLetIn before e }
 {}

@@ -15,7 +15,7 @@ use Rattle.fp_events.specs.FullQueue.{full_queue, two_calls, arrival_with, first
 use Rattle.fp_events.specs.declared.event.Entry.{Entry}
 use Rattle.fp_events.specs.declared.event.What.TheVariants as what
 use Rattle.fp_events.proofs.StepLaws.{core_laws, core_taking}
-use Rattle.fp_events.proofs.full_queue.full_queue_log.Goals as goal
+use Rattle.fp_events.proofs.worked.full_queue_log.Goals as goal
 
 pub returns-clause-drop : goal.returns-clause-drop
 unfolding due follows tells leaves answers fits what_fits instance_part actor_part
