@@ -1,5 +1,6 @@
 -- The frames of an actor are the brackets that its entries open.
 use Rattle.std.proofs.Common.{◌≡◌, ℕ, Bool, true, false, cond, ◌&&◌, not, Option, Some, None, option_map, List, [], ◌∷◌, ◌++◌, map, drop, refl, sym, ap, ◌∙◌, subst, slice_get, unwrap_or}
+use Rattle.fp_tables.specs.Specials.{special_wire}
 use Rattle.fp_base.proofs.Options.{mapped_some, same_some}
 use Rattle.fp_base.specs.declared.value.Value.{Value}
 use Rattle.fp_system.specs.Run.{ActorStep, InTurn}
@@ -18,7 +19,7 @@ use Rattle.fp_events.specs.Answers.{answers}
 use Rattle.fp_events.specs.Due.{first_action, values, first_value, sent_from, along, at_port, ends_with, asks_in, asks_out, asks, through, due_in, due_of, due}
 use Rattle.fp_events.specs.Follows.{without_first, in_frame, bind, bound_below, closed, sends, sent_as, performed, bound_name, value_in, follows}
 use Rattle.fp_events.specs.Frames.{opens, ends_a_frame, is_take, closes, open_after, open_from, open_frames, Pairs}
-use Rattle.fp_events.specs.Lookup.{home, special_wire}
+use Rattle.fp_events.specs.Lookup.{home}
 use Rattle.fp_events.specs.Run.{World, RunTo, IsTold}
 use Rattle.fp_events.specs.Step.{core}
 use Rattle.fp_events.specs.declared.event.Ask.{Ask}

@@ -1,6 +1,7 @@
 -- The queue of an instance is what its history leaves untaken.
 use Rattle.std.proofs.Common.{◌≡◌, ℕ, suc, ◌≤◌, Bool, true, false, cond, nat_lt, length, Option, Some, None, List, [], ◌∷◌, ◌++◌, refl, sym, ap, ◌∙◌, subst, arith, slice_get, ℤ, ◌==◌, zero-le}
 use Rattle.std.proofs.lemmas.Bool.Decides.{nat_tests}
+use Rattle.fp_tables.specs.Specials.{component}
 use Rattle.fp_base.proofs.Options.{mapped_some, then_some, same_some}
 use Rattle.fp_system.specs.Run.{InstanceStep, Run, World, at, opening}
 use Rattle.fp_system.proofs.Local.{instance_law}
@@ -9,7 +10,7 @@ use Rattle.fp_tables.specs.declared.component.Full.{Full}
 use Rattle.fp_tables.specs.declared.component.Full.TheVariants as full
 use Rattle.fp_tables.specs.declared.component.Way.TheVariants.{Later, Sync, Guarded}
 use Rattle.fp_tables.specs.declared.program.Program.{Program}
-use Rattle.fp_events.specs.Lookup.{queue_size, machine, component}
+use Rattle.fp_events.specs.Lookup.{queue_size, machine}
 use Rattle.fp_events.specs.declared.event.Arrival.{Arrival}
 use Rattle.fp_events.specs.declared.event.Ask.{Ask}
 use Rattle.fp_events.specs.declared.event.Ask.TheVariants as ask
@@ -20,7 +21,7 @@ use Rattle.fp_events.specs.Machine.{Configuration, Walk}
 use Rattle.fp_events.specs.Instance.{Inside, Pending, Holding, InstanceState}
 use Rattle.fp_events.specs.Actor.{ActorState}
 use Rattle.fp_events.specs.Manners.{Manner, by, sets, saves, manner}
-use Rattle.fp_events.specs.Tells.{arrives, guards, emits, writes, advances, goes_on, machine_of, tells}
+use Rattle.fp_events.specs.Tells.{arrives, guards, emits, writes, advances, goes_on, tells, configuration_of}
 use Rattle.fp_events.specs.Queue.{overflows, takes, next_call, without}
 use Rattle.fp_events.specs.Leaves.{leaves}
 use Rattle.fp_events.specs.QueueOrder.{untaken_after, untaken_from, IsInOrder, policy_of}
@@ -107,8 +108,8 @@ module _ (t : Described) (program : Program) (i : ℕ) where
       let m = mapped_some (λ v. what.Read param v) (slice_get s.params param) w h in
       subst (IsInOrder t i s.pending) m.2 tt
   tells_in_order s (ask.Advance running signal value) w most h =
-      let m = mapped_some (λ n. advances running signal (machine_of s running) (goes_on t program i running signal (machine_of s running) n)) (machine t i running) w h in
-      subst (IsInOrder t i s.pending) m.2 (advances_in_order s.pending running signal (machine_of s running) (goes_on t program i running signal (machine_of s running) m.0))
+      let m = mapped_some (λ n. advances running signal (configuration_of s running) (goes_on t program i running signal (configuration_of s running) n)) (machine t i running) w h in
+      subst (IsInOrder t i s.pending) m.2 (advances_in_order s.pending running signal (configuration_of s running) (goes_on t program i running signal (configuration_of s running) m.0))
 
   leaves_untaken : (s : Inside) (a : ℕ) (w : What) → (leaves t program i s a w).pending ≡ untaken_after t i s.pending w
   unfolding leaves

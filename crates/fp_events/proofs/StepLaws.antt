@@ -1,5 +1,6 @@
 -- The system of specs/Core has the laws of a system.
 use Rattle.std.proofs.Common.{◌≡◌, ℕ, suc, max, Bool, true, false, cond, ◌&&◌, ◌==◌, nat_lt, length, Option, Some, None, option_map, option_and_then, List, [], refl, sym, ap, ap₂, ◌∙◌, subst, slice_get, ◌||◌, ◌⊎◌, inl, inr, unwrap_or, ℤ}
+use Rattle.fp_tables.specs.Specials.{component}
 use Rattle.fp_base.proofs.Bools.{both}
 use Rattle.fp_base.proofs.Options.{mapped_some, same_some, then_some}
 use Rattle.fp_system.specs.System.{Laws, IsTaking, IsOneChange}
@@ -12,7 +13,7 @@ use Rattle.fp_tables.specs.declared.component.Full.{Full}
 use Rattle.fp_tables.specs.declared.component.Full.TheVariants as full
 use Rattle.fp_tables.specs.declared.component.Way.TheVariants.{Later, Sync, Guarded}
 use Rattle.fp_tables.specs.declared.program.Program.{Program}
-use Rattle.fp_events.specs.Lookup.{queue_size, machine, component}
+use Rattle.fp_events.specs.Lookup.{queue_size, machine}
 use Rattle.fp_events.specs.declared.event.Arrival.{Arrival}
 use Rattle.fp_events.specs.declared.event.Fate.{Fate}
 use Rattle.fp_events.specs.declared.event.Point.{Point}
@@ -26,7 +27,7 @@ use Rattle.fp_events.specs.declared.event.Entry.{Entry}
 use Rattle.fp_events.specs.Instance.{Inside, Pending, Holding, InstanceState}
 use Rattle.fp_events.specs.Actor.{ActorState}
 use Rattle.fp_events.specs.Manners.{Manner, by, sets, saves, manner}
-use Rattle.fp_events.specs.Tells.{arrives, guards, emit_fate, emits, writes, advances, goes_on, machine_of, tells}
+use Rattle.fp_events.specs.Tells.{arrives, guards, emit_fate, emits, writes, advances, goes_on, tells, configuration_of}
 use Rattle.fp_events.specs.Queue.{overflows, takes, next_call}
 use Rattle.fp_events.specs.Leaves.{leaves}
 use Rattle.fp_events.specs.Due.{due}
@@ -96,8 +97,8 @@ module _ (t : Described) (program : Program) (i : ℕ) where
       let m = mapped_some (λ v. what.Read param v) (slice_get s.params param) w h in
       sym (ap arrival_in m.2)
   tells_in s (ask.Advance running signal value) w h =
-      let m = mapped_some (λ n. advances running signal (machine_of s running) (goes_on t program i running signal (machine_of s running) n)) (machine t i running) w h in
-      sym (ap arrival_in m.2) ∙ advances_in running signal (machine_of s running) (goes_on t program i running signal (machine_of s running) m.0)
+      let m = mapped_some (λ n. advances running signal (configuration_of s running) (goes_on t program i running signal (configuration_of s running) n)) (machine t i running) w h in
+      sym (ap arrival_in m.2) ∙ advances_in running signal (configuration_of s running) (goes_on t program i running signal (configuration_of s running) m.0)
 
 -- the kinds of entries that answer the same kinds of asks
 kind : What → ℕ
@@ -175,8 +176,8 @@ module _ (t : Described) (program : Program) (i : ℕ) where
       let m = mapped_some (λ v. what.Read param v) (slice_get s.params param) w h in
       rw (sym m.2) refl
   tells_kind s (ask.Advance running signal value) w h =
-      let m = mapped_some (λ n. advances running signal (machine_of s running) (goes_on t program i running signal (machine_of s running) n)) (machine t i running) w h in
-      rw (sym m.2, advances_kind running signal (machine_of s running) (goes_on t program i running signal (machine_of s running) m.0)) refl
+      let m = mapped_some (λ n. advances running signal (configuration_of s running) (goes_on t program i running signal (configuration_of s running) n)) (machine t i running) w h in
+      rw (sym m.2, advances_kind running signal (configuration_of s running) (goes_on t program i running signal (configuration_of s running) m.0)) refl
 
   -- ---- what answers an ask is what the instance tells for it, whichever it told it for
 
@@ -353,18 +354,18 @@ module _ (t : Described) (program : Program) (i : ℕ) where
       → tells t program i s (ask.Advance k other v) ≡ Some (what.Start k actions leaf)
   unfolding tells of_kind goes_from
   start_told s (ask.Advance running signal u) k actions leaf other v is h =
-      let p : running ≡ k = start_running running signal k (machine_of s running) actions leaf h in
-      subst (λ (n : ℕ). goes_from n other (machine_of s n) ≡ Some (what.Start k actions leaf)) p
-      (subst (λ (n : ℕ). goes_from running other (machine_of s running) ≡ Some (what.Start n actions leaf)) p
-      (start_again running signal other (machine_of s running) actions leaf (subst (λ (n : ℕ). goes_from running signal (machine_of s running) ≡ Some (what.Start n actions leaf)) (sym p) h)))
+      let p : running ≡ k = start_running running signal k (configuration_of s running) actions leaf h in
+      subst (λ (n : ℕ). goes_from n other (configuration_of s n) ≡ Some (what.Start k actions leaf)) p
+      (subst (λ (n : ℕ). goes_from running other (configuration_of s running) ≡ Some (what.Start n actions leaf)) p
+      (start_again running signal other (configuration_of s running) actions leaf (subst (λ (n : ℕ). goes_from running signal (configuration_of s running) ≡ Some (what.Start n actions leaf)) (sym p) h)))
   start_told s _ k actions leaf other v is h = absurd (cc)
 
   move_told : (s : Inside) (q : Ask) (k j : ℕ) (actions : List ℕ) (leaf : ℕ) (v : Option Value) → of_kind q 8 ≡ true → tells t program i s q ≡ Some (what.Move k j actions leaf)
       → tells t program i s (ask.Advance k j v) ≡ Some (what.Move k j actions leaf)
   unfolding tells of_kind goes_from
   move_told s (ask.Advance running signal u) k j actions leaf v is h =
-      let p = move_running running signal k j (machine_of s running) actions leaf h in
-      subst (λ (n : ℕ × ℕ). goes_from n.0 n.1 (machine_of s n.0) ≡ Some (what.Move k j actions leaf)) (ap₂ (λ (a : ℕ) (b : ℕ). (a, b)) p.0 p.1) h
+      let p = move_running running signal k j (configuration_of s running) actions leaf h in
+      subst (λ (n : ℕ × ℕ). goes_from n.0 n.1 (configuration_of s n.0) ≡ Some (what.Move k j actions leaf)) (ap₂ (λ (a : ℕ) (b : ℕ). (a, b)) p.0 p.1) h
   move_told s _ k j actions leaf v is h = absurd (cc)
 
   one_advance : (s : Inside) (q : Ask) (running signal : ℕ) (v : Option Value) (w : What) → tells t program i s q ≡ Some w → answers t i w (ask.Advance running signal v) ≡ true → tells t program i s (ask.Advance running signal v) ≡ Some w
@@ -460,8 +461,8 @@ module _ (t : Described) (program : Program) (i : ℕ) where
       let m = mapped_some (λ v. what.Read param v) (slice_get s.params param) w h in
       rw (sym m.2) (nat_same.itself param)
   answered s (ask.Advance running signal value) w h =
-      let m = mapped_some (λ n. advances running signal (machine_of s running) (goes_on t program i running signal (machine_of s running) n)) (machine t i running) w h in
-      subst (λ (x : What). answers t i x (ask.Advance running signal value) ≡ true) m.2 (answers_advance running signal value (machine_of s running) (goes_on t program i running signal (machine_of s running) m.0))
+      let m = mapped_some (λ n. advances running signal (configuration_of s running) (goes_on t program i running signal (configuration_of s running) n)) (machine t i running) w h in
+      subst (λ (x : What). answers t i x (ask.Advance running signal value) ≡ true) m.2 (answers_advance running signal value (configuration_of s running) (goes_on t program i running signal (configuration_of s running) m.0))
 
 -- ---- the laws
 

@@ -1,5 +1,6 @@
 -- The ask that is due next of an actor.
 use Rattle.std.specs.Prelude.{ℕ, cond, List, [], ◌∷◌, map, find, Option, Some, None, option_map, unwrap_or, slice_get}
+use Rattle.fp_tables.specs.Specials.{component, special_wire}
 use Rattle.fp_base.specs.Same.{same_text}
 use Rattle.fp_base.specs.declared.value.Value.{Value, Opaque}
 use Rattle.fp_tables.specs.Lookup.{Described, wire_from}
@@ -11,7 +12,7 @@ use Rattle.fp_tables.specs.declared.program.Arg.{Arg}
 use Rattle.fp_tables.specs.declared.program.Arg.TheVariants.{Given, Bound}
 use Rattle.fp_tables.specs.declared.program.Verb.{Verb}
 use Rattle.fp_tables.specs.declared.program.Verb.TheVariants as verb
-use Rattle.fp_events.specs.Lookup.{component, special_wire, default_of, home}
+use Rattle.fp_events.specs.Lookup.{default_of, home}
 use Rattle.fp_events.specs.declared.event.Point.{Point}
 use Rattle.fp_events.specs.declared.event.Point.TheVariants.{Port, Command, Post, Signal}
 use Rattle.fp_events.specs.declared.event.Origin.TheVariants.{Caller, Own, Wire}

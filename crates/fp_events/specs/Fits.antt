@@ -1,6 +1,7 @@
 -- Whether the positions of an entry name something of the tables, and its values have the kinds of their places.
 use Rattle.std.specs.Prelude.{ℕ, Bool, true, false, cond, ◌&&◌, ◌+◌, nat_lt, List, [], ◌∷◌, map, length, Option, Some, None, option_map, option_and_then, is_some, unwrap_or, slice_get}
 use Rattle.std.specs.List.{list_all}
+use Rattle.fp_tables.specs.Specials.{component}
 use Rattle.fp_base.specs.declared.value.Value.{Value}
 use Rattle.fp_tables.specs.Lookup.{Described, placed}
 use Rattle.fp_tables.specs.declared.kind.Kind.{Kind}
@@ -11,7 +12,7 @@ use Rattle.fp_tables.specs.declared.component.Port.{Port as PortOf}
 use Rattle.fp_tables.specs.declared.machine.Machine.{Machine}
 use Rattle.fp_tables.specs.declared.machine.Named.{Named}
 use Rattle.fp_tables.specs.declared.program.Program.{Program}
-use Rattle.fp_events.specs.Lookup.{component, machine, actives, callers}
+use Rattle.fp_events.specs.Lookup.{machine, actives, callers}
 use Rattle.fp_tables.specs.Types.{has_kind, have_kinds}
 use Rattle.fp_tables.specs.Arguments.{is_one_kind}
 use Rattle.fp_events.specs.declared.event.Point.{Point}
@@ -74,13 +75,13 @@ module _ (t : Described) (program : Program) where
   saved_kind i _ = None
 
   -- a machine's action that takes a value is given one of its type, aliases being their targets
-  abbrev pub same_kind : Option Kind → Option Kind → Bool
-  same_kind None k = true
-  same_kind (Some j) None = false
-  same_kind (Some j) (Some k) = is_one_kind t.model.types k j
+  abbrev pub gives_kind : Option Kind → Option Kind → Bool
+  gives_kind None k = true
+  gives_kind (Some j) None = false
+  gives_kind (Some j) (Some k) = is_one_kind t.model.types k j
 
   abbrev pub actions_fit : Option Kind → Machine → List ℕ → Bool
-  actions_fit k m actions = list_all (λ a. unwrap_or (option_map (λ (x : Named). same_kind x.kind k) (slice_get m.actions a)) false) actions
+  actions_fit k m actions = list_all (λ a. unwrap_or (option_map (λ (x : Named). gives_kind x.kind k) (slice_get m.actions a)) false) actions
 
   abbrev pub going_fits : Option Kind → Option Machine → List ℕ → ℕ → Bool
   going_fits k None actions leaf = false

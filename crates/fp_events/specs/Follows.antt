@@ -1,5 +1,6 @@
 -- What an actor makes of an entry.
 use Rattle.std.specs.Prelude.{ℕ, true, cond, List, [], ◌∷◌, ◌++◌, map, flat_map, zip, Option, Some, None, option_map, option_and_then, unwrap_or, is_some, slice_get, codes}
+use Rattle.fp_tables.specs.Specials.{component, special_wire}
 use Rattle.fp_base.specs.declared.value.Value.{Value}
 use Rattle.fp_tables.specs.Lookup.{Described}
 use Rattle.fp_tables.specs.declared.component.Special.{Special}
@@ -12,7 +13,7 @@ use Rattle.fp_tables.specs.declared.program.Verb.{Verb}
 use Rattle.fp_tables.specs.declared.program.Verb.TheVariants as verb
 use Rattle.fp_tables.specs.declared.program.Spot.{Spot}
 use Rattle.fp_tables.specs.declared.program.Spot.TheVariants as spot
-use Rattle.fp_events.specs.Lookup.{component, special_wire, result_of, names, handler, machine}
+use Rattle.fp_events.specs.Lookup.{result_of, names, handler, machine}
 use Rattle.fp_events.specs.declared.event.Point.{Point}
 use Rattle.fp_events.specs.declared.event.Point.TheVariants.{Port, Command, Post, Signal}
 use Rattle.fp_events.specs.declared.event.Fate.{Fate}

@@ -3,7 +3,7 @@ use Rattle.std.specs.Prelude.{ℕ, ℤ, List, [], map, length, replicate, Option
 use Rattle.fp_base.specs.declared.value.Value.{Value}
 use Rattle.fp_tables.specs.Lookup.{Described}
 use Rattle.fp_events.specs.declared.event.Point.{Point}
-use Rattle.fp_events.specs.Lookup.{component}
+use Rattle.fp_tables.specs.Specials.{component}
 use Rattle.fp_events.specs.Machine.{Configuration}
 
 -- a pending call

@@ -11,9 +11,9 @@ use Rattle.fp_events.specs.declared.event.What.TheVariants as what
 use Rattle.fp_events.specs.Lookup.{machine}
 use Rattle.fp_events.specs.Machine.{Configuration}
 use Rattle.fp_events.specs.Instance.{Inside, Pending, Holding}
-use Rattle.fp_events.specs.Manners.{Manner, sets, manner, priority_of}
+use Rattle.fp_events.specs.Manners.{Manner, sets, manner, priority_at}
 use Rattle.fp_events.specs.Queue.{without}
-use Rattle.fp_events.specs.Tells.{goes_on, machine_of}
+use Rattle.fp_events.specs.Tells.{goes_on, configuration_of}
 
 -- one frame more where this actor holds the guard
 abbrev pub counted : ℕ → Option Holding → Option Holding
@@ -42,11 +42,11 @@ raised counts event _ = set counts event (suc (get_or counts event 0))
 
 module _ (t : Described) (program : Program) (i : ℕ) where
   abbrev pub pending_call : ℕ → Arrival → Pending
-  pending_call number r = record { number = number; priority = priority_of (manner t i r.point); point = r.point; with = r.with }
+  pending_call number r = record { number = number; priority = priority_at (manner t i r.point); point = r.point; with = r.with }
 
   abbrev pub after_going : Inside → ℕ → ℕ → List (Option Configuration)
   after_going s running signal =
-      unwrap_or (option_map (λ m. set s.machines running (Some (goes_on t program i running signal (machine_of s running) m).reached)) (machine t i running)) s.machines
+      unwrap_or (option_map (λ m. set s.machines running (Some (goes_on t program i running signal (configuration_of s running) m).reached)) (machine t i running)) s.machines
 
   -- what an entry of this actor leaves in the instance
   unfoldable pub leaves : Inside → ℕ → What → Inside

@@ -1,31 +1,19 @@
 -- What is found in the tables of a run, beside what fp_tables looks up, and in its program.
-use Rattle.std.specs.Prelude.{ℕ, Bool, true, false, cond, ◌&&◌, ◌==◌, ◌-◌, nat_lt, pos, List, [], map, filter, find, position, length, Option, None, option_map, option_and_then, unwrap_or, slice_get}
+use Rattle.std.specs.Prelude.{ℕ, Bool, true, false, cond, ◌&&◌, ◌==◌, ◌-◌, nat_lt, pos, List, [], map, filter, find, length, Option, None, option_map, option_and_then, unwrap_or, slice_get}
 use Rattle.fp_base.specs.declared.value.Value.{Value, Int, Bool as Truth, Text}
-use Rattle.fp_tables.specs.Lookup.{Described, placed, wire_from}
-use Rattle.fp_tables.specs.declared.component.Component.{Component}
+use Rattle.fp_tables.specs.Lookup.{Described, placed}
+use Rattle.fp_tables.specs.SoundPrograms.{same_spot}
+use Rattle.fp_tables.specs.Specials.{component}
 use Rattle.fp_tables.specs.declared.topology.Instance.{Instance}
 use Rattle.fp_tables.specs.declared.machine.Machine.{Machine}
-use Rattle.fp_tables.specs.declared.topology.End.{End}
 use Rattle.fp_tables.specs.declared.kind.Kind.{Kind}
 use Rattle.fp_tables.specs.declared.kind.Kind.TheVariants as kind
 use Rattle.fp_tables.specs.declared.kind.Formal.{Formal}
-use Rattle.fp_tables.specs.declared.component.Role.{Role}
-use Rattle.fp_tables.specs.declared.component.Role.TheVariants as role
-use Rattle.fp_tables.specs.declared.component.Special.{Special}
-use Rattle.fp_tables.specs.declared.component.Special.TheVariants.{CmdRecv, CmdReg, CmdResp, Event, TextEvent, Tlm, Time, PrmGet, PrmSet}
 use Rattle.fp_tables.specs.declared.component.Queueing.{Queueing}
-use Rattle.fp_tables.specs.declared.component.Queueing.TheVariants.{Active, Passive}
+use Rattle.fp_tables.specs.declared.component.Queueing.TheVariants.{Active}
 use Rattle.fp_tables.specs.declared.program.Program.{Program}
 use Rattle.fp_tables.specs.declared.program.Act.{Act}
 use Rattle.fp_tables.specs.declared.program.Spot.{Spot}
-use Rattle.fp_tables.specs.declared.program.Spot.TheVariants as spot
-
--- the component of an instance, one without parts where there is none
-abbrev pub no_parts : Component
-no_parts = record { name = []; queueing = Passive; ports = []; commands = []; events = []; channels = []; params = []; matches = []; machines = [] }
-
-abbrev pub component : Described → ℕ → Component
-component t i = unwrap_or (option_and_then (λ (x : Instance). slice_get t.model.components x.component) (slice_get t.model.instances i)) no_parts
 
 abbrev pub queue_size : Described → ℕ → ℕ
 queue_size t i = unwrap_or (option_and_then (λ (x : Instance). x.queue) (slice_get t.model.instances i)) 0
@@ -41,28 +29,6 @@ is_active _ = false
 abbrev pub actives : Described → List ℕ
 actives t = filter (λ i. is_active (component t i).queueing) (placed t)
 
-abbrev pub same_special : Special → Special → Bool
-same_special CmdRecv CmdRecv = true
-same_special CmdReg CmdReg = true
-same_special CmdResp CmdResp = true
-same_special Event Event = true
-same_special TextEvent TextEvent = true
-same_special Tlm Tlm = true
-same_special Time Time = true
-same_special PrmGet PrmGet = true
-same_special PrmSet PrmSet = true
-same_special _ _ = false
-
-abbrev pub is_special : Special → Role → Bool
-is_special s (role.Special r) = same_special s r
-is_special s _ = false
-
--- both ends of the wire that begins at a special port of an instance
-abbrev pub special_wire : Described → ℕ → Special → Option (End × End)
-special_wire t i s =
-    option_and_then (λ port. let from : End = record { instance = i; port = port; number = 0 } in option_map (λ to. (from, to)) (wire_from t from))
-    (position (λ p. is_special s p.role) (component t i).ports)
-
 abbrev pub default_of : Described → Kind → Value
 default_of t kind.Bool = Truth false
 default_of t (kind.Str size) = Text []
@@ -76,12 +42,6 @@ result_of t i port =
 
 abbrev pub names : List Formal → List (List ℕ)
 names fs = map (λ f. f.name) fs
-
-abbrev pub same_spot : Spot → Spot → Bool
-same_spot (spot.Port m) (spot.Port n) = m == n
-same_spot (spot.Command m) (spot.Command n) = m == n
-same_spot (spot.Action r a) (spot.Action q b) = (r == q) && (a == b)
-same_spot _ _ = false
 
 -- the actions of the handler at a place, none where there is none
 abbrev pub handler : Program → ℕ → Spot → List Act

@@ -10,7 +10,7 @@ use Rattle.fp_tables.specs.declared.component.Way.{Way}
 use Rattle.fp_tables.specs.declared.component.Way.TheVariants.{Later}
 use Rattle.fp_events.specs.declared.event.Point.{Point}
 use Rattle.fp_events.specs.declared.event.Point.TheVariants.{Port, Command as OfCommand, Post, Signal}
-use Rattle.fp_events.specs.Lookup.{component}
+use Rattle.fp_tables.specs.Specials.{component}
 
 -- by the place's way: sync, guarded or asynchronous; or as the implied set or save command of a parameter
 pub data Manner : Type 0 where
@@ -38,6 +38,6 @@ manner t i (OfCommand n) = option_map (λ (c : Command). command_manner c.way c.
 manner t i (Post n) = option_and_then (λ p. internal_manner p.role) (slice_get (component t i).ports n)
 manner t i (Signal running signal) = option_map (λ r. by r.way) (slice_get (component t i).machines running)
 
-abbrev pub priority_of : Option Manner → ℤ
-priority_of (Some (by (Later priority policy))) = priority
-priority_of _ = pos 0
+abbrev pub priority_at : Option Manner → ℤ
+priority_at (Some (by (Later priority policy))) = priority
+priority_at _ = pos 0

@@ -11,7 +11,7 @@ use Rattle.fp_events.specs.declared.event.What.{What}
 use Rattle.fp_events.specs.declared.event.What.TheVariants as what
 use Rattle.fp_events.specs.declared.event.Entry.{Entry}
 use Rattle.fp_events.specs.Instance.{Pending}
-use Rattle.fp_events.specs.Manners.{Manner, by, manner, priority_of}
+use Rattle.fp_events.specs.Manners.{Manner, by, manner, priority_at}
 use Rattle.fp_events.specs.Queue.{without}
 
 abbrev pub policy_of : Option Manner → Option Full
@@ -26,7 +26,7 @@ IsNext ps p = (before : List Pending) × (rest : List Pending) × (ps ≡ before
 module _ (t : Described) (i : ℕ) where
   -- the puts that are untaken after an entry, in order
   abbrev pub untaken_after : List Pending → What → List Pending
-  untaken_after ps (what.Put number r) = ps ++ (record { number = number; priority = priority_of (manner t i r.point); point = r.point; with = r.with }) ∷ []
+  untaken_after ps (what.Put number r) = ps ++ (record { number = number; priority = priority_at (manner t i r.point); point = r.point; with = r.with }) ∷ []
   untaken_after ps (what.Take number point with) = without number ps
   untaken_after ps _ = ps
 

@@ -1,5 +1,6 @@
 -- The entry that an instance tells for an ask, if it has a step for it.
 use Rattle.std.specs.Prelude.{ℕ, suc, Bool, true, false, cond, ◌&&◌, nat_lt, nat_le, List, length, get_or, Option, Some, None, option_map, option_and_then, is_some, slice_get}
+use Rattle.fp_tables.specs.Specials.{component, special_wire}
 use Rattle.fp_base.specs.Same.{same, same_option}
 use Rattle.fp_base.specs.Rendered.{rendered}
 use Rattle.fp_base.specs.declared.value.Value.{Value}
@@ -17,7 +18,7 @@ use Rattle.fp_events.specs.declared.event.Fate.{Fate}
 use Rattle.fp_events.specs.declared.event.Fate.TheVariants.{Sent, Held, Same, Unwired}
 use Rattle.fp_events.specs.declared.event.What.{What}
 use Rattle.fp_events.specs.declared.event.What.TheVariants as what
-use Rattle.fp_events.specs.Lookup.{component, queue_size, machine, special_wire, answers_of}
+use Rattle.fp_events.specs.Lookup.{queue_size, machine, answers_of}
 use Rattle.fp_events.specs.Machine.{Configuration, Walk, starts, moves}
 use Rattle.fp_events.specs.Instance.{Inside, Holding}
 use Rattle.fp_events.specs.Manners.{Manner, by, sets, saves, manner}
@@ -42,8 +43,8 @@ abbrev pub sent : Bool → Fate
 sent true = Sent
 sent false = Unwired
 
-abbrev pub machine_of : Inside → ℕ → Option Configuration
-machine_of s running = get_or s.machines running None
+abbrev pub configuration_of : Inside → ℕ → Option Configuration
+configuration_of s running = get_or s.machines running None
 
 -- a machine that isn't started starts, else it moves
 abbrev pub advances : ℕ → ℕ → Option Configuration → Walk → What
@@ -100,4 +101,4 @@ module _ (t : Described) (program : Program) (i : ℕ) where
   tells s (ask.Read param) = option_map (λ v. what.Read param v) (slice_get s.params param)
   -- start: an advance of a machine that isn't started; move: of one that is
   tells s (ask.Advance running signal value) =
-      option_map (λ m. advances running signal (machine_of s running) (goes_on running signal (machine_of s running) m)) (machine t i running)
+      option_map (λ m. advances running signal (configuration_of s running) (goes_on running signal (configuration_of s running) m)) (machine t i running)

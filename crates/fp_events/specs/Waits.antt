@@ -1,10 +1,11 @@
 -- Why an instance has no step for an ask now.
 use Rattle.std.specs.Prelude.{ℕ, Bool, true, false, nat_lt, length, Option, Some, None, option_and_then, is_some, slice_get}
+use Rattle.fp_tables.specs.Specials.{component}
 use Rattle.fp_tables.specs.Lookup.{Described}
 use Rattle.fp_tables.specs.declared.component.Full.{Full}
 use Rattle.fp_tables.specs.declared.component.Full.TheVariants as full
 use Rattle.fp_tables.specs.declared.component.Way.TheVariants.{Later, Guarded}
-use Rattle.fp_events.specs.Lookup.{component, queue_size, machine}
+use Rattle.fp_events.specs.Lookup.{queue_size, machine}
 use Rattle.fp_events.specs.declared.event.Ask.{Ask}
 use Rattle.fp_events.specs.declared.event.Ask.TheVariants as ask
 use Rattle.fp_events.specs.declared.event.Why.{Why}
