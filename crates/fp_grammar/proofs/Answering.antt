@@ -1,20 +1,21 @@
 -- What a function answers, from what the functions that it called answered.
-use Rattle.std.proofs.Common.{◌≡◌, ℕ, ◌+◌, List, [], ◌∷◌, drop, ◌++◌, ◌∙◌, ap, inl, inr, length, refl, sym, subst}
-use Rattle.std.specs.Prelude.{◌&&◌, not, true, Result, Ok, Err, IsErrAnd}
+use Rattle.std.proofs.Common.{◌≡◌, ℕ, ◌+◌, List, ◌∷◌, drop, ◌++◌, ◌∙◌, ap, inl, inr, length, sym, subst}
+use Rattle.std.specs.Prelude.{not, true, Result, Ok, Err, IsErrAnd}
 use Rattle.std.proofs.lemmas.Result.{err_from_is_err_and}
 use Rattle.fp_grammar.specs.declared.halt.Halt.{Halt}
 use Rattle.fp_grammar.specs.declared.halt.Halt.TheVariants.{Unexpected, NoMemory}
-use Rattle.fp_grammar.specs.Grammar.{Grammar, Spells, Among}
-use Rattle.fp_grammar.specs.Sets.{nullable, productive, first, extends, is_ll1, disjoint}
+use Rattle.fp_grammar.specs.Grammar.{Grammar, Spells}
+use Rattle.fp_grammar.specs.Sets.{nullable, is_predictive}
 use Rattle.fp_grammar.specs.Grammar.Grammar.{token, seq, map, alt}
 use Rattle.fp_grammar.specs.Parses.{Accepts, Refuses, RefusesBy, Parses}
 use Rattle.fp_grammar.proofs.Cutting.{Agrees}
-use Rattle.fp_grammar.proofs.Lists.{and-left, and-right, not-true, disjoint-apart}
-use Rattle.fp_grammar.specs.Promises.{IsGood}
+use Rattle.fp_grammar.proofs.Lists.{and-left, and-right}
 use Rattle.fp_grammar.specs.Promises.{RefsGood}
-use Rattle.fp_grammar.proofs.Fits.{good_of}
+use Rattle.fp_grammar.proofs.Fits.{told_of}
+use Rattle.fp_grammar.proofs.Seconds.{apart_never}
+use Rattle.fp_grammar.proofs.Further.{first_further_accepts}
 use Rattle.fp_grammar.proofs.Walk.{Absent}
-use Rattle.fp_grammar.proofs.Steps.{absent, alt_first_accepts}
+use Rattle.fp_grammar.proofs.Steps.{absent}
 
 module _ {T : Type 0} {kind : T → ℕ} where
   refused_by : {X A : Type 0} {g : Grammar T X} {a : Grammar T A} {tokens : List T} {from mid : ℕ} → ((to : ℕ) → Refuses kind a tokens mid to → Refuses kind g tokens from to) → (s : Halt) → RefusesBy kind a tokens mid s → RefusesBy kind g tokens from s
@@ -49,32 +50,12 @@ module _ {T : Type 0} {kind : T → ℕ} where
       go z x agrees (inr s) = m.nothing z x agrees s
 
   -- what was read as the first alternative rules out the second
-  pub alt_first_accepted : {X : Type 0} {a b : Grammar T X} {tokens : List T} {mid to : ℕ} {x : X} → is_ll1 (alt a b) ≡ true → RefsGood kind (alt a b) → Accepts kind a tokens mid x to → Accepts kind (alt a b) tokens mid x to
-  alt_first_accepted {X = X} {a = a} {b = b} {tokens = tokens} {mid = mid} {to = to} {x = x} ll1 refs p = alt_first_accepts (record { nothing = λ z y agrees s. go p.w p.spelled p.splits z y agrees s }) p
-    where
-      e1 : (is_ll1 b && (not (nullable a) && (not (nullable b) && disjoint (first a) (first b)))) ≡ true
-      e1 = and-right (is_ll1 a) _ ll1
-
-      e2 : (not (nullable a) && (not (nullable b) && disjoint (first a) (first b))) ≡ true
-      e2 = and-right (is_ll1 b) _ e1
-
-      e3 : (not (nullable b) && disjoint (first a) (first b)) ≡ true
-      e3 = and-right (not (nullable a)) _ e2
-
-      good_a : IsGood kind (Spells kind a) (nullable a) (productive a) (first a) (extends a)
-      good_a = good_of a (and-left (is_ll1 a) _ ll1) refs.0
-
-      good_b : IsGood kind (Spells kind b) (nullable b) (productive b) (first b) (extends b)
-      good_b = good_of b (and-left (is_ll1 b) _ e1) refs.1
-
-      go : (w : List T) → Spells kind a w x → drop mid tokens ≡ w ++ drop to tokens → (z : List T) (y : X) → Agrees z (drop mid tokens) → Spells kind b z y → ⊥
-      go [] s e z y agrees i = not-true (nullable a) (and-left (not (nullable a)) _ e2) (good_a.empty x s)
-      go (t ∷ w) s e [] y agrees i = not-true (nullable b) (and-left (not (nullable b)) _ e3) (good_b.empty y i)
-      go (t ∷ w) s e (t' ∷ z) y agrees i =
-          let q = agrees t' z refl in
-          let f : t' ∷ q.0 ≡ t ∷ (w ++ drop to tokens) = sym q.1 ∙ e in
-          let g : t' ≡ t = cc in
-          disjoint-apart (kind t) (first a) (first b) (and-right (not (nullable b)) _ e3) (good_a.begin t w x s) (subst (λ v. Among (kind v) (first b)) g (good_b.begin t' z y i))
+  pub alt_first_accepted : {X : Type 0} {a b : Grammar T X} {tokens : List T} {mid to : ℕ} {x : X} → is_predictive (alt a b) ≡ true → RefsGood kind (alt a b) → Accepts kind a tokens mid x to → Accepts kind (alt a b) tokens mid x to
+  alt_first_accepted {a = a} {b = b} {x = x} predictive refs p =
+      let e1 = and-right (is_predictive a) _ predictive in
+      let e2 = and-right (is_predictive b) _ e1 in
+      let never = apart_never a b (and-left (not (nullable a)) _ e2) (told_of a (and-left (is_predictive a) _ predictive) refs.0) (told_of b (and-left (is_predictive b) _ e1) refs.1) (and-right (not (nullable b)) _ (and-right (not (nullable a)) _ e2)) in
+      first_further_accepts p (λ t s more y e i. never p.w (t ∷ more) x y p.spelled i)
 
   -- a call refused at its first token: the part is absent
   pub absent_now : {X : Type 0} {a : Grammar T X} {tokens : List T} {at : ℕ} (s : Halt) → s ≡ Unexpected at → RefusesBy kind a tokens at s → Absent kind a tokens at

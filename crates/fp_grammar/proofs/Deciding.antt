@@ -4,19 +4,19 @@ use Rattle.std.specs.Prelude.{slice_get}
 use Rattle.std.proofs.lemmas.Option.{slice_get_within}
 use Rattle.fp_grammar.specs.Grammar.{Grammar, Spells, Among}
 use Rattle.fp_grammar.specs.Grammar.Grammar.{token, one_of, seq, map, with_tokens, alt, optional, many, alternating, chain, separated, separated_tail, ref}
-use Rattle.fp_grammar.specs.Sets.{is_ll1, nullable, first, extends, disjoint, member}
+use Rattle.fp_grammar.specs.Sets.{is_predictive, nullable, first, extends, disjoint, member}
 use Rattle.fp_grammar.specs.Promises.{RefsGood, Fits}
 use Rattle.fp_grammar.specs.Decided.{Answer, RefsDecided}
 use Rattle.fp_grammar.specs.Decided.Answer.{accepted, refused}
 use Rattle.fp_grammar.specs.Parses.{Accepts, Refuses, NextAmong}
 use Rattle.fp_grammar.proofs.Lists.{and-left, and-right, not-true, member-true, Among-from_member}
 use Rattle.fp_grammar.proofs.Fits.{good_of}
-use Rattle.fp_grammar.proofs.Walk.{Reached, Absent, begin, next, done, stop, first_refused}
-use Rattle.fp_grammar.proofs.Steps.{absent, map_accepts, map_refuses, with_tokens_accepts, with_tokens_refuses, alt_first_accepts, alt_first_refuses, alt_second_accepts, alt_second_refuses, optional_absent, optional_accepts, optional_refuses, token_accepts, token_refuses, one_of_accepts, one_of_refuses}
+use Rattle.fp_grammar.proofs.Walk.{Reached, begin, next, done, stop, first_refused}
+use Rattle.fp_grammar.proofs.Steps.{absent, map_accepts, map_refuses, with_tokens_accepts, with_tokens_refuses, optional_absent, optional_accepts, optional_refuses, token_accepts, token_refuses, one_of_accepts, one_of_refuses}
 use Rattle.fp_grammar.proofs.ListSteps.{many_next, many_absent, many_refuses, separated_next, separated_absent, separated_refuses, tail_next, tail_absent}
 use Rattle.fp_grammar.proofs.TurnSteps.{turn_next, turn_absent, turn_refuses, turned_fits}
 use Rattle.fp_grammar.proofs.ChainSteps.{Building, chain_begin, chain_first_refused, chain_next, chain_done, chain_full, chain_stop}
-use Rattle.fp_grammar.proofs.Choices.{absent_beside, absent_unless}
+use Rattle.fp_grammar.proofs.Further.{either_answer}
 
 same_number : (n m : ℕ) → (n ≡ m) ⊎ (n ≡ m → ⊥)
 same_number n m = grind arith
@@ -49,11 +49,11 @@ module _ {T : Type 0} {kind : T → ℕ} where
       ]
 
   -- what isn't nullable takes tokens
-  reads : {X : Type 0} {a : Grammar T X} {tokens : List T} {mid to : ℕ} {x : X} → is_ll1 a ≡ true → not (nullable a) ≡ true → RefsGood kind a → Accepts kind a tokens mid x to → length (drop to tokens) < length (drop mid tokens)
-  reads {X = X} {a = a} {tokens = tokens} {mid = mid} {to = to} {x = x} ll1 not_null refs p = go p.w p.splits p.spelled
+  reads : {X : Type 0} {a : Grammar T X} {tokens : List T} {mid to : ℕ} {x : X} → is_predictive a ≡ true → not (nullable a) ≡ true → RefsGood kind a → Accepts kind a tokens mid x to → length (drop to tokens) < length (drop mid tokens)
+  reads {X = X} {a = a} {tokens = tokens} {mid = mid} {to = to} {x = x} predictive not_null refs p = go p.w p.splits p.spelled
     where
       go : (w : List T) → drop mid tokens ≡ w ++ drop to tokens → Spells kind a w x → length (drop to tokens) < length (drop mid tokens)
-      go [] e s = absurd (not-true (nullable a) not_null ((good_of a ll1 refs).empty x s))
+      go [] e s = absurd (not-true (nullable a) not_null ((good_of a predictive refs).empty x s))
       go (t ∷ w) e s = omega (arith, ap length e, length-append (t ∷ w) (drop to tokens))
 
   seq_rest : {X Y : Type 0} (a : Grammar T X) (b : Grammar T Y) (tokens : List T) (from : ℕ) → Fits kind (seq a b) → (x : X) (mid : ℕ) → Accepts kind a tokens from x mid → Answer kind b tokens mid → Answer kind (seq a b) tokens from
@@ -72,24 +72,6 @@ module _ {T : Type 0} {kind : T → ℕ} where
   with_tokens_answer a tokens from (accepted x to p) = accepted _ to (with_tokens_accepts p)
   with_tokens_answer a tokens from (refused to p) = refused to (with_tokens_refuses p)
 
-  alt_first : {X : Type 0} (a b : Grammar T X) (tokens : List T) (from : ℕ) → Absent kind b tokens from → Answer kind a tokens from → Answer kind (alt a b) tokens from
-  alt_first a b tokens from n (accepted x to p) = accepted x to (alt_first_accepts n p)
-  alt_first a b tokens from n (refused to p) = refused to (alt_first_refuses n p)
-
-  alt_second : {X : Type 0} (a b : Grammar T X) (tokens : List T) (from : ℕ) → Absent kind a tokens from → Answer kind b tokens from → Answer kind (alt a b) tokens from
-  alt_second a b tokens from n (accepted x to p) = accepted x to (alt_second_accepts n p)
-  alt_second a b tokens from n (refused to p) = refused to (alt_second_refuses n p)
-
-  alt_answer : {X : Type 0} (a b : Grammar T X) (tokens : List T) (from : ℕ) → is_ll1 (alt a b) ≡ true → RefsGood kind (alt a b) → Answer kind a tokens from → Answer kind b tokens from → Answer kind (alt a b) tokens from
-  alt_answer a b tokens from ll1 refs p q =
-      let e1 = and-right (is_ll1 a) _ ll1 in
-      let e2 = and-right (is_ll1 b) _ e1 in
-      let e3 = and-right (not (nullable a)) _ e2 in
-      elim (next_among kind (first a) tokens from) [
-        | inl n ↦ alt_first a b tokens from (absent_beside (first a) n (and-left (is_ll1 b) _ e1) (and-left (not (nullable b)) _ e3) (and-right (not (nullable b)) _ e3) refs.1) p
-        | inr n ↦ alt_second a b tokens from (absent_unless n (and-left (is_ll1 a) _ ll1) (and-left (not (nullable a)) _ e2) refs.0) q
-      ]
-
   optional_answer : {X : Type 0} (a : Grammar T X) (tokens : List T) (from : ℕ) → Answer kind a tokens from → Answer kind (optional a) tokens from
   optional_answer a tokens from (accepted x to p) = accepted (Some x) to (optional_accepts p)
   optional_answer a tokens from (refused to p) =
@@ -101,12 +83,12 @@ module _ {T : Type 0} {kind : T → ℕ} where
   -- more of several, with as many steps at most as tokens are left
   many_step : {A X : Type 0} {g : Grammar T X} (a : Grammar T A) (tokens : List T) (from mid : ℕ) (k : List A → X) → Fits kind (many a) → Reached kind g (many a) k tokens from mid → ((k' : List A → X) (to : ℕ) → length (drop to tokens) < length (drop mid tokens) → Reached kind g (many a) k' tokens from to → Answer kind g tokens from) → Answer kind a tokens mid → Answer kind g tokens from
   many_step a tokens from mid k fits r more (accepted x to p) =
-      let e = and-right (is_ll1 a) _ fits.ll1 in
-      more (λ xs. k (x ∷ xs)) to (reads (and-left (is_ll1 a) _ fits.ll1) (and-left (not (nullable a)) _ e) fits.refs p) (many_next r p)
+      let e = and-right (is_predictive a) _ fits.predictive in
+      more (λ xs. k (x ∷ xs)) to (reads (and-left (is_predictive a) _ fits.predictive) (and-left (not (nullable a)) _ e) fits.refs p) (many_next r p)
   many_step a tokens from mid k fits r more (refused to p) =
-      let e = and-right (is_ll1 a) _ fits.ll1 in
+      let e = and-right (is_predictive a) _ fits.predictive in
       elim (same_number mid to) [
-        | inl f ↦ accepted (k []) mid (done r (many_absent (and-left (not (nullable a)) _ e) (and-left (is_ll1 a) _ fits.ll1) fits.refs (absent (subst (λ n. Refuses kind a tokens mid n) (sym f) p))))
+        | inl f ↦ accepted (k []) mid (done r (many_absent (and-left (not (nullable a)) _ e) (and-left (is_predictive a) _ fits.predictive) fits.refs (absent (subst (λ n. Refuses kind a tokens mid n) (sym f) p))))
         | inr f ↦ refused to (stop r (many_refuses fits f p))
       ]
 
@@ -117,9 +99,9 @@ module _ {T : Type 0} {kind : T → ℕ} where
   -- more of the one and the other, with as many steps at most as tokens are left
   turn_step : {A X : Type 0} {g : Grammar T X} (a b : Grammar T A) (tokens : List T) (from mid : ℕ) (k : List A → X) → Fits kind (alternating a b) → Reached kind g (alternating a b) k tokens from mid → ((k' : List A → X) (to : ℕ) → length (drop to tokens) < length (drop mid tokens) → Reached kind g (alternating b a) k' tokens from to → Answer kind g tokens from) → Answer kind a tokens mid → Answer kind g tokens from
   turn_step a b tokens from mid k fits r more (accepted x to p) =
-      let e1 = and-right (is_ll1 a) _ fits.ll1 in
-      let e2 = and-right (is_ll1 b) _ e1 in
-      more (λ xs. k (x ∷ xs)) to (reads (and-left (is_ll1 a) _ fits.ll1) (and-left (not (nullable a)) _ e2) fits.refs.0 p) (turn_next r p)
+      let e1 = and-right (is_predictive a) _ fits.predictive in
+      let e2 = and-right (is_predictive b) _ e1 in
+      more (λ xs. k (x ∷ xs)) to (reads (and-left (is_predictive a) _ fits.predictive) (and-left (not (nullable a)) _ e2) fits.refs.0 p) (turn_next r p)
   turn_step a b tokens from mid k fits r more (refused to p) =
       elim (same_number mid to) [
         | inl f ↦ accepted (k []) mid (done r (turn_absent fits (absent (subst (λ n. Refuses kind a tokens mid n) (sym f) p))))
@@ -133,8 +115,8 @@ module _ {T : Type 0} {kind : T → ℕ} where
   chain_step : {X Y : Type 0} (a : Grammar T X) (b : Grammar T Y) (allows : X → Bool) (build : X → Y → X) (tokens : List T) (from mid : ℕ) (sum : X) (ok : Bool) → ok ≡ allows sum → Fits kind (many b) → Building kind a b allows build tokens from sum mid → ((sum : X) (to : ℕ) → length (drop to tokens) < length (drop mid tokens) → Building kind a b allows build tokens from sum to → Answer kind (chain a b allows build) tokens from) → Answer kind b tokens mid → Answer kind (chain a b allows build) tokens from
   chain_step a b allows build tokens from mid sum false e fits r more p = accepted sum mid (chain_full r (sym e))
   chain_step a b allows build tokens from mid sum true e fits r more (accepted z to p) =
-      let f = and-right (is_ll1 b) _ fits.ll1 in
-      more (build sum z) to (reads (and-left (is_ll1 b) _ fits.ll1) (and-left (not (nullable b)) _ f) fits.refs p) (chain_next r (sym e) p)
+      let f = and-right (is_predictive b) _ fits.predictive in
+      more (build sum z) to (reads (and-left (is_predictive b) _ fits.predictive) (and-left (not (nullable b)) _ f) fits.refs p) (chain_next r (sym e) p)
   chain_step a b allows build tokens from mid sum true e fits r more (refused to p) =
       elim (same_number mid to) [
         | inl f ↦ accepted sum mid (chain_done r (absent (subst (λ n. Refuses kind b tokens mid n) (sym f) p)))
@@ -161,8 +143,8 @@ module _ {T : Type 0} {kind : T → ℕ} where
 
   separated_step : {A X : Type 0} {g : Grammar T X} (a : Grammar T A) (seps : List ℕ) (tokens : List T) (from mid : ℕ) (k : List A → X) → Fits kind (separated a seps) → Reached kind g (separated a seps) k tokens from mid → ((k' : List A → X) (to : ℕ) → length (drop to tokens) < length (drop mid tokens) → Reached kind g (separated a seps) k' tokens from to → Answer kind g tokens from) → Answer kind a tokens mid → Answer kind g tokens from
   separated_step a seps tokens from mid k fits r more (accepted x to p) =
-      let e = and-right (is_ll1 a) _ fits.ll1 in
-      let l = reads (and-left (is_ll1 a) _ fits.ll1) (and-left (not (nullable a)) _ e) fits.refs p in
+      let e = and-right (is_predictive a) _ fits.predictive in
+      let l = reads (and-left (is_predictive a) _ fits.predictive) (and-left (not (nullable a)) _ e) fits.refs p in
       tail_step a seps tokens from to (λ xs. k (x ∷ xs)) (separated_next r p) (λ r'. more (λ xs. k (x ∷ xs)) (to + 1) (omega (arith, l, length-drop (to + 1) tokens, length-drop to tokens)) r')
   separated_step a seps tokens from mid k fits r more (refused to p) =
       elim (same_number mid to) [
@@ -174,31 +156,31 @@ module _ {T : Type 0} {kind : T → ℕ} where
   separated_from zero a seps tokens from mid k fits f l r = absurd (omega (arith, l))
   separated_from (suc fuel) a seps tokens from mid k fits f l r = separated_step a seps tokens from mid k fits r (λ k' to e r'. separated_from fuel a seps tokens from to k' fits f (omega (arith, e, l)) r') (f mid)
 
-  pub answer_of : {X : Type 0} (g : Grammar T X) → is_ll1 g ≡ true → RefsGood kind g → RefsDecided kind g → (tokens : List T) (from : ℕ) → Answer kind g tokens from
-  answer_of (token k) ll1 refs d tokens from = token_answer_at k tokens from (slice_get tokens from) refl
-  answer_of (one_of ks) ll1 refs d tokens from = one_of_answer ks tokens from
-  answer_of (seq a b) ll1 refs d tokens from =
-      let fits : Fits kind (seq a b) = record { ll1 = ll1; some = d.0; refs = refs } in
-      seq_answer a b tokens from fits (answer_of a (and-left (is_ll1 a) _ ll1) refs.0 d.1 tokens from) (λ mid. answer_of b (and-left (is_ll1 b) _ (and-right (is_ll1 a) _ ll1)) refs.1 d.2 tokens mid)
-  answer_of (map f a) ll1 refs d tokens from = map_answer f a tokens from (answer_of a ll1 refs d tokens from)
-  answer_of (with_tokens a) ll1 refs d tokens from = with_tokens_answer a tokens from (answer_of a ll1 refs d tokens from)
-  answer_of (alt a b) ll1 refs d tokens from =
-      alt_answer a b tokens from ll1 refs (answer_of a (and-left (is_ll1 a) _ ll1) refs.0 d.0 tokens from) (answer_of b (and-left (is_ll1 b) _ (and-right (is_ll1 a) _ ll1)) refs.1 d.1 tokens from)
-  answer_of (optional a) ll1 refs d tokens from = optional_answer a tokens from (answer_of a (and-left (is_ll1 a) _ ll1) refs d tokens from)
-  answer_of (many a) ll1 refs d tokens from =
-      let fits : Fits kind (many a) = record { ll1 = ll1; some = refl; refs = refs } in
-      many_from (length (drop from tokens) + 1) a tokens from from (λ xs. xs) fits (λ at. answer_of a (and-left (is_ll1 a) _ ll1) refs d tokens at) (omega arith) (begin tokens from fits)
-  answer_of (alternating a b) ll1 refs d tokens from =
-      let fits : Fits kind (alternating a b) = record { ll1 = ll1; some = refl; refs = refs } in
-      turns_from (length (drop from tokens) + 1) a b tokens from from (λ xs. xs) fits (λ at. answer_of a (and-left (is_ll1 a) _ ll1) refs.0 d.0 tokens at) (λ at. answer_of b (and-left (is_ll1 b) _ (and-right (is_ll1 a) _ ll1)) refs.1 d.1 tokens at) (omega arith) (begin tokens from fits)
-  answer_of (chain a b allows build) ll1 refs d tokens from =
-      let fits : Fits kind (chain a b allows build) = record { ll1 = ll1; some = d.0; refs = refs } in
-      let e1 = and-left (is_ll1 b && (not (nullable b) && disjoint (extends b) (first b))) _ (and-right (is_ll1 a) _ ll1) in
-      chain_answer a b allows build tokens from fits (answer_of a (and-left (is_ll1 a) _ ll1) refs.0 d.1 tokens from) (λ at. answer_of b (and-left (is_ll1 b) _ e1) refs.1 d.2 tokens at)
-  answer_of (separated a seps) ll1 refs d tokens from =
-      let fits : Fits kind (separated a seps) = record { ll1 = ll1; some = refl; refs = refs } in
-      separated_from (length (drop from tokens) + 1) a seps tokens from from (λ xs. xs) fits (λ at. answer_of a (and-left (is_ll1 a) _ ll1) refs d tokens at) (omega arith) (begin tokens from fits)
-  answer_of (separated_tail a seps) ll1 refs d tokens from =
-      let fits : Fits kind (separated_tail a seps) = record { ll1 = ll1; some = refl; refs = refs } in
-      tail_step a seps tokens from from (λ xs. xs) (begin tokens from fits) (λ r. separated_from (length (drop (from + 1) tokens) + 1) a seps tokens from (from + 1) (λ xs. xs) (record { ll1 = ll1; some = refl; refs = refs }) (λ at. answer_of a (and-left (is_ll1 a) _ ll1) refs d tokens at) (omega arith) r)
-  answer_of (ref n) ll1 refs d tokens from = d tokens from
+  pub answer_of : {X : Type 0} (g : Grammar T X) → is_predictive g ≡ true → RefsGood kind g → RefsDecided kind g → (tokens : List T) (from : ℕ) → Answer kind g tokens from
+  answer_of (token k) predictive refs d tokens from = token_answer_at k tokens from (slice_get tokens from) refl
+  answer_of (one_of ks) predictive refs d tokens from = one_of_answer ks tokens from
+  answer_of (seq a b) predictive refs d tokens from =
+      let fits : Fits kind (seq a b) = record { predictive = predictive; some = d.0; refs = refs } in
+      seq_answer a b tokens from fits (answer_of a (and-left (is_predictive a) _ predictive) refs.0 d.1 tokens from) (λ mid. answer_of b (and-left (is_predictive b) _ (and-right (is_predictive a) _ predictive)) refs.1 d.2 tokens mid)
+  answer_of (map f a) predictive refs d tokens from = map_answer f a tokens from (answer_of a predictive refs d tokens from)
+  answer_of (with_tokens a) predictive refs d tokens from = with_tokens_answer a tokens from (answer_of a predictive refs d tokens from)
+  answer_of (alt a b) predictive refs d tokens from =
+      either_answer a b tokens from (answer_of a (and-left (is_predictive a) _ predictive) refs.0 d.0 tokens from) (answer_of b (and-left (is_predictive b) _ (and-right (is_predictive a) _ predictive)) refs.1 d.1 tokens from)
+  answer_of (optional a) predictive refs d tokens from = optional_answer a tokens from (answer_of a (and-left (is_predictive a) _ predictive) refs d tokens from)
+  answer_of (many a) predictive refs d tokens from =
+      let fits : Fits kind (many a) = record { predictive = predictive; some = refl; refs = refs } in
+      many_from (length (drop from tokens) + 1) a tokens from from (λ xs. xs) fits (λ at. answer_of a (and-left (is_predictive a) _ predictive) refs d tokens at) (omega arith) (begin tokens from fits)
+  answer_of (alternating a b) predictive refs d tokens from =
+      let fits : Fits kind (alternating a b) = record { predictive = predictive; some = refl; refs = refs } in
+      turns_from (length (drop from tokens) + 1) a b tokens from from (λ xs. xs) fits (λ at. answer_of a (and-left (is_predictive a) _ predictive) refs.0 d.0 tokens at) (λ at. answer_of b (and-left (is_predictive b) _ (and-right (is_predictive a) _ predictive)) refs.1 d.1 tokens at) (omega arith) (begin tokens from fits)
+  answer_of (chain a b allows build) predictive refs d tokens from =
+      let fits : Fits kind (chain a b allows build) = record { predictive = predictive; some = d.0; refs = refs } in
+      let e1 = and-left (is_predictive b && (not (nullable b) && disjoint (extends b) (first b))) _ (and-right (is_predictive a) _ predictive) in
+      chain_answer a b allows build tokens from fits (answer_of a (and-left (is_predictive a) _ predictive) refs.0 d.1 tokens from) (λ at. answer_of b (and-left (is_predictive b) _ e1) refs.1 d.2 tokens at)
+  answer_of (separated a seps) predictive refs d tokens from =
+      let fits : Fits kind (separated a seps) = record { predictive = predictive; some = refl; refs = refs } in
+      separated_from (length (drop from tokens) + 1) a seps tokens from from (λ xs. xs) fits (λ at. answer_of a (and-left (is_predictive a) _ predictive) refs d tokens at) (omega arith) (begin tokens from fits)
+  answer_of (separated_tail a seps) predictive refs d tokens from =
+      let fits : Fits kind (separated_tail a seps) = record { predictive = predictive; some = refl; refs = refs } in
+      tail_step a seps tokens from from (λ xs. xs) (begin tokens from fits) (λ r. separated_from (length (drop (from + 1) tokens) + 1) a seps tokens from (from + 1) (λ xs. xs) (record { predictive = predictive; some = refl; refs = refs }) (λ at. answer_of a (and-left (is_predictive a) _ predictive) refs d tokens at) (omega arith) r)
+  answer_of (ref n) predictive refs d tokens from = d tokens from

@@ -5,7 +5,13 @@ pub mod Cutting
 pub mod GoodLists
 pub mod GoodTurns
 pub mod GoodChain
+pub mod GoodEither
+pub mod Seconds
 pub mod Fits
+pub mod Sames
+pub mod Further
+pub mod Opens
+pub mod Chosen
 pub mod Walk
 pub mod Steps
 pub mod ListSteps
@@ -14,7 +20,12 @@ pub mod ChainSteps
 pub mod Choices
 pub mod Sealed
 pub mod Answering
+pub mod Throughout
+pub mod Rows
 pub mod LongestLemmas
 pub mod Deciding
 pub mod BrokenLemmas
 pub mod Nesting
+pub mod StepsGood
+pub mod StepsWalk
+pub mod StepsDecided

@@ -19,9 +19,9 @@ longest_by {T = T} kind g w rest stuck v (s, e) (more, x, i) = go (cuts_of w res
     go (longer t r f h) = absurd (stuck t (r ++ s) (r ++ more) x h (subst (λ l. Spells kind g l x) (ap (λ l. l ++ more) f ∙ append_assoc w (t ∷ r) more) i))
     go (shorter t r f h) = omega (arith, ap length f, length-append v (t ∷ r))
 
-module _ {T : Type 0} {kind : T → ℕ} where
-  pub answers_longest : {X : Type 0} (g : Grammar T X) (tokens : List T) (from : ℕ) (r : Result (X × ℕ) Halt) → Fits kind g → Parses kind g tokens from r → AnswersLongest kind g tokens from r
-  answers_longest g tokens from (Ok q) fits p = (
+module _ {T : Type 0} where
+  pub answers_longest_of : {X : Type 0} (kind : T → ℕ) (g : Grammar T X) (tokens : List T) (from : ℕ) (r : Result (X × ℕ) Halt) → ((w : List T) × (x : X) × Spells kind g w x) → Parses kind g tokens from r → AnswersLongest kind g tokens from r
+  answers_longest_of kind g tokens from (Ok q) f p = (
     p.w,
     record {
       begins = (drop q.1 tokens, p.splits);
@@ -31,7 +31,7 @@ module _ {T : Type 0} {kind : T → ℕ} where
     p.spelled,
     p.place,
   )
-  answers_longest {X = X} g tokens from (Err (Unexpected to)) fits p = (
+  answers_longest_of {X = X} kind g tokens from (Err (Unexpected to)) f p = (
     p.w,
     record {
       begins = (drop to tokens, p.splits);
@@ -43,6 +43,10 @@ module _ {T : Type 0} {kind : T → ℕ} where
   )
     where
       viable : ((p.w ≡ []) ⊎ ((more : List T) × (x : X) × Spells kind g (p.w ++ more) x)) → IsViable kind g p.w
-      viable (inl e) = let f = (good_of g fits.ll1 fits.refs).spelling fits.some in (f.0, f.1, subst (λ l. Spells kind g (l ++ f.0) f.1) (sym e) f.2)
+      viable (inl e) = (f.0, f.1, subst (λ l. Spells kind g (l ++ f.0) f.1) (sym e) f.2)
       viable (inr i) = i
-  answers_longest g tokens from (Err NoMemory) fits p = tt
+  answers_longest_of kind g tokens from (Err NoMemory) f p = tt
+
+module _ {T : Type 0} {kind : T → ℕ} where
+  pub answers_longest : {X : Type 0} (g : Grammar T X) (tokens : List T) (from : ℕ) (r : Result (X × ℕ) Halt) → Fits kind g → Parses kind g tokens from r → AnswersLongest kind g tokens from r
+  answers_longest g tokens from r fits p = answers_longest_of kind g tokens from r ((good_of g fits.predictive fits.refs).spelling fits.some) p

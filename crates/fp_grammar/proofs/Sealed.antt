@@ -1,23 +1,18 @@
 -- A sealed production keeps what its sets promise, and is parsed as what is under the seal.
-use Rattle.std.proofs.Common.{◌≡◌, ℕ, true, not, List, [], ◌∷◌, sym, subst, inl, inr}
-use Rattle.fp_grammar.specs.Grammar.{Grammar, Among}
-use Rattle.fp_grammar.specs.Sets.{nullable, first, extends, is_ll1, member, subset}
+use Rattle.std.proofs.Common.{◌≡◌, ℕ, true, not, List}
+use Rattle.fp_grammar.specs.Grammar.{Grammar}
+use Rattle.fp_grammar.specs.Sets.{nullable, first, extends, is_predictive, subset}
 use Rattle.fp_grammar.specs.Seal.{seal}
 use Rattle.fp_grammar.specs.Parses.{Accepts, Refuses}
-use Rattle.fp_grammar.proofs.Lists.{and-left, and-right, not-true, Among-from_member}
+use Rattle.fp_grammar.proofs.Lists.{not-true, Among-subset}
 use Rattle.fp_grammar.specs.Promises.{RefsGood}
 use Rattle.fp_grammar.proofs.Fits.{good_of}
 
-Among-subset : (k : ℕ) (js ks : List ℕ) → subset js ks ≡ true → Among k js → Among k ks
-Among-subset k [] ks e h = absurd h
-Among-subset k (j ∷ js) ks e (inl f) = subst (λ n. Among n ks) (sym f) (Among-from_member j ks (and-left (member j ks) _ e))
-Among-subset k (j ∷ js) ks e (inr h) = Among-subset k js ks (and-right (member j ks) _ e) h
-
 module _ {T : Type 0} {kind : T → ℕ} where
   -- the sets of a seal need only hold those that are computed
-  pub sealed_good : {X : Type 0} (g : Grammar T X) (fs es : List ℕ) → is_ll1 g ≡ true → not (nullable g) ≡ true → subset (first g) fs ≡ true → subset (extends g) es ≡ true → RefsGood kind g → RefsGood kind (seal kind g fs es)
-  sealed_good g fs es ll1 not_null f e refs =
-      let good = good_of g ll1 refs in
+  pub sealed_good : {X : Type 0} (g : Grammar T X) (fs es : List ℕ) → is_predictive g ≡ true → not (nullable g) ≡ true → subset (first g) fs ≡ true → subset (extends g) es ≡ true → RefsGood kind g → RefsGood kind (seal kind g fs es)
+  sealed_good g fs es predictive not_null f e refs =
+      let good = good_of g predictive refs in
       record {
         spelling = good.spelling;
         empty = λ x s. absurd (not-true (nullable g) not_null (good.empty x s));

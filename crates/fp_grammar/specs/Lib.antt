@@ -6,3 +6,7 @@ pub mod Longest
 pub mod Broken
 pub mod Parses
 pub mod Decided
+pub mod Looks
+pub mod Same
+pub mod Throughout
+pub mod Steps

@@ -2,7 +2,7 @@
 use Rattle.std.specs.Prelude.{◌≡◌, ℕ, Bool, true, false, List, [], ◌∷◌, ◌++◌}
 use Rattle.fp_grammar.specs.Grammar.{Language, Grammar, Among}
 use Rattle.fp_grammar.specs.Grammar.Grammar.{token, one_of, seq, map, with_tokens, alt, optional, many, alternating, chain, separated, separated_tail, ref}
-use Rattle.fp_grammar.specs.Sets.{is_ll1, productive}
+use Rattle.fp_grammar.specs.Sets.{is_predictive, productive}
 
 -- the sets hold what they are to hold, and a token list spells at most one node
 pub record IsGood {T X : Type 0} (kind : T → ℕ) (language : Language T X) (null some : Bool) (begins goes_on : List ℕ) : Type 0 where
@@ -32,8 +32,8 @@ RefsGood kind (separated a seps) = RefsGood kind a
 RefsGood kind (separated_tail a seps) = RefsGood kind a
 RefsGood kind (ref n) = IsGood kind n.spells false n.productive n.first n.extends
 
--- what a parser with one token of lookahead rests on
+-- what a parser rests on that looks at the next token, and in a choice at the next two
 pub record Fits {T X : Type 0} (kind : T → ℕ) (g : Grammar T X) : Type 0 where
-  pub ll1 : is_ll1 g ≡ true
+  pub predictive : is_predictive g ≡ true
   pub some : productive g ≡ true
   pub refs : RefsGood kind g

@@ -1,4 +1,4 @@
--- The sets of a grammar, computed by recursion on it, and the test that one token of lookahead is enough.
+-- The sets of a grammar, computed by recursion on it, and the test that the next token, in a choice the next two, are enough.
 use Rattle.std.specs.Prelude.{ℕ, Bool, true, false, not, List, [], ◌∷◌, ◌++◌, nat_eq, ◌&&◌, ◌||◌}
 use Rattle.fp_grammar.specs.Grammar.{Grammar}
 use Rattle.fp_grammar.specs.Grammar.Grammar.{token, one_of, seq, map, with_tokens, alt, optional, many, alternating, chain, separated, separated_tail, ref}
@@ -92,18 +92,80 @@ extends (separated a seps) = extends a ++ (first a ++ seps)
 extends (separated_tail a seps) = extends a ++ (first a ++ seps)
 extends (ref n) = n.extends
 
--- one token of lookahead is enough
-abbrev pub is_ll1 : {T X : Type 0} → Grammar T X → Bool
-is_ll1 (token k) = true
-is_ll1 (one_of ks) = true
-is_ll1 (seq a b) = is_ll1 a && (is_ll1 b && disjoint (extends a) (first b))
-is_ll1 (map f a) = is_ll1 a
-is_ll1 (with_tokens a) = is_ll1 a
-is_ll1 (alt a b) = is_ll1 a && (is_ll1 b && (not (nullable a) && (not (nullable b) && disjoint (first a) (first b))))
-is_ll1 (optional a) = is_ll1 a && not (nullable a)
-is_ll1 (many a) = is_ll1 a && (not (nullable a) && disjoint (extends a) (first a))
-is_ll1 (alternating a b) = is_ll1 a && (is_ll1 b && (not (nullable a) && (not (nullable b) && (disjoint (extends a) (first b) && disjoint (extends b) (first a)))))
-is_ll1 (chain a b allows build) = is_ll1 a && ((is_ll1 b && (not (nullable b) && disjoint (extends b) (first b))) && disjoint (extends a) (first b))
-is_ll1 (separated a seps) = is_ll1 a && (not (nullable a) && disjoint (extends a) seps)
-is_ll1 (separated_tail a seps) = is_ll1 a && (not (nullable a) && disjoint (extends a) seps)
-is_ll1 (ref n) = true
+-- the numbers of the first that are in the second too
+abbrev pub shared : List ℕ → List ℕ → List ℕ
+shared [] ks = []
+shared (j ∷ js) ks = when (member j ks) (j ∷ []) ++ shared js ks
+
+-- whether the first two tokens of its spellings can be told from the grammar: no list and no nonterminal stands there
+abbrev pub is_plain : {T X : Type 0} → Grammar T X → Bool
+is_plain (token k) = true
+is_plain (one_of ks) = true
+is_plain (seq a b) = is_plain a && (not (nullable a) || is_plain b)
+is_plain (map f a) = is_plain a
+is_plain (with_tokens a) = is_plain a
+is_plain (alt a b) = is_plain a && is_plain b
+is_plain (optional a) = is_plain a
+is_plain (many a) = false
+is_plain (alternating a b) = false
+is_plain (chain a b allows build) = false
+is_plain (separated a seps) = false
+is_plain (separated_tail a seps) = false
+is_plain (ref n) = false
+
+-- whether one token of one of these kinds is a spelling
+abbrev pub alone : {T X : Type 0} → List ℕ → Grammar T X → Bool
+alone ks (token k) = member k ks
+alone ks (one_of js) = not (disjoint js ks)
+alone ks (seq a b) = (alone ks a && nullable b) || (nullable a && alone ks b)
+alone ks (map f a) = alone ks a
+alone ks (with_tokens a) = alone ks a
+alone ks (alt a b) = alone ks a || alone ks b
+alone ks (optional a) = alone ks a
+alone ks (many a) = true
+alone ks (alternating a b) = true
+alone ks (chain a b allows build) = true
+alone ks (separated a seps) = true
+alone ks (separated_tail a seps) = true
+alone ks (ref n) = true
+
+-- the kinds of the second tokens of spellings that begin with a token of one of these kinds
+abbrev pub seconds : {T X : Type 0} → List ℕ → Grammar T X → List ℕ
+seconds ks (token k) = []
+seconds ks (one_of js) = []
+seconds ks (seq a b) = (seconds ks a ++ when (alone ks a) (first b)) ++ when (nullable a) (seconds ks b)
+seconds ks (map f a) = seconds ks a
+seconds ks (with_tokens a) = seconds ks a
+seconds ks (alt a b) = seconds ks a ++ seconds ks b
+seconds ks (optional a) = seconds ks a
+seconds ks (many a) = []
+seconds ks (alternating a b) = []
+seconds ks (chain a b allows build) = []
+seconds ks (separated a seps) = []
+seconds ks (separated_tail a seps) = []
+seconds ks (ref n) = []
+
+-- whether the second token tells the two apart, behind a first one of each of these kinds
+abbrev pub apart_behind : {T X Y : Type 0} → List ℕ → Grammar T X → Grammar T Y → Bool
+apart_behind [] a b = true
+apart_behind (k ∷ ks) a b = not (alone (k ∷ []) a) && (not (alone (k ∷ []) b) && (disjoint (seconds (k ∷ []) a) (seconds (k ∷ []) b) && apart_behind ks a b))
+
+-- whether the first two tokens tell the two apart
+abbrev pub apart : {T X Y : Type 0} → Grammar T X → Grammar T Y → Bool
+apart a b = disjoint (first a) (first b) || (is_plain a && (is_plain b && apart_behind (shared (first a) (first b)) a b))
+
+-- two tokens of lookahead are enough where a choice stands, and one elsewhere
+abbrev pub is_predictive : {T X : Type 0} → Grammar T X → Bool
+is_predictive (token k) = true
+is_predictive (one_of ks) = true
+is_predictive (seq a b) = is_predictive a && (is_predictive b && disjoint (extends a) (first b))
+is_predictive (map f a) = is_predictive a
+is_predictive (with_tokens a) = is_predictive a
+is_predictive (alt a b) = is_predictive a && (is_predictive b && (not (nullable a) && (not (nullable b) && apart a b)))
+is_predictive (optional a) = is_predictive a && not (nullable a)
+is_predictive (many a) = is_predictive a && (not (nullable a) && disjoint (extends a) (first a))
+is_predictive (alternating a b) = is_predictive a && (is_predictive b && (not (nullable a) && (not (nullable b) && (disjoint (extends a) (first b) && disjoint (extends b) (first a)))))
+is_predictive (chain a b allows build) = is_predictive a && ((is_predictive b && (not (nullable b) && disjoint (extends b) (first b))) && disjoint (extends a) (first b))
+is_predictive (separated a seps) = is_predictive a && (not (nullable a) && disjoint (extends a) seps)
+is_predictive (separated_tail a seps) = is_predictive a && (not (nullable a) && disjoint (extends a) seps)
+is_predictive (ref n) = true
