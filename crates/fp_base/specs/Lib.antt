@@ -1,4 +1,5 @@
 pub mod formers
+pub mod Formats
 pub mod Least
 pub mod Places
 pub mod Rendered

@@ -18,6 +18,7 @@ pub use format::{Format, Piece};
 pub use least::{earlier, lesser, refusal_at, refusal_if, stands_no_later};
 pub use memory::NoMemory;
 pub use place::{Place, Span, place_after, place_of};
+pub use print::{push_quoted, push_value};
 pub use refusal::{PathStop, Refusal, Stop};
 pub use row::Row;
 pub use rule::Rule;

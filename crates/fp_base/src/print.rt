@@ -15,13 +15,14 @@ impl Value {
         ensures err { OnErr result (out.new ≡ out.old) }
     {
         let mut text = Row::new(alloc);
-        write_value(self, &mut text)?;
+        push_value(self, &mut text)?;
         out.append(text)
     }
 }
 
+/// Appends the value's text. After want of memory a front of it may stand there.
 #[cycle(write)]
-fn write_value(value: &Value, out: &mut Row<u8>) -> Result<(), NoMemory>
+pub fn push_value(value: &Value, out: &mut Row<u8>) -> Result<(), NoMemory>
     ensures { OnOk result (out.new ≡ out.old ++ value_text value.now) }
 {
     match value {
@@ -31,16 +32,16 @@ fn write_value(value: &Value, out: &mut Row<u8>) -> Result<(), NoMemory>
         }
         Value::Bool(true) => out.extend_from_slice(b"true"),
         Value::Bool(false) => out.extend_from_slice(b"false"),
-        Value::Text(text) => write_quoted(text.as_bytes(), out),
+        Value::Text(text) => push_quoted(text.as_bytes(), out),
         Value::Enumerated { constant, .. } => out.extend_from_slice(constant.as_bytes()),
         Value::Array(items) => {
             out.push(b'[')?;
-            write_items(items.as_slice(), out)?;
+            push_items(items.as_slice(), out)?;
             out.push(b']')
         }
         Value::Struct(parts) => {
             out.push(b'{')?;
-            write_parts(parts.as_slice(), out)?;
+            push_parts(parts.as_slice(), out)?;
             out.push(b'}')
         }
         Value::Opaque => out.extend_from_slice(b"opaque"),
@@ -48,20 +49,20 @@ fn write_value(value: &Value, out: &mut Row<u8>) -> Result<(), NoMemory>
 }
 
 #[cycle(write)]
-fn write_items(items: &[Value], out: &mut Row<u8>) -> Result<(), NoMemory>
+fn push_items(items: &[Value], out: &mut Row<u8>) -> Result<(), NoMemory>
     ensures { OnOk result (out.new ≡ out.old ++ joined (map value_text items.now)) }
 {
     for (at, item) in items.iter().enumerate() {
         if at > 0 {
             out.extend_from_slice(b", ")?;
         }
-        write_value(item, out)?;
+        push_value(item, out)?;
     }
     Ok(())
 }
 
 #[cycle(write)]
-fn write_parts(parts: &[Part], out: &mut Row<u8>) -> Result<(), NoMemory>
+fn push_parts(parts: &[Part], out: &mut Row<u8>) -> Result<(), NoMemory>
     ensures { OnOk result (out.new ≡ out.old ++ joined (map part_text parts.now)) }
 {
     for (at, part) in parts.iter().enumerate() {
@@ -70,22 +71,23 @@ fn write_parts(parts: &[Part], out: &mut Row<u8>) -> Result<(), NoMemory>
         }
         out.extend_from_slice(part.name.as_bytes())?;
         out.extend_from_slice(b" = ")?;
-        write_value(&part.value, out)?;
+        push_value(&part.value, out)?;
     }
     Ok(())
 }
 
-fn write_quoted(text: &[u8], out: &mut Row<u8>) -> Result<(), NoMemory>
+/// Appends a text in quotes. After want of memory a front of it may stand there.
+pub fn push_quoted(text: &[u8], out: &mut Row<u8>) -> Result<(), NoMemory>
     ensures { OnOk result (out.new ≡ out.old ++ quoted text.now) }
 {
     out.push(b'"')?;
     for byte in text {
-        write_escaped(*byte, out)?;
+        push_escaped(*byte, out)?;
     }
     out.push(b'"')
 }
 
-fn write_escaped(byte: u8, out: &mut Row<u8>) -> Result<(), NoMemory>
+fn push_escaped(byte: u8, out: &mut Row<u8>) -> Result<(), NoMemory>
     ensures { OnOk result (out.new ≡ out.old ++ escaped byte) }
 {
     if byte == b'"' || byte == b'\\' {
