@@ -10,12 +10,16 @@ use Rattle.fp_tables.specs.declared.machine.Machine.{Machine}
 
 abbrev pub tests_of_outlines : List (Machine → Bool)
 tests_of_outlines =
-    machines.machine_names_differ ∷ (λ x. machines.siblings_differ x.vertices) ∷ machines.is_machine_of_size ∷ (λ x. positions.are_in_preorder x.vertices) ∷ []
+    machines.machine_names_differ
+    ∷ (λ x. machines.siblings_differ x.vertices)
+    ∷ machines.is_machine_of_size
+    ∷ (λ x. if_some (λ (s : Step). is_some s.target) x.initial && list_all machines.leads_somewhere x.vertices)
+    ∷ (λ x. positions.are_in_preorder x.vertices)
+    ∷ []
 
 abbrev pub tests_of_bodies : List TypeDef → List (Machine → Bool)
 tests_of_bodies types =
     (λ x. machines.has_no_ring x.vertices)
-    ∷ (λ x. if_some (λ (s : Step). is_some s.target) x.initial && list_all machines.leads_somewhere x.vertices)
     ∷ (λ x. is_some x.initial)
     ∷ (λ x. all_from (machines.has_its_initial x.vertices) 0 x.vertices)
     ∷ (λ x. all_from (machines.stays_inside x.vertices) 0 x.vertices)

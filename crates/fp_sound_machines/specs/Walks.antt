@@ -1,32 +1,9 @@
--- What the tests of soundness work with.
-use Rattle.std.specs.Prelude.{ℕ, Bool, true, not, ◌+◌, ◌&&◌, max, nat_le, List, [], ◌∷◌, Option, None, Some}
-use Rattle.fp_tables.specs.Lists.{some_and}
-use Rattle.fp_tables.specs.Instances.{largest, local_ids}
-use Rattle.fp_tables.specs.declared.component.Component.{Component}
+-- What the tests of machines work with.
+use Rattle.std.specs.Prelude.{ℕ, Bool, true, not, List, Option, None, Some}
 use Rattle.fp_tables.specs.declared.machine.Node.{Node}
 use Rattle.fp_tables.specs.declared.machine.Node.TheVariants as node
 use Rattle.fp_tables.specs.declared.machine.Vertex.{Vertex}
 use denote.Ref.{Bor}
-
--- ---- ranges of ids
-
-abbrev pub larger : Option ℕ → Option ℕ → Option ℕ
-larger None q = q
-larger (Some m) None = Some m
-larger (Some m) (Some n) = Some (max m n)
-
--- the largest opcode or id of a component
-abbrev pub top_of : Component → Option ℕ
-top_of c = largest (local_ids c)
-
--- a base id and the largest local id beside it, as a range
-abbrev pub ends_of : ℕ × ℕ → ℕ × ℕ
-ends_of r = (r.0, r.0 + r.1)
-
--- each range begins above where the one before it ends
-abbrev pub rise_above : Option ℕ → List (ℕ × ℕ) → Bool
-rise_above last [] = true
-rise_above last (r ∷ rs) = not (some_and (λ l. nat_le r.0 l) last) && rise_above (Some (r.0 + r.1)) rs
 
 -- ---- names of vertices
 

@@ -18,8 +18,9 @@ fn outline_is_sound(alloc: Global, machine: &Machine) -> Result<bool, NoMemory>
     let names = machine_names_differ(alloc, machine)?;
     let siblings = siblings_differ(alloc, machine.vertices.as_slice())?;
     let size = is_machine_of_size(machine);
+    let leads = machine_leads_somewhere(machine);
     let order = are_in_preorder(machine.vertices.as_slice());
-    Ok(names & siblings & size & order)
+    Ok(names & siblings & size & leads & order)
 }
 
 fn body_is_sound(alloc: Global, types: &[TypeDef], machine: &Machine) -> Result<bool, NoMemory>
@@ -27,7 +28,6 @@ fn body_is_sound(alloc: Global, types: &[TypeDef], machine: &Machine) -> Result<
     ensures { IfOk result (λ sound. sound ≡ all_pass (tests_of_bodies types.now) machine.now) }
 {
     let vertices = machine.vertices.as_slice();
-    let leads = machine_leads_somewhere(machine);
     let begins = machine.initial.is_some();
     let states = states_begin(alloc, vertices)?;
     let signals = all_signals_differ(alloc, vertices)?;
@@ -35,7 +35,7 @@ fn body_is_sound(alloc: Global, types: &[TypeDef], machine: &Machine) -> Result<
         Some(found) => {
             let inside = initials_stay_inside(vertices, found.as_slice());
             let given = values_are_given(types, machine, found.as_slice());
-            Ok(leads & begins & states & inside & signals & given)
+            Ok(begins & states & inside & signals & given)
         }
         None => Ok(false),
     }

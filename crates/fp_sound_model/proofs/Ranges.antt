@@ -9,7 +9,7 @@ use Rattle.std.proofs.lemmas.Map.Keys.{IsDistinct-IsPermutation}
 use Rattle.std.proofs.lemmas.Bool.Decides.{nat_tests, same_from_decides}
 use Rattle.fp_tables.specs.Lists.{apart}
 use Rattle.fp_tables.specs.Instances.{largest, overlap}
-use Rattle.fp_sound_machines.specs.Walks.{larger, ends_of, rise_above}
+use Rattle.fp_sound_model.specs.IdRanges.{larger, ends_of, rise_above}
 use Rattle.fp_tables.proofs.Differing.{apart-Decides, apart-map}
 
 -- ---- the largest of several lists

@@ -3,7 +3,7 @@ use Rattle.std.proofs.Common.{◌≡◌, ℕ, zero, suc, ◌+◌, Bool, true, fa
 use Rattle.std.proofs.lemmas.Bool.Decides.{Decides-eqb}
 use Rattle.std.specs.List.{list_any, slice_get}
 use Rattle.fp_tables.specs.Lists.{all_from, some_and}
-use Rattle.fp_tables.specs.Types.{form_at, kinds_in, begins_chain, is_named, is_use, Leads, once, again}
+use Rattle.fp_tables.specs.Types.{form_at, kinds_in, uses_constants, is_last, begins_chain, is_named, is_use, Leads, once, again}
 use Rattle.fp_tables.specs.declared.kind.Kind.{Kind}
 use Rattle.fp_tables.specs.declared.kind.Kind.TheVariants.{Named}
 use Rattle.fp_tables.specs.declared.kind.Form.{Form}
@@ -18,10 +18,14 @@ any_more f g more (x ∷ xs) h = go (f x) (g x) (more x) (any_more f g more xs) 
     go false true s rest h = refl
     go false false s rest h = rest h
 
-some_more : (p q : Kind → Bool) → ((k : Kind) → p k ≡ true → q k ≡ true) → (o : Option Form) →
-    some_and (λ f. list_any p (kinds_in f)) o ≡ true → some_and (λ f. list_any q (kinds_in f)) o ≡ true
-some_more p q more None h = absurd (cc)
-some_more p q more (Some f) h = any_more p q more (kinds_in f) h
+some_more : (p q : Kind → Bool) (last : Form → Bool) → ((k : Kind) → p k ≡ true → q k ≡ true) → (o : Option Form) →
+    some_and (λ f. list_any p (kinds_in f)) o ≡ true → some_and (λ f. last f || list_any q (kinds_in f)) o ≡ true
+some_more p q last more None h = absurd (cc)
+some_more p q last more (Some f) h = either (last f) (list_any q (kinds_in f)) (any_more p q more (kinds_in f) h)
+  where
+    either : (a b : Bool) → b ≡ true → (a || b) ≡ true
+    either true b h = refl
+    either false b h = h
 
 some_is : (p : Form → Bool) (o : Option Form) → some_and p o ≡ true → is_some o ≡ true
 some_is p None h = absurd (cc)
@@ -49,7 +53,7 @@ module _ (types : List TypeDef) where
 
   step : (n i j : ℕ) → is_use types i j → begins_chain types n (Named j) ≡ true → begins_chain types (suc n) (Named i) ≡ true
   unfolding begins_chain
-  step n i j u h = some_more (is_named j) (begins_chain types n) (at_name (begins_chain types n) j h) (form_at types i) u
+  step n i j u h = some_more (is_named j) (begins_chain types n) (λ f. is_last n && uses_constants f) (at_name (begins_chain types n) j h) (form_at types i) u
 
   begins_none : (i j : ℕ) → is_use types i j → begins_chain types zero (Named i) ≡ true
   unfolding begins_chain
@@ -57,8 +61,9 @@ module _ (types : List TypeDef) where
 
   shorter : (n : ℕ) (k : Kind) → begins_chain types (suc n) k ≡ true → begins_chain types n k ≡ true
   unfolding begins_chain
-  shorter zero (Named i) h = some_is (λ f. list_any (begins_chain types zero) (kinds_in f)) (form_at types i) h
-  shorter (suc n) (Named i) h = some_more (begins_chain types (suc n)) (begins_chain types n) (shorter n) (form_at types i) h
+  shorter zero (Named i) h = some_is (λ f. uses_constants f || list_any (begins_chain types zero) (kinds_in f)) (form_at types i) h
+  shorter (suc n) (Named i) h =
+      some_more (begins_chain types (suc n)) (begins_chain types n) (λ f. is_last n && uses_constants f) (shorter n) (form_at types i) h
   shorter n _ h = absurd (cc)
 
   longer : (n i j : ℕ) → Leads types i j → begins_chain types n (Named j) ≡ true → begins_chain types (suc n) (Named i) ≡ true

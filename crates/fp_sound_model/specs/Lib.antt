@@ -1,3 +1,2 @@
+pub mod IdRanges
 pub mod Parts
-pub mod SoundParts
-pub mod SoundStructure

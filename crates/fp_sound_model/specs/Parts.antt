@@ -1,7 +1,7 @@
--- The parts of a sound model, in the groups that they are tested in.
-use Rattle.std.specs.Prelude.{Bool, true, not, ◌&&◌, ◌||◌, List, [], ◌∷◌, map}
+-- The sentences on a sound model, in the groups that they are tested in.
+use Rattle.std.specs.Prelude.{◌≡◌, ℕ, Option, None, Some, slice_get, Bool, true, not, ◌&&◌, ◌||◌, List, [], ◌∷◌, map}
 use Rattle.std.specs.List.{list_all}
-use Rattle.fp_tables.specs.Lists.{all_pass}
+use Rattle.fp_tables.specs.Lists.{all_hold, all_pass}
 use Rattle.fp_tables.specs.Names.{texts_differ}
 use Rattle.fp_tables.specs.Positions as positions
 use Rattle.fp_tables.specs.Chains.{chains_are_short}
@@ -9,6 +9,7 @@ use Rattle.fp_tables.specs.Types.{type_has_values, is_of_size}
 use Rattle.fp_tables.specs.Components as components
 use Rattle.fp_tables.specs.Instances as instances
 use Rattle.fp_tables.specs.Sound as sound
+use Rattle.fp_sound_machines.specs.SoundMachine.{is_sound_machine}
 use Rattle.fp_tables.specs.declared.kind.Constant.{Constant}
 use Rattle.fp_tables.specs.declared.kind.TypeDef.{TypeDef}
 use Rattle.fp_tables.specs.declared.kind.PortDef.{PortDef}
@@ -79,3 +80,19 @@ module _ (m : Model) where
       ∷ list_all (λ (p : PortDef). texts_differ (components.names_of p.formals)) m.ports
       ∷ list_all (instances.has_its_queue m) m.instances
       ∷ []
+
+  pub record PartsPass : Type 0 where
+    pub types : all_hold tests_of_types ≡ true
+    pub definitions : all_hold tests_of_definitions ≡ true
+    pub components : list_all (all_pass tests_of_component) m.components ≡ true
+
+  pub record StructurePasses : Type 0 where
+    pub positions : positions.positions_lie m ≡ true
+    pub ranges : instances.ranges_are_apart m ≡ true
+    pub numbers : list_all (instances.numbers_are_in_range m) m.instances ≡ true
+    pub machines : list_all (is_sound_machine m.types) m.machines ≡ true
+
+-- beside a topology, if there is one
+abbrev pub IsSoundBeside : Model → Option ℕ → Type 0
+IsSoundBeside m None = Unit {0}
+IsSoundBeside m (Some t) = sound.IsSoundAt m (slice_get m.topologies t)

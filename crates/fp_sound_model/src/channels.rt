@@ -7,8 +7,8 @@ ghost use Rattle.fp_tables.specs.declared.component.Channel.{Channel};
 ghost use Rattle.fp_tables.specs.declared.component.Param.{Param};
 
 use fp_base::NoMemory;
-use fp_sound_types::{has_kind, is_integer, is_of_size, numbers_differ};
-use fp_tables::{Channel, Component, Kind, Limit, Param, TypeDef};
+use fp_sound_types::{has_kind, is_integer, is_of_size};
+use fp_tables::{Channel, Component, Kind, Limit, Param, TypeDef, numbers_differ};
 use std::alloc::Global;
 
 /// The colours of the limits from above, and of those from below.

@@ -6,7 +6,6 @@ ghost use Rattle.fp_tables.specs.declared.component.Running.{Running};
 ghost use Rattle.fp_tables.specs.declared.component.Command.{Command};
 
 use fp_base::NoMemory;
-use fp_sound_types!::names;
 use fp_tables::{Command, Component, Port, Role, Running, Way};
 use std::alloc::Global;
 
@@ -53,12 +52,12 @@ pub fn ports_are_of_size(ports: &[Port]) -> bool
 pub fn names_differ(alloc: Global, component: &Component) -> Result<bool, NoMemory>
     ensures { IfOk result (λ differ. differ ≡ names_differ component.now) }
 {
-    let ports = names::names_differ(alloc, &component.ports)?;
-    let commands = names::names_differ(alloc, &component.commands)?;
-    let events = names::names_differ(alloc, &component.events)?;
-    let channels = names::names_differ(alloc, &component.channels)?;
-    let params = names::names_differ(alloc, &component.params)?;
-    let machines = names::names_differ(alloc, &component.machines)?;
+    let ports = fp_sound_types::names_differ(alloc, &component.ports)?;
+    let commands = fp_sound_types::names_differ(alloc, &component.commands)?;
+    let events = fp_sound_types::names_differ(alloc, &component.events)?;
+    let channels = fp_sound_types::names_differ(alloc, &component.channels)?;
+    let params = fp_sound_types::names_differ(alloc, &component.params)?;
+    let machines = fp_sound_types::names_differ(alloc, &component.machines)?;
     Ok(ports & commands & events & channels & params & machines)
 }
 
@@ -66,10 +65,10 @@ pub fn names_differ(alloc: Global, component: &Component) -> Result<bool, NoMemo
 pub fn ids_differ(alloc: Global, component: &Component) -> Result<bool, NoMemory>
     ensures { IfOk result (λ differ. differ ≡ ids_differ component.now) }
 {
-    let commands = names::ids_differ(alloc, &component.commands)?;
-    let events = names::ids_differ(alloc, &component.events)?;
-    let channels = names::ids_differ(alloc, &component.channels)?;
-    let params = names::ids_differ(alloc, &component.params)?;
+    let commands = fp_sound_types::ids_differ(alloc, &component.commands)?;
+    let events = fp_sound_types::ids_differ(alloc, &component.events)?;
+    let channels = fp_sound_types::ids_differ(alloc, &component.channels)?;
+    let params = fp_sound_types::ids_differ(alloc, &component.params)?;
     Ok(commands & events & channels & params)
 }
 

@@ -6,7 +6,7 @@ ghost use Rattle.fp_tables.specs.declared.kind.Formal.{Formal};
 ghost use Rattle.fp_tables.specs.declared.kind.PortDef.{PortDef};
 
 use fp_base::{NoMemory, Row};
-use fp_sound_types!::names;
+use fp_sound_types::names_differ;
 use fp_tables::{Command, Component, Event, Formal, Port, PortDef};
 use std::alloc::Global;
 
@@ -54,7 +54,7 @@ fn each_differ<T: TakesFormals>(alloc: Global, items: &[T]) -> Result<bool, NoMe
     ensures { IfOk result (λ differ. differ ≡ list_all (λ item. texts_differ (names_of (T.formals_of item))) items.now) }
 {
     for item in items {
-        if !names::names_differ(alloc, item.formals())? {
+        if !names_differ(alloc, item.formals())? {
             return Ok(false);
         }
     }

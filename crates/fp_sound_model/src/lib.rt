@@ -18,3 +18,4 @@ mod running;
 mod topologies;
 mod whole;
 
+pub use whole::SoundModel;

@@ -7,10 +7,8 @@ ghost use Rattle.fp_tables.specs.Names.{numbers_differ};
 ghost use Rattle.fp_tables.specs.Components.{set_parameter, saved_parameter, are_one_each, takes_its_value};
 ghost use Rattle.fp_tables.specs.declared.component.Param.{Param};
 
-use crate::ports::same_kind;
 use fp_base::NoMemory;
-use fp_sound_types::set_of;
-use fp_tables::{Command, Component, Param, Part};
+use fp_tables::{Command, Component, Param, Part, same_kind, set_of};
 use std::alloc::{AllocError, Global};
 use std::collections::BTreeSet;
 

@@ -1,10 +1,11 @@
 ghost use Rattle.std.specs.Prelude.{◌≡◌, ◌↔◌, ◌||◌, not, IsTrue, IfOk};
 ghost use Rattle.std.specs.List.{list_all};
 ghost use Rattle.fp_tables.specs.Components.{reads_its_format, is_passive, waits_for_nothing};
-ghost use Rattle.fp_sound_model.specs.SoundParts.{HasSoundParts};
 ghost use Rattle.fp_tables.specs.Lists.{all_hold, all_pass};
-ghost use Rattle.fp_sound_model.specs.Parts.{tests_of_ports, tests_of_commands, tests_of_reports, tests_of_names, tests_of_running, tests_of_component, tests_of_types, tests_of_definitions};
+ghost use Rattle.fp_sound_model.specs.Parts.{tests_of_ports, tests_of_commands, tests_of_reports, tests_of_names, tests_of_running, tests_of_component, tests_of_types, tests_of_definitions, PartsPass};
 
+use crate::components;
+use crate::ports;
 use crate::channels::{component_has_values, limits_are_good, params_are_of_size};
 use crate::events::fields_agree_with_formals;
 use crate::formals::{formals_differ, formals_of_ports_differ};
@@ -14,9 +15,8 @@ use crate::lengths::lists_are_short;
 use crate::parameters::{commands_take_their_values, each_has_one_save_command, each_has_one_set_command};
 use crate::running::runs_no_external;
 use fp_base::NoMemory;
-use fp_sound_types::{chains_are_short, own_names_are_names, qualified_names_are_names};
+use fp_sound_types::{arrays_are_of_size, chains_are_short, constants_are_of_size, defaults_are_of_size, members_differ, names_differ, own_names_are_names, qualified_names_are_names, types_have_their_values};
 use fp_tables::{Component, Event, Model, Queueing};
-use crate::sound::{components, names, ports, types};
 use std::alloc::Global;
 
 fn ports_are_sound(alloc: Global, model: &Model, component: &Component) -> Result<bool, NoMemory>
@@ -125,11 +125,11 @@ fn types_are_sound(alloc: Global, model: &Model) -> Result<bool, NoMemory>
     if !chains_are_short(alloc, definitions)? {
         return Ok(false);
     }
-    let values = types::types_have_their_values(definitions, definitions);
-    let arrays = types::arrays_are_of_size(definitions);
-    let defaults = types::defaults_are_of_size(definitions);
-    let constants = types::constants_are_of_size(model.constants.as_slice());
-    let members = types::members_differ(alloc, definitions)?;
+    let values = types_have_their_values(definitions, definitions);
+    let arrays = arrays_are_of_size(definitions);
+    let defaults = defaults_are_of_size(definitions);
+    let constants = constants_are_of_size(model.constants.as_slice());
+    let members = members_differ(alloc, definitions)?;
     Ok(values & arrays & defaults & constants & members)
 }
 
@@ -139,8 +139,8 @@ fn definitions_are_sound(alloc: Global, model: &Model) -> Result<bool, NoMemory>
     let short = lists_are_short(model);
     let own = own_names_are_names(model);
     let qualified = qualified_names_are_names(model);
-    let instances = names::names_differ(alloc, &model.instances)?;
-    let types = names::names_differ(alloc, &model.types)?;
+    let instances = names_differ(alloc, &model.instances)?;
+    let types = names_differ(alloc, &model.types)?;
     let formals = formals_of_ports_differ(alloc, model.ports.as_slice())?;
     let queues = instances_have_their_queues(model, model.instances.as_slice());
     Ok(short & own & qualified & instances & types & formals & queues)
@@ -148,7 +148,7 @@ fn definitions_are_sound(alloc: Global, model: &Model) -> Result<bool, NoMemory>
 
 /// Whether a model's definitions, types, values and components are sound.
 pub fn parts_are_sound(alloc: Global, model: &Model) -> Result<bool, NoMemory>
-    ensures { IfOk result (λ sound. IsTrue sound ↔ HasSoundParts model.now) }
+    ensures { IfOk result (λ sound. IsTrue sound ↔ PartsPass model.now) }
 {
     if !types_are_sound(alloc, model)? {
         return Ok(false);

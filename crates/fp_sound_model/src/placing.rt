@@ -1,7 +1,5 @@
 ghost use Rattle.std.specs.Prelude.{◌≡◌, nat_lt, length};
 ghost use Rattle.std.specs.List.{list_all};
-ghost use Rattle.std.specs.Option.{option_copied};
-ghost use Rattle.fp_tables.specs.Lookup.{component_of};
 ghost use Rattle.fp_tables.specs.Positions.{form_lies, port_def_lies, component_lies, machine_lies, has_port, link_lies, wire_lies, numbers_lie, topology_lies, item_lies, positions_lie};
 ghost use Rattle.fp_tables.specs.declared.kind.TypeDef.{TypeDef};
 ghost use Rattle.fp_tables.specs.declared.topology.Instance.{Instance};
@@ -9,17 +7,10 @@ ghost use Rattle.fp_tables.specs.declared.topology.Instance.{Instance};
 use crate::positions::{component_lies, form_lies, machine_lies, port_def_lies};
 use fp_tables::{Component, Instance, Item, Link, Machine, Model, PortDef, Topology, TypeDef, Wire};
 
-fn component_of(model: &Model, instance: u32) -> Option<&Component>
-    ensures { option_copied result ≡ component_of model.now instance }
-{
-    let instance = model.instances.get(instance as usize)?;
-    model.components.get(instance.component as usize)
-}
-
 fn has_port(model: &Model, instance: u32, port: u32) -> bool
     ensures { result ≡ has_port model.now instance port }
 {
-    match component_of(model, instance) {
+    match model.component_of(instance) {
         Some(component) => (port as usize) < component.ports.len(),
         None => false,
     }

@@ -3,32 +3,11 @@ ghost use Rattle.std.specs.List.{list_all, filter_map};
 ghost use Rattle.std.specs.Option.{option_copied};
 ghost use Rattle.fp_base.specs.Same.{same_list};
 ghost use Rattle.fp_tables.specs.declared.component.Port.{Port};
-ghost use Rattle.fp_tables.specs.Components.{same_kind, same_formal, definition, definition_of, has_its_formals, suits_its_role, waits_for_no_result, special_in, special_ports_differ};
+ghost use Rattle.fp_tables.specs.Components.{same_formal, definition, definition_of, has_its_formals, suits_its_role, waits_for_no_result, special_in, special_ports_differ};
 
 use fp_base::NoMemory;
-use fp_sound_types::all_differ;
-use fp_tables::{Component, Formal, Kind, Port, PortDef, Role, Special, Way};
+use fp_tables::{Component, Formal, Kind, Port, PortDef, Role, Special, Way, all_differ, same_kind};
 use std::alloc::{AllocError, Global};
-
-/// Whether two types are the same as they are used.
-pub fn same_kind(left: Kind, right: Kind) -> bool
-    ensures { result ≡ same_kind left right }
-{
-    match (left, right) {
-        (Kind::U8, Kind::U8) => true,
-        (Kind::U16, Kind::U16) => true,
-        (Kind::U32, Kind::U32) => true,
-        (Kind::U64, Kind::U64) => true,
-        (Kind::I8, Kind::I8) => true,
-        (Kind::I16, Kind::I16) => true,
-        (Kind::I32, Kind::I32) => true,
-        (Kind::I64, Kind::I64) => true,
-        (Kind::Bool, Kind::Bool) => true,
-        (Kind::Str { size: left }, Kind::Str { size: right }) => left == right,
-        (Kind::Named(left), Kind::Named(right)) => left == right,
-        _ => false,
-    }
-}
 
 fn same_formal(left: &Formal, right: &Formal) -> bool
     ensures { result ≡ same_formal left.now right.now }

@@ -3,7 +3,7 @@ ghost use Rattle.std.specs.List.{list_all, filter_map};
 ghost use Rattle.std.specs.Option.{option_map};
 ghost use Rattle.fp_tables.specs.Lists.{some_and};
 ghost use Rattle.fp_tables.specs.Instances.{largest, local_ids, range_of, ranges_are_apart, numbers_are_in_range};
-ghost use Rattle.fp_sound_machines.specs.Walks.{larger, top_of, ends_of, rise_above};
+ghost use Rattle.fp_sound_model.specs.IdRanges.{larger, top_of, ends_of, rise_above};
 
 use fp_base::NoMemory;
 use fp_sound_types::Numbered;

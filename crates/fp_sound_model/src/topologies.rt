@@ -14,8 +14,7 @@ ghost use Rattle.fp_tables.specs.declared.component.Port.{Port};
 ghost use Rattle.fp_tables.specs.declared.topology.Wire.{Wire};
 
 use fp_base::NoMemory;
-use fp_sound_types::{all_differ, numbers_differ, set_of};
-use fp_tables::{End, Model, Port, Role, Special, Topology, Wire};
+use fp_tables::{End, Model, Port, Role, Special, Topology, Wire, all_differ, numbers_differ, set_of};
 use std::alloc::Global;
 use std::collections::BTreeSet;
 
@@ -42,9 +41,7 @@ fn is_output(role: &Role) -> bool
 fn port_at<'a>(model: &'a Model, end: &End) -> Option<&'a Port>
     ensures { option_copied result ≡ port_of model.now end.now.instance end.now.port }
 {
-    let instance = model.instances.get(end.instance as usize)?;
-    let component = model.components.get(instance.component as usize)?;
-    component.ports.get(end.port as usize)
+    model.port_of(end.instance, end.port)
 }
 
 fn goes_from_output_to_input(model: &Model, topology: &Topology, wire: &Wire) -> bool

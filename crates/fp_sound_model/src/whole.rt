@@ -1,6 +1,6 @@
-ghost use Rattle.std.specs.Prelude.{◌≡◌, ◌↔◌, IsTrue, IfOk};
+ghost use Rattle.std.specs.Prelude.{◌≡◌, ◌↔◌, ℕ, Option, IsTrue, IfOk};
 ghost use Rattle.fp_tables.specs.Sound.{IsSoundFor};
-ghost use Rattle.fp_sound_model.specs.SoundStructure.{HasSoundStructure, IsSoundBeside};
+ghost use Rattle.fp_sound_model.specs.Parts.{StructurePasses, IsSoundBeside};
 
 use crate::parts::parts_are_sound;
 use crate::placing::positions_lie;
@@ -13,7 +13,7 @@ use std::alloc::Global;
 
 /// Whether a model's positions, instances and machines are sound.
 fn structure_is_sound(alloc: Global, model: &Model) -> Result<bool, NoMemory>
-    ensures { IfOk result (λ sound. IsTrue sound ↔ HasSoundStructure model.now) }
+    ensures { IfOk result (λ sound. IsTrue sound ↔ StructurePasses model.now) }
 {
     let tops = tops_of(alloc, model.components.as_slice())?;
     let positions = positions_lie(model);
@@ -35,11 +35,20 @@ fn is_sound_beside(alloc: Global, model: &Model, topology: Option<u32>) -> Resul
     }
 }
 
-impl Model {
+/// A model that is tested.
+pub trait SoundModel {
+    /// What it is to be sound, by itself or with the topology at a position.
+    ghost is_sound_for: { Self → Option ℕ → Type 0 };
+
     /// Whether the model is sound, by itself or with one of its topologies.
-    pub fn is_sound(&self, alloc: Global, topology: Option<u32>) -> Result<bool, NoMemory>
-        ensures { IfOk result (λ sound. IsTrue sound ↔ IsSoundFor self.now topology) }
-    {
+    fn is_sound(&self, alloc: Global, topology: Option<u32>) -> Result<bool, NoMemory>
+        ensures { IfOk result (λ sound. IsTrue sound ↔ is_sound_for self.now topology) };
+}
+
+impl SoundModel for Model {
+    ghost is_sound_for = { IsSoundFor };
+
+    fn is_sound(&self, alloc: Global, topology: Option<u32>) -> Result<bool, NoMemory> {
         if !parts_are_sound(alloc, self)? {
             return Ok(false);
         }

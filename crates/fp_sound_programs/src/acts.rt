@@ -6,13 +6,13 @@ ghost use Rattle.fp_tables.specs.declared.component.Role.{Role};
 
 use crate::arguments;
 use fp_base::{NoMemory, Row, Text};
-use fp_tables::{Act, Bound, End, Formal, Kind, Role, Tables, Verb, port_of, result_at};
+use fp_tables::{Act, Bound, End, Formal, Kind, Role, Tables, Verb};
 
 /// What the port at an end is for.
 pub fn role_at(tables: &Tables, end: End) -> Option<Role>
     ensures { (test : Role → Bool) → has_role tables.now test end ≡ some_and test result }
 {
-    match port_of(tables, end.instance, end.port) {
+    match tables.port(end.instance, end.port) {
         Some(port) => Some(port.role),
         None => None,
     }
@@ -47,7 +47,7 @@ fn answered(tables: &Tables, act: &Act) -> Option<Kind>
     ensures { result ≡ answered tables.now act.now }
 {
     match act.verb {
-        Verb::Call => result_at(tables, act.subject.instance, act.subject.port),
+        Verb::Call => tables.result(act.subject.instance, act.subject.port),
         Verb::Read => kind_of_param(tables, act),
         _ => None,
     }

@@ -1,56 +1,9 @@
-ghost use Rattle.std.specs.Prelude.{◌≡◌, ◌∷◌, [], ℕ, suc, unwrap_or, option_map, option_to_list};
-ghost use Rattle.fp_tables.specs.Arguments.{kinds_of, same_target, is_one_kind, argument_suits, arguments_suit};
+ghost use Rattle.std.specs.Prelude.{◌≡◌, option_to_list};
+ghost use Rattle.fp_tables.specs.Arguments.{kinds_of, argument_suits, arguments_suit};
 ghost use Rattle.fp_tables.specs.Bound.{scope_of};
-ghost use Rattle.fp_tables.specs.Machines.{target_by, target};
 
-use fp_sound_model::same_kind;
-use fp_sound_types::{form_at, has_kind};
-use fp_tables::{Arg, Bound, Form, Formal, Kind, TypeDef};
-
-/// What an alias stands for.
-fn alias(types: &[TypeDef], kind: Kind) -> Option<Kind>
-    ensures { (n : ℕ) → target_by types.now (suc n) kind ≡ unwrap_or (option_map (target_by types.now n) result) kind }
-{
-    match kind {
-        Kind::Named(at) => match form_at(types, at) {
-            Some(form) => match form {
-                Form::Alias(kind) => Some(*kind),
-                _ => None,
-            },
-            None => None,
-        },
-        _ => None,
-    }
-}
-
-/// What a type is at the end of aliases.
-fn target(types: &[TypeDef], kind: Kind) -> Kind
-    ensures { result ≡ target types.now kind }
-{
-    let mut target = kind;
-    'aliases: for _ in 0..types.len() {
-        match alias(types, target) {
-            Some(next) => target = next,
-            None => return target,
-        }
-    }
-    target
-}
-
-fn same_target(left: Kind, right: Kind) -> bool
-    ensures { result ≡ same_target left right }
-{
-    match (left, right) {
-        (Kind::Str { .. }, Kind::Str { .. }) => true,
-        _ => same_kind(left, right),
-    }
-}
-
-fn is_one_kind(types: &[TypeDef], left: Kind, right: Kind) -> bool
-    ensures { result ≡ is_one_kind types.now left right }
-{
-    same_target(target(types, left), target(types, right))
-}
+use fp_sound_types::has_kind;
+use fp_tables::{Arg, Bound, Formal, Kind, TypeDef, is_one_kind};
 
 fn argument_suits(types: &[TypeDef], bound: &Bound<'_>, kind: Kind, argument: &Arg) -> bool
     ensures { result ≡ argument_suits types.now (scope_of bound.now) kind argument.now }

@@ -6,7 +6,7 @@ ghost use Rattle.fp_tables.specs.declared.program.Caller.{Caller};
 
 use crate::acts::{bind, takes};
 use fp_base::NoMemory;
-use fp_tables::{Act, Bound, Caller, Role, Tables, Verb, command_of, is_placed, port_of};
+use fp_tables::{Act, Bound, Caller, Role, Tables, Verb};
 use std::alloc::Global;
 
 fn is_general_input(role: &Role) -> bool
@@ -18,7 +18,7 @@ fn is_general_input(role: &Role) -> bool
 fn caller_calls(tables: &Tables, bound: &Bound<'_>, act: &Act) -> bool
     ensures { result ≡ caller_calls tables.now (scope_of bound.now) act.now }
 {
-    match port_of(tables, act.subject.instance, act.subject.port) {
+    match tables.port(act.subject.instance, act.subject.port) {
         Some(port) => is_general_input(&port.role)
             && act.subject.number < port.size
             && takes(tables, bound, &port.formals, act),
@@ -29,7 +29,7 @@ fn caller_calls(tables: &Tables, bound: &Bound<'_>, act: &Act) -> bool
 fn caller_commands(tables: &Tables, bound: &Bound<'_>, act: &Act) -> bool
     ensures { result ≡ caller_commands tables.now (scope_of bound.now) act.now }
 {
-    match command_of(tables, act.subject.instance, act.name) {
+    match tables.command(act.subject.instance, act.name) {
         Some(command) => act.subject.number == 0 && takes(tables, bound, &command.formals, act),
         None => false,
     }
@@ -43,7 +43,7 @@ fn caller_act_suits(tables: &Tables, bound: &Bound<'_>, act: &Act) -> bool
         Verb::Command => caller_commands(tables, bound, act),
         _ => false,
     };
-    is_placed(tables, act.subject.instance) && suits
+    tables.is_placed(act.subject.instance) && suits
 }
 
 fn caller_acts_suit(alloc: Global, tables: &Tables, acts: &[Act]) -> Result<bool, NoMemory>

@@ -8,7 +8,7 @@ ghost use Rattle.fp_tables.specs.Programs.{act_suits, is_return, return_stands, 
 use crate::acts::bind;
 use crate::verbs::act_suits;
 use fp_base::NoMemory;
-use fp_tables::{Act, Bound, Handler, Kind, Role, Spot, Tables, Verb, command_of, is_placed, machine_at, port_of, result_at};
+use fp_tables::{Act, Bound, Handler, Kind, Role, Spot, Tables, Verb};
 use std::alloc::Global;
 
 /// What the port of a handler returns.
@@ -16,7 +16,7 @@ pub fn returned_at(tables: &Tables, instance: u32, place: Spot) -> Option<Kind>
     ensures { result ≡ returned_at tables.now instance place }
 {
     match place {
-        Spot::Port(port) => result_at(tables, instance, port),
+        Spot::Port(port) => tables.result(instance, port),
         _ => None,
     }
 }
@@ -66,7 +66,7 @@ fn port_bound<'a>(
 ) -> Result<Option<Bound<'a>>, NoMemory>
     ensures { IfOk result (λ found. option_map scope_of found ≡ port_bound tables.now instance port) }
 {
-    match port_of(tables, instance, port) {
+    match tables.port(instance, port) {
         Some(port) => match &port.role {
             Role::Input(_) | Role::Internal(_) => Ok(Some(Bound::of(
                 alloc,
@@ -86,7 +86,7 @@ fn command_bound<'a>(
 ) -> Result<Option<Bound<'a>>, NoMemory>
     ensures { IfOk result (λ found. option_map scope_of found ≡ command_bound tables.now instance command) }
 {
-    match command_of(tables, instance, command) {
+    match tables.command(instance, command) {
         Some(command) => Ok(Some(Bound::of(alloc, command.formals.as_slice())?)),
         None => Ok(None),
     }
@@ -101,7 +101,7 @@ fn action_bound<'a>(
 ) -> Result<Option<Bound<'a>>, NoMemory>
     ensures { IfOk result (λ found. option_map scope_of found ≡ action_bound tables.now instance running action) }
 {
-    match machine_at(tables, instance, running) {
+    match tables.machine_at(instance, running) {
         Some(machine) => match machine.actions.get(action as usize) {
             Some(named) => Ok(Some(value_bound(alloc, named.kind)?)),
             None => Ok(None),
@@ -157,7 +157,7 @@ fn handler_suits(alloc: Global, tables: &Tables, handler: &Handler) -> Result<bo
 {
     let wanted = returned_at(tables, handler.instance, handler.place).is_some();
     let suits = body_suits(alloc, tables, handler)?;
-    Ok(is_placed(tables, handler.instance) & return_stands(wanted, handler.acts.as_slice()) & suits)
+    Ok(tables.is_placed(handler.instance) & return_stands(wanted, handler.acts.as_slice()) & suits)
 }
 
 /// Whether the actions of each handler suit.

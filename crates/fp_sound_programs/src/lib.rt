@@ -11,3 +11,4 @@ mod queues;
 mod repeats;
 mod verbs;
 
+pub use programs::SoundProgram;

@@ -8,7 +8,7 @@ ghost use Rattle.fp_tables.specs.declared.program.Handler.{Handler};
 ghost use Rattle.fp_tables.specs.declared.program.Answers.{Answers};
 
 use fp_base::Row;
-use fp_tables::{Act, Answers, Caller, Handler, Program, Queueing, Tables, placed};
+use fp_tables::{Act, Answers, Caller, Handler, Program, Queueing, Tables};
 
 fn is_active_at(tables: &Tables, instance: u32) -> bool
     ensures { result ≡ is_active_at tables.now instance }
@@ -35,7 +35,7 @@ fn count_active(tables: &Tables, instances: &[u32]) -> usize
 pub fn instances_are_few(tables: &Tables) -> bool
     ensures { result ≡ (nat_le (length (placed tables.now)) 256 && nat_le (length (filter (is_active_at tables.now) (placed tables.now))) 64) }
 {
-    let instances = placed(tables);
+    let instances = tables.placed();
     instances.len() <= 256 && count_active(tables, instances) <= 64
 }
 

@@ -1,5 +1,6 @@
 ghost use Rattle.std.specs.Prelude.{◌≡◌, ◌↔◌, IsTrue, IfOk};
 ghost use Rattle.std.specs.List.{list_all};
+ghost use Rattle.fp_tables.specs.Lookup.{Described};
 ghost use Rattle.fp_tables.specs.Programs.{answers_suit};
 ghost use Rattle.fp_tables.specs.SoundPrograms.{IsSoundProgram};
 
@@ -9,14 +10,14 @@ use crate::limits::{actions_are_few, answers_are_few, callers_are_few, instances
 use crate::queues::queues_are_small;
 use crate::repeats::{answers_differ, callers_differ, callers_have_names, handlers_differ};
 use fp_base::NoMemory;
-use fp_tables::{Answers, Program, Tables, is_placed, machine_at};
+use fp_tables::{Answers, Program, Tables};
 use std::alloc::Global;
 
 fn answers_suit(tables: &Tables, given: &Answers) -> bool
     ensures { result ≡ answers_suit tables.now given.now }
 {
-    match machine_at(tables, given.instance, given.running) {
-        Some(machine) => is_placed(tables, given.instance)
+    match tables.machine_at(given.instance, given.running) {
+        Some(machine) => tables.is_placed(given.instance)
             && (given.guard as usize) < machine.guards.len(),
         None => false,
     }
@@ -28,11 +29,20 @@ fn all_answers_suit(tables: &Tables, answers: &[Answers]) -> bool
     answers.iter().all(|given| answers_suit(tables, given))
 }
 
-impl Program {
+/// A program that is tested.
+pub trait SoundProgram {
+    /// What it is to be sound for tables.
+    ghost is_sound_on: { Self → Described → Type 0 };
+
     /// Whether the program is sound for tables.
-    pub fn is_sound(&self, alloc: Global, tables: &Tables) -> Result<bool, NoMemory>
-        ensures { IfOk result (λ sound. IsTrue sound ↔ IsSoundProgram tables.now self.now) }
-    {
+    fn is_sound(&self, alloc: Global, tables: &Tables) -> Result<bool, NoMemory>
+        ensures { IfOk result (λ sound. IsTrue sound ↔ is_sound_on self.now tables.now) };
+}
+
+impl SoundProgram for Program {
+    ghost is_sound_on = { λ program tables. IsSoundProgram tables program };
+
+    fn is_sound(&self, alloc: Global, tables: &Tables) -> Result<bool, NoMemory> {
         let callers = self.callers.as_slice();
         let handlers = self.handlers.as_slice();
         let answers = self.answers.as_slice();
@@ -41,7 +51,7 @@ impl Program {
         let answered = all_answers_suit(tables, answers);
         let places = handlers_differ(alloc, handlers)?;
         let guards = answers_differ(alloc, answers)?;
-        let differ = callers_differ(alloc, &self.callers)?;
+        let differ = callers_differ(alloc, callers)?;
         let names = callers_have_names(callers);
         let steps = steps_are_in_range(self);
         let few_callers = callers_are_few(self);

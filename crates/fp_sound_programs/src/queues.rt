@@ -1,14 +1,10 @@
-ghost use Rattle.std.specs.Prelude.{◌≡◌, ◌<◌, ◌^◌, ◌++◌, map, nat_le, sum_by, flat_map, unwrap_or, option_map, slice_get, IfOk, OnOk};
+ghost use Rattle.std.specs.Prelude.{◌≡◌, ◌<◌, ◌^◌, map, nat_le, sum_by, IfOk};
 ghost use Rattle.fp_tables.specs.Lookup.{placed};
-ghost use Rattle.fp_tables.specs.SoundPrograms.{priority_of, port_priority, priorities, count_different, queue_places};
-ghost use Rattle.fp_tables.specs.declared.component.Port.{Port};
-ghost use Rattle.fp_tables.specs.declared.component.Command.{Command};
-ghost use Rattle.fp_tables.specs.declared.component.Running.{Running};
+ghost use Rattle.fp_tables.specs.SoundPrograms.{priorities, count_different, queue_places};
 ghost use Rattle.fp_tables.specs.declared.component.Component.{Component};
 
 use fp_base::NoMemory;
-use fp_sound_types::set_of;
-use fp_tables::{Command, Component, Port, Role, Running, Tables, Way, placed};
+use fp_tables::{Component, Tables, priorities, set_of};
 use std::alloc::Global;
 
 /// How many different priorities the places of a component have.
@@ -67,5 +63,5 @@ pub fn queues_are_small(alloc: Global, tables: &Tables) -> Result<bool, NoMemory
     ensures { IfOk result (λ small. small ≡ nat_le (sum_by (queue_places tables.now) (placed tables.now)) 1000000) }
 {
     let counts = counts_of(alloc, tables.model().components.as_slice())?;
-    Ok(places_are_few(tables, counts.as_slice(), placed(tables)))
+    Ok(places_are_few(tables, counts.as_slice(), tables.placed()))
 }

@@ -3,33 +3,36 @@ ghost use Rattle.std.specs.List.{list_all};
 ghost use Rattle.fp_tables.specs.Lists.{apart};
 ghost use Rattle.fp_tables.specs.Names.{is_name, texts_differ};
 ghost use Rattle.fp_tables.specs.SoundPrograms.{same_place, same_guard};
-ghost use Rattle.fp_tables.specs.declared.program.Caller.{Caller};
+ghost use Rattle.fp_tables.specs.declared.program.Caller.{Caller as CallerOf};
 ghost use Rattle.fp_tables.specs.declared.program.Handler.{Handler};
 ghost use Rattle.fp_tables.specs.declared.program.Answers.{Answers};
 
-use fp_base::{NoMemory, Row, Text};
-use fp_sound_types::{Called, all_differ, is_name, names_differ};
-use fp_tables::{Answers, Caller, Handler, Spot};
+use fp_base::NoMemory;
+use fp_sound_types::is_name;
+use fp_tables::{Answers, Caller, Handler, Spot, all_differ};
 use std::alloc::Global;
 
-impl Called for Caller {
-    ghost name_of = { λ called. called.name };
-
-    fn name(&self) -> &Text {
-        &self.name
+fn names_of(alloc: Global, callers: &[Caller]) -> Result<Vec<&str>, NoMemory>
+    ensures { IfOk result (λ names. map (λ name. name.now) names.items ≡ map (λ (caller : CallerOf). caller.name) callers.now) }
+{
+    let mut names = Vec::with_capacity(alloc, callers.len())?;
+    for caller in callers {
+        names.push(caller.name.as_str())?;
     }
+    Ok(names)
 }
 
 /// Whether no two callers have one name.
-pub fn callers_differ(alloc: Global, callers: &Row<Caller>) -> Result<bool, NoMemory>
-    ensures { IfOk result (λ differ. differ ≡ texts_differ (map (λ (caller : Caller). caller.name) callers.now)) }
+pub fn callers_differ(alloc: Global, callers: &[Caller]) -> Result<bool, NoMemory>
+    ensures { IfOk result (λ differ. differ ≡ texts_differ (map (λ (caller : CallerOf). caller.name) callers.now)) }
 {
-    names_differ(alloc, callers)
+    let names = names_of(alloc, callers)?;
+    all_differ(alloc, names)
 }
 
 /// Whether each caller's name is a name.
 pub fn callers_have_names(callers: &[Caller]) -> bool
-    ensures { result ≡ list_all (λ (caller : Caller). is_name caller.name) callers.now }
+    ensures { result ≡ list_all (λ (caller : CallerOf). is_name caller.name) callers.now }
 {
     callers.iter().all(|caller| is_name(&caller.name))
 }

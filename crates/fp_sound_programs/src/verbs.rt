@@ -10,7 +10,7 @@ use crate::acts::{role_at, takes, takes_one};
 use crate::arguments::takes_optional;
 use crate::handlers::returned_at;
 use fp_sound_types::is_name;
-use fp_tables::{Act, Bound, End, Queueing, Role, Special, Spot, Tables, Verb, command_of, definition_at, machine_at, port_of};
+use fp_tables::{Act, Bound, End, Queueing, Role, Special, Spot, Tables, Verb};
 
 fn wire_from(tables: &Tables, end: End) -> Option<End>
     ensures { result ≡ wire_from tables.now end }
@@ -63,7 +63,7 @@ fn leads_to_input(tables: &Tables, end: End) -> bool
 fn is_of_commands(tables: &Tables, end: End) -> bool
     ensures { result ≡ is_of_commands tables.now end }
 {
-    match definition_at(tables, end.instance, end.port) {
+    match tables.definition(end.instance, end.port) {
         Some(definition) => definition.name.as_bytes() == "Fw.Cmd".as_bytes(),
         None => false,
     }
@@ -73,7 +73,7 @@ fn takes_sent(tables: &Tables, bound: &Bound<'_>, act: &Act) -> bool
     ensures { result ≡ takes_sent tables.now (scope_of bound.now) act.now }
 {
     match wire_from(tables, act.subject) {
-        Some(to) => match command_of(tables, to.instance, act.name) {
+        Some(to) => match tables.command(to.instance, act.name) {
             Some(command) => takes(tables, bound, &command.formals, act),
             None => false,
         },
@@ -93,7 +93,7 @@ fn sends_command(tables: &Tables, bound: &Bound<'_>, act: &Act) -> bool
 fn calls(tables: &Tables, bound: &Bound<'_>, act: &Act) -> bool
     ensures { result ≡ calls tables.now (scope_of bound.now) act.now }
 {
-    match port_of(tables, act.subject.instance, act.subject.port) {
+    match tables.port(act.subject.instance, act.subject.port) {
         Some(port) => match &port.role {
             Role::Output => takes(tables, bound, &port.formals, act)
                 && leads_to_input(tables, act.subject),
@@ -139,7 +139,7 @@ fn reads(tables: &Tables, act: &Act) -> bool
 fn signals(tables: &Tables, bound: &Bound<'_>, act: &Act) -> bool
     ensures { result ≡ signals tables.now (scope_of bound.now) act.now }
 {
-    match machine_at(tables, act.subject.instance, act.subject.port) {
+    match tables.machine_at(act.subject.instance, act.subject.port) {
         Some(machine) => match machine.signals.get(act.name as usize) {
             Some(signal) => {
                 let types = tables.model().types.as_slice();
@@ -154,7 +154,7 @@ fn signals(tables: &Tables, bound: &Bound<'_>, act: &Act) -> bool
 fn posts(tables: &Tables, bound: &Bound<'_>, act: &Act) -> bool
     ensures { result ≡ posts tables.now (scope_of bound.now) act.now }
 {
-    match port_of(tables, act.subject.instance, act.subject.port) {
+    match tables.port(act.subject.instance, act.subject.port) {
         Some(port) => match &port.role {
             Role::Internal(_) => takes(tables, bound, &port.formals, act),
             _ => false,
@@ -189,6 +189,7 @@ fn responds(tables: &Tables, place: Spot, act: &Act) -> bool
 {
     match place {
         Spot::Command(_) => is_resp_at(tables, act.subject)
+            && act.subject.number == 0
             && wire_from(tables, act.subject).is_some()
             && has_identifier(act),
         _ => false,

@@ -1,11 +1,11 @@
 -- Chains of definitions, found by marks.
-use Rattle.std.proofs.Common.{◌≡◌, ℕ, zero, suc, ◌+◌, ◌-◌, ◌≤◌, Bool, true, false, not, ◌&&◌, ◌||◌, List, [], ◌∷◌, map, length, replicate, Option, Some, None, option_map, is_some, unwrap_or, refl, sym, ap, ap₂, subst, ◌∙◌, arith}
+use Rattle.std.proofs.Common.{◌≡◌, ℕ, zero, suc, ◌+◌, ◌-◌, ◌≤◌, Bool, true, false, not, ◌&&◌, ◌||◌, List, [], ◌∷◌, map, length, replicate, Option, Some, None, option_map, is_some, unwrap_or, refl, sym, ap, ap₂, subst, ◌∙◌, arith, eqb}
 use Rattle.std.proofs.lemmas.List.{length-map}
 use Rattle.std.proofs.lemmas.Option.{slice_get-map}
 use Rattle.std.specs.List.{list_any, slice_get}
 use Rattle.fp_tables.specs.Lists.{all_from, some_and}
-use Rattle.fp_tables.specs.Types.{form_at, kinds_in, begins_chain}
-use Rattle.fp_tables.specs.Chains.{is_marked}
+use Rattle.fp_tables.specs.Types.{form_at, kinds_in, uses_constants, is_last, begins_chain}
+use Rattle.fp_sound_types.specs.Marks.{is_marked, uses_marked}
 use Rattle.fp_tables.specs.declared.kind.Kind.{Kind}
 use Rattle.fp_tables.specs.declared.kind.Kind.TheVariants.{Named}
 use Rattle.fp_tables.specs.declared.kind.Form.{Form}
@@ -60,6 +60,16 @@ length_replicate : {X : Type 0} (n : ℕ) (x : X) → length (replicate n x) ≡
 length_replicate zero x = refl
 length_replicate (suc n) x = ap suc (length_replicate n x)
 
+turned : (a b : Bool) → (a && b) ≡ (b && a)
+turned true true = refl
+turned true false = refl
+turned false true = refl
+turned false false = refl
+
+pub zero_is_last : (n : ℕ) → eqb n 0 ≡ is_last n
+zero_is_last zero = refl
+zero_is_last (suc n) = refl
+
 module _ (types : List TypeDef) where
   -- the marks stand where a chain of so many uses begins
   pub record AreMarks (n : ℕ) (marks : List Bool) : Type 0 where
@@ -77,34 +87,39 @@ module _ (types : List TypeDef) where
   pub first_marks : AreMarks 0 (replicate (length types) true)
   first_marks = record { long = length_replicate (length types) true; same = first_same }
 
-  abbrev pub users : List Bool → List Bool
-  users marks = map (λ (d : TypeDef). list_any (is_marked marks) (kinds_in d.form)) types
+  abbrev pub users : List Bool → Bool → List Bool
+  users marks constants = map (λ (d : TypeDef). uses_marked marks constants d.form) types
 
-  users_same : (n : ℕ) (marks : List Bool) → AreMarks n marks → (k : Kind) → is_marked (users marks) k ≡ begins_chain types (suc n) k
+  users_same : (n : ℕ) (marks : List Bool) → AreMarks n marks → (k : Kind) → is_marked (users marks (is_last n)) k ≡ begins_chain types (suc n) k
   unfolding begins_chain
   users_same n marks are (Named i) =
-      ap (λ (o : Option Bool). unwrap_or o false) (slice_get-map (λ (d : TypeDef). list_any (is_marked marks) (kinds_in d.form)) types i) ∙ go (slice_get types i)
+      ap (λ (o : Option Bool). unwrap_or o false) (slice_get-map (λ (d : TypeDef). uses_marked marks (is_last n) d.form) types i) ∙ go (slice_get types i)
     where
       go : (o : Option TypeDef) →
-          unwrap_or (option_map (λ (d : TypeDef). list_any (is_marked marks) (kinds_in d.form)) o) false
-          ≡ some_and (λ f. list_any (begins_chain types n) (kinds_in f)) (option_map (λ (d : TypeDef). d.form) o)
+          unwrap_or (option_map (λ (d : TypeDef). uses_marked marks (is_last n) d.form) o) false
+          ≡ some_and (λ f. (is_last n && uses_constants f) || list_any (begins_chain types n) (kinds_in f)) (option_map (λ (d : TypeDef). d.form) o)
       go None = refl
-      go (Some d) = any_same (is_marked marks) (begins_chain types n) are.same (kinds_in d.form)
+      go (Some d) = ap₂ (λ (a b : Bool). a || b) (turned (uses_constants d.form) (is_last n)) (any_same (is_marked marks) (begins_chain types n) are.same (kinds_in d.form))
   users_same n marks are _ = refl
 
-  pub next_marks : (n m : ℕ) (marks more : List Bool) → AreMarks n marks → m ≡ n + 1 → more ≡ users marks → AreMarks m more
+  pub next_marks : (n m : ℕ) (marks more : List Bool) → AreMarks n marks → m ≡ n + 1 → more ≡ users marks (is_last n) → AreMarks m more
   next_marks n m marks more are e f =
       let one : suc n ≡ m = omega arith in
-      let made : AreMarks (suc n) (users marks) = record { long = length-map types (λ (d : TypeDef). list_any (is_marked marks) (kinds_in d.form)); same = users_same n marks are } in
-      subst (λ (l : List Bool). AreMarks m l) (sym f) (subst (λ k. AreMarks k (users marks)) one made)
+      let made : AreMarks (suc n) (users marks (is_last n)) = record { long = length-map types (λ (d : TypeDef). uses_marked marks (is_last n) d.form); same = users_same n marks are } in
+      subst (λ (l : List Bool). AreMarks m l) (sym f) (subst (λ k. AreMarks k (users marks (is_last n))) one made)
 
   none_longer : (n : ℕ) → ((k : Kind) → begins_chain types n k ≡ false) → (k : Kind) → begins_chain types (suc n) k ≡ false
   unfolding begins_chain
-  none_longer n none (Named i) = go (form_at types i)
+  none_longer zero none (Named i) = go (form_at types i) (none (Named i))
     where
-      go : (o : Option Form) → some_and (λ f. list_any (begins_chain types n) (kinds_in f)) o ≡ false
+      go : (o : Option Form) → is_some o ≡ false → some_and (λ f. uses_constants f || list_any (begins_chain types 0) (kinds_in f)) o ≡ false
+      go None e = refl
+      go (Some f) e = absurd (cc)
+  none_longer (suc n) none (Named i) = go (form_at types i)
+    where
+      go : (o : Option Form) → some_and (λ f. list_any (begins_chain types (suc n)) (kinds_in f)) o ≡ false
       go None = refl
-      go (Some f) = any_none (begins_chain types n) none (kinds_in f)
+      go (Some f) = any_none (begins_chain types (suc n)) none (kinds_in f)
   none_longer n none _ = refl
 
   none_later : (more n : ℕ) → ((k : Kind) → begins_chain types n k ≡ false) → (k : Kind) → begins_chain types (more + n) k ≡ false

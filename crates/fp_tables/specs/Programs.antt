@@ -136,9 +136,10 @@ module _ (t : Described) where
   abbrev pub dispatches : Act → Bool
   dispatches a = component_at t a.subject.instance (λ c. is_queued c.queueing)
 
-  -- in a command's handler, at a wired resp port
+  -- in a command's handler, at number 0 of a resp port, which is wired
   abbrev pub responds : Spot → Act → Bool
-  responds place a = is_command place && has_role t (is_special CmdResp) a.subject && is_some (wire_from t a.subject) && has_identifier a
+  responds place a =
+      is_command place && has_role t (is_special CmdResp) a.subject && nat_le a.subject.number 0 && is_some (wire_from t a.subject) && has_identifier a
 
   -- what the port of a handler returns
   abbrev pub returned_at : ℕ → Spot → Option Kind

@@ -2,6 +2,7 @@
 #![tactic(auto)]
 
 use fp_base::NoMemory;
+use fp_sound_model::SoundModel;
 use fp_tables::{Model, Tables};
 use fp_tables_tests::wide::{wide, wires};
 use std::alloc::{AllocError, Global};

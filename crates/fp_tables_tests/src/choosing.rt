@@ -5,6 +5,7 @@ use std::alloc::Global;
 /// What can be changed in a machine: a state with a state in it, and a choice between the two.
 #[derive(Clone, Copy)]
 pub struct Plan {
+    pub external: bool,
     pub initial: Option<u32>,
     pub outer_initial: Option<u32>,
     pub parent: u32,
@@ -19,6 +20,7 @@ pub struct Plan {
 
 /// Begins at the choice; the transition on the first signal passes its value to an action.
 pub const CHOOSING: Plan = Plan {
+    external: false,
     initial: Some(2),
     outer_initial: Some(1),
     parent: 0,
@@ -115,7 +117,7 @@ fn machine(alloc: Global, plan: &Plan) -> Result<Machine, NoMemory> {
     guards.push(named(alloc, "g", None)?)?;
     Ok(Machine {
         name: text(alloc, "M")?,
-        external: false,
+        external: plan.external,
         signals,
         actions,
         guards,

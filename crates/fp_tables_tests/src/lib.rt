@@ -1,9 +1,13 @@
 //! Models made by hand, and what the tables say of them.
 #![tactic(auto)]
 
+#[cfg(test)]
+mod acting;
 pub mod choosing;
 pub mod joined;
 pub mod queued;
+#[cfg(test)]
+mod program_tests;
 #[cfg(test)]
 mod tests;
 pub mod wide;

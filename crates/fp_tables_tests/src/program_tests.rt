@@ -1,247 +1,11 @@
-use super::*;
-use crate::sound::lists_are_short;
+use crate::acting::{IN, INTERNAL, OUT, RESP, Responses, SEND, acting, one};
 use Argument::{Bound, Nothing, Number};
-use fp_base::{Format, NoMemory, Row, Text, Value};
+use fp_base::{NoMemory, Row, Text, Value};
+use fp_sound_model::SoundModel;
+use fp_sound_programs::SoundProgram;
+use fp_tables::{Act, Answers, Arg, Caller, End, Handler, Program, Spot, Tables, Verb};
 use std::alloc::Global;
 use std::test::Fail;
-
-// ---- one component, and one instance of it
-
-fn formals(alloc: Global, count: usize) -> Result<Row<Formal>, NoMemory> {
-    let mut formals = Row::new(alloc);
-    for _ in 0..count {
-        formals.push(Formal {
-            name: Text::from_str(alloc, "x")?,
-            kind: Kind::U32,
-            by_ref: false,
-            note: Text::new(alloc),
-        })?;
-    }
-    Ok(formals)
-}
-
-fn definition(
-    alloc: Global,
-    name: &str,
-    count: usize,
-    answer: Option<Kind>,
-) -> Result<PortDef, NoMemory> {
-    Ok(PortDef {
-        name: Text::from_str(alloc, name)?,
-        formals: formals(alloc, count)?,
-        result: answer,
-    })
-}
-
-fn port(alloc: Global, role: Role, of: Option<u32>, count: usize) -> Result<Port, NoMemory> {
-    Ok(Port {
-        name: Text::from_str(alloc, "p")?,
-        role,
-        size: 1,
-        of,
-        formals: formals(alloc, count)?,
-    })
-}
-
-const IN: u32 = 0;
-
-const OUT: u32 = 1;
-
-const RECV: u32 = 2;
-
-const RESP: u32 = 3;
-
-const SEND: u32 = 4;
-
-const INTERNAL: u32 = 5;
-
-fn ports(alloc: Global) -> Result<Row<Port>, NoMemory> {
-    let later = Way::Later {
-        priority: 0,
-        full: Full::Assert,
-    };
-    let mut ports = Row::new(alloc);
-    ports.push(port(alloc, Role::Input(Way::Sync), Some(0), 1)?)?;
-    ports.push(port(alloc, Role::Output, Some(0), 1)?)?;
-    ports.push(port(alloc, Role::Special(Special::CmdRecv), Some(1), 0)?)?;
-    ports.push(port(alloc, Role::Special(Special::CmdResp), Some(2), 0)?)?;
-    ports.push(port(alloc, Role::Output, Some(1), 0)?)?;
-    ports.push(port(alloc, Role::Internal(later), None, 0)?)?;
-    Ok(ports)
-}
-
-fn command(alloc: Global) -> Result<Command, NoMemory> {
-    Ok(Command {
-        name: Text::from_str(alloc, "C")?,
-        part: Part::Plain,
-        way: Way::Sync,
-        opcode: 0,
-        formals: formals(alloc, 0)?,
-        note: Text::new(alloc),
-    })
-}
-
-fn event(alloc: Global) -> Result<Event, NoMemory> {
-    Ok(Event {
-        name: Text::from_str(alloc, "E")?,
-        id: 0,
-        severity: 0,
-        formals: formals(alloc, 0)?,
-        format: Text::new(alloc),
-        fields: Format {
-            parts: Row::new(alloc),
-        },
-        throttle: None,
-        note: Text::new(alloc),
-    })
-}
-
-fn channel(alloc: Global) -> Result<Channel, NoMemory> {
-    Ok(Channel {
-        name: Text::from_str(alloc, "T")?,
-        id: 0,
-        kind: Kind::U8,
-        on_change: false,
-        format: None,
-        limits: Row::new(alloc),
-        note: Text::new(alloc),
-    })
-}
-
-fn param(alloc: Global) -> Result<Param, NoMemory> {
-    Ok(Param {
-        name: Text::from_str(alloc, "P")?,
-        id: 0,
-        kind: Kind::U8,
-        default: Value::Int(0),
-        written: false,
-        note: Text::new(alloc),
-    })
-}
-
-fn running(alloc: Global) -> Result<Running, NoMemory> {
-    Ok(Running {
-        name: Text::from_str(alloc, "m")?,
-        machine: 0,
-        way: Way::Later {
-            priority: 1,
-            full: Full::Assert,
-        },
-    })
-}
-
-fn one<T>(alloc: Global, item: T) -> Result<Row<T>, NoMemory>
-where
-    T: Drop,
-{
-    let mut row = Row::new(alloc);
-    row.push(item)?;
-    Ok(row)
-}
-
-fn component(alloc: Global) -> Result<Component, NoMemory> {
-    Ok(Component {
-        name: Text::from_str(alloc, "K")?,
-        queueing: Queueing::Queued,
-        ports: ports(alloc)?,
-        commands: one(alloc, command(alloc)?)?,
-        events: one(alloc, event(alloc)?)?,
-        channels: one(alloc, channel(alloc)?)?,
-        params: one(alloc, param(alloc)?)?,
-        matches: Row::new(alloc),
-        machines: one(alloc, running(alloc)?)?,
-    })
-}
-
-fn named(alloc: Global, kind: Option<Kind>) -> Result<Row<Named>, NoMemory> {
-    let name = Text::from_str(alloc, "n")?;
-    one(alloc, Named { name, kind })
-}
-
-fn machine(alloc: Global) -> Result<Machine, NoMemory> {
-    Ok(Machine {
-        name: Text::from_str(alloc, "M")?,
-        external: false,
-        signals: named(alloc, None)?,
-        actions: named(alloc, Some(Kind::U32))?,
-        guards: named(alloc, None)?,
-        initial: None,
-        vertices: Row::new(alloc),
-    })
-}
-
-fn instance(alloc: Global) -> Result<Instance, NoMemory> {
-    Ok(Instance {
-        name: Text::from_str(alloc, "k")?,
-        component: 0,
-        base: 0,
-        queue: Some(10),
-        stack: None,
-        priority: None,
-        cpu: None,
-    })
-}
-
-fn wire(from: u32, to: u32) -> Wire {
-    Wire {
-        from: End {
-            instance: 0,
-            port: from,
-            number: 0,
-        },
-        to: End {
-            instance: 0,
-            port: to,
-            number: 0,
-        },
-    }
-}
-
-fn topology(alloc: Global) -> Result<Topology, NoMemory> {
-    let mut wires = Row::new(alloc);
-    wires.push(wire(OUT, IN))?;
-    wires.push(wire(SEND, RECV))?;
-    wires.push(wire(RESP, IN))?;
-    Ok(Topology {
-        name: Text::from_str(alloc, "T")?,
-        instances: one(alloc, 0)?,
-        links: Row::new(alloc),
-        wires,
-    })
-}
-
-fn definitions(alloc: Global) -> Result<Row<PortDef>, NoMemory> {
-    let mut definitions = Row::new(alloc);
-    definitions.push(definition(alloc, "D", 1, Some(Kind::U32))?)?;
-    definitions.push(definition(alloc, "Fw.Cmd", 0, None)?)?;
-    definitions.push(definition(alloc, "Fw.CmdResponse", 0, None)?)?;
-    Ok(definitions)
-}
-
-fn model(alloc: Global) -> Result<Model, NoMemory> {
-    Ok(Model {
-        constants: Row::new(alloc),
-        types: Row::new(alloc),
-        ports: definitions(alloc)?,
-        components: one(alloc, component(alloc)?)?,
-        machines: one(alloc, machine(alloc)?)?,
-        instances: one(alloc, instance(alloc)?)?,
-        topologies: one(alloc, topology(alloc)?)?,
-        order: Row::new(alloc),
-    })
-}
-
-/// The tables of that model, if its lists are short.
-fn tables(alloc: Global) -> Result<Option<Tables>, NoMemory> {
-    let model = model(alloc)?;
-    if lists_are_short(&model) {
-        Ok(Some(Tables::found(alloc, model, 0)?))
-    } else {
-        Ok(None)
-    }
-}
-
-// ---- programs
 
 #[derive(Clone, Copy)]
 enum Argument<'a> {
@@ -301,22 +65,47 @@ fn program(alloc: Global) -> Program {
     }
 }
 
-fn is_sound(alloc: Global, program: &Program) -> Result<bool, NoMemory> {
-    match tables(alloc)? {
+/// The tables of a sound model.
+fn tables_of(alloc: Global, responses: Responses) -> Result<Option<Tables>, NoMemory> {
+    let model = acting(alloc, responses)?;
+    if model.is_sound(alloc, Some(0))? {
+        Ok(Some(Tables::of(alloc, model, 0)?))
+    } else {
+        Ok(None)
+    }
+}
+
+fn is_sound_with(
+    alloc: Global,
+    responses: Responses,
+    program: &Program,
+) -> Result<bool, NoMemory> {
+    match tables_of(alloc, responses)? {
         Some(tables) => program.is_sound(alloc, &tables),
         None => Ok(false),
     }
 }
 
-/// Whether a handler with these actions is sound.
-fn handles(alloc: Global, place: Spot, written: &[Written<'_>]) -> Result<bool, NoMemory> {
+const WIRED: Responses = Responses { size: 1, number: 0 };
+
+fn is_sound(alloc: Global, program: &Program) -> Result<bool, NoMemory> {
+    is_sound_with(alloc, WIRED, program)
+}
+
+/// A program with a handler that has these actions.
+fn handled(alloc: Global, place: Spot, written: &[Written<'_>]) -> Result<Program, NoMemory> {
     let mut program = program(alloc);
     program.handlers.push(Handler {
         instance: 0,
         place,
         acts: acts(alloc, written)?,
     })?;
-    is_sound(alloc, &program)
+    Ok(program)
+}
+
+/// Whether a handler with these actions is sound.
+fn handles(alloc: Global, place: Spot, written: &[Written<'_>]) -> Result<bool, NoMemory> {
+    is_sound(alloc, &handled(alloc, place, written)?)
 }
 
 #[test]
@@ -330,13 +119,29 @@ fn acts_of_a_command(rt: HostRuntime) -> Result<(), Fail> {
         ((Verb::Call, IN, 0, 0, Number(5), ""), false),
         ((Verb::Command, SEND, 0, 0, Nothing, ""), true),
         ((Verb::Command, OUT, 0, 0, Nothing, ""), false),
-        ((Verb::Command, SEND, 0, 1, Nothing, ""), false),
+        ((Verb::Command, SEND, 0, 3, Nothing, ""), false),
         ((Verb::Respond, RESP, 0, 0, Nothing, "OK"), true),
         ((Verb::Respond, RESP, 0, 0, Nothing, "1"), false),
         ((Verb::Respond, OUT, 0, 0, Nothing, "OK"), false),
         ((Verb::Return, 0, 0, 0, Number(5), ""), false),
     ] {
         assert_eq!(rt; handles(alloc, Spot::Command(0), &[written])?, sound);
+    }
+    Ok(())
+}
+
+#[test]
+fn responses_have_number_0(rt: HostRuntime) -> Result<(), Fail> {
+    let alloc = rt.alloc();
+    let command = Spot::Command(0);
+    for (wired, number, sound) in [(0, 0, true), (0, 1, false), (1, 0, false), (1, 1, false)] {
+        let responses = Responses {
+            size: 2,
+            number: wired,
+        };
+        assert!(rt; acting(alloc, responses)?.is_sound(alloc, Some(0))?);
+        let program = handled(alloc, command, &[(Verb::Respond, RESP, number, 0, Nothing, "OK")])?;
+        assert_eq!(rt; is_sound_with(alloc, responses, &program)?, sound);
     }
     Ok(())
 }
@@ -397,7 +202,7 @@ fn a_return_stands_last(rt: HostRuntime) -> Result<(), Fail> {
     assert!(rt; !handles(alloc, place, &[])?);
     assert!(rt; !handles(alloc, place, &[value])?);
     assert!(rt; !handles(alloc, Spot::Port(OUT), &[])?);
-    assert!(rt; !handles(alloc, Spot::Command(1), &[])?);
+    assert!(rt; !handles(alloc, Spot::Command(3), &[])?);
     Ok(())
 }
 

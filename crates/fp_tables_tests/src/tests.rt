@@ -2,6 +2,8 @@ use crate::choosing::{self, CHOOSING, choosing};
 use crate::joined::{self, JOINED, joined};
 use crate::queued::{queued, two_calls};
 use fp_base::NoMemory;
+use fp_sound_model::SoundModel;
+use fp_sound_programs::SoundProgram;
 use fp_tables::{Kind, Tables};
 use std::alloc::Global;
 use std::test::Fail;
@@ -144,6 +146,24 @@ fn unsound_vertices(rt: HostRuntime) -> Result<(), Fail> {
     for plan in &plans {
         assert!(rt; !choosing_is_sound(rt.alloc(), *plan)?);
     }
+    Ok(())
+}
+
+#[test]
+fn external_machines(rt: HostRuntime) -> Result<(), Fail> {
+    let alloc = rt.alloc();
+    let without_initial = choosing::Plan {
+        external: true,
+        initial: None,
+        ..CHOOSING
+    };
+    assert!(rt; choosing_is_sound(alloc, without_initial)?);
+    let to_nowhere = choosing::Plan {
+        external: true,
+        no: None,
+        ..CHOOSING
+    };
+    assert!(rt; !choosing_is_sound(alloc, to_nowhere)?);
     Ok(())
 }
 

@@ -1,7 +1,8 @@
 use crate::ported::{self, PORTED, ported};
 use crate::reporting::{self, REPORTING, reporting};
-use crate::typed::{self, TYPED, chained, typed};
+use crate::typed::{self, TYPED, chained, chained_to_constants, typed};
 use fp_base::NoMemory;
+use fp_sound_model::SoundModel;
 use fp_tables::{Kind, Part, Queueing, Special, Way};
 use std::alloc::Global;
 use std::test::Fail;
@@ -32,6 +33,14 @@ fn chains_of_aliases(rt: HostRuntime) -> Result<(), Fail> {
     let alloc = rt.alloc();
     assert!(rt; chained(alloc, 256)?.is_sound(alloc, None)?);
     assert!(rt; !chained(alloc, 257)?.is_sound(alloc, None)?);
+    Ok(())
+}
+
+#[test]
+fn chains_to_constants(rt: HostRuntime) -> Result<(), Fail> {
+    let alloc = rt.alloc();
+    assert!(rt; chained_to_constants(alloc, 254)?.is_sound(alloc, None)?);
+    assert!(rt; !chained_to_constants(alloc, 255)?.is_sound(alloc, None)?);
     Ok(())
 }
 

@@ -143,3 +143,18 @@ pub fn chained(alloc: Global, count: u32) -> Result<Model, NoMemory> {
     }
     Ok(model)
 }
+
+/// A model of an enum with constants, and of aliases, each of the type before.
+pub fn chained_to_constants(alloc: Global, count: u32) -> Result<Model, NoMemory> {
+    let mut model = model(alloc);
+    model.types.push(enumeration(alloc, &TYPED)?)?;
+    for at in 0..count {
+        let name = format!(in alloc; "A{at}")?;
+        let alias = Form::Alias(Kind::Named(at));
+        let default = enumerated(alloc, "C", 0)?;
+        model
+            .types
+            .push(defined(alloc, name.as_str(), alias, default)?)?;
+    }
+    Ok(model)
+}

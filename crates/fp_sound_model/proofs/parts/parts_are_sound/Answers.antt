@@ -1,9 +1,8 @@
 use Rattle.std.proofs.Common.{◌≡◌, ◌∙◌, ◌&&◌, Bool, true, false, List, IsTrue, refl, sym, ap}
 use Rattle.std.specs.List.{list_all}
 use Rattle.fp_tables.specs.Lists.{all_pass}
-use Rattle.fp_sound_model.specs.Parts.{tests_of_component}
+use Rattle.fp_sound_model.specs.Parts.{tests_of_component, PartsPass}
 use Rattle.fp_tables.specs.declared.component.Component.{Component}
-use Rattle.fp_sound_model.proofs.Parted.{Groups, from_groups, to_groups}
 use Rattle.fp_sound_model.proofs.parts.parts_are_sound.Goals as goal
 
 split : (a b : Bool) → IsTrue (a && b) → (a ≡ true) × (b ≡ true)
@@ -18,7 +17,7 @@ pub returns-then-not-branch : goal.returns-then-not-branch
 returns-then-not-branch c =
     let m = c.args.model.now in (
       λ h. absurd (cc),
-      λ s. let groups : Groups m = to_groups m s in absurd (cc (sym c.if-not-branch.true ∙ c.in_ok-types_are_sound.ensures ∙ groups.types)),
+      λ s. let passed : PartsPass m = s in absurd (cc (sym c.if-not-branch.true ∙ c.in_ok-types_are_sound.ensures ∙ passed.types)),
     )
 
 pub returns : goal.returns
@@ -28,8 +27,8 @@ returns c =
     let components = c.in_ok-components.ensures ∙ ap (λ (cs : List Component). list_all (all_pass (tests_of_component m)) cs) c.as_slice.ensures in (
       λ h.
           let k = split _ _ h in
-          from_groups m (record { types = types; definitions = sym c.in_ok-definitions.ensures ∙ k.0; components = sym components ∙ k.1 }),
+          record { types = types; definitions = sym c.in_ok-definitions.ensures ∙ k.0; components = sym components ∙ k.1 },
       λ s.
-          let groups : Groups m = to_groups m s in
-          unsplit _ _ (c.in_ok-definitions.ensures ∙ groups.definitions) (components ∙ groups.components),
+          let passed : PartsPass m = s in
+          unsplit _ _ (c.in_ok-definitions.ensures ∙ passed.definitions) (components ∙ passed.components),
     )

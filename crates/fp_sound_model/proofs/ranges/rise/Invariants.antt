@@ -1,5 +1,5 @@
 use Rattle.std.proofs.Common.{◌≡◌, None, drop}
-use Rattle.fp_sound_machines.specs.Walks.{rise_above}
+use Rattle.fp_sound_model.specs.IdRanges.{rise_above}
 use Rattle.fp_sound_model.proofs.ranges.rise.Given as goal
 
 abbrev pub invariant-loop-range : goal.invariant-loop-range

@@ -1,6 +1,6 @@
 use Rattle.std.proofs.Common.{map, ap, ap₂, sym, ◌∙◌}
 use Rattle.fp_tables.specs.Instances.{largest}
-use Rattle.fp_sound_machines.specs.Walks.{larger}
+use Rattle.fp_sound_model.specs.IdRanges.{larger}
 use Rattle.fp_tables.specs.declared.component.Command.{Command}
 use Rattle.fp_tables.specs.declared.component.Event.{Event}
 use Rattle.fp_tables.specs.declared.component.Channel.{Channel}

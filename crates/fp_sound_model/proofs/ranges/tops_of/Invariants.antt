@@ -1,5 +1,5 @@
 use Rattle.std.proofs.Common.{◌≡◌, map, take}
-use Rattle.fp_sound_machines.specs.Walks.{top_of}
+use Rattle.fp_sound_model.specs.IdRanges.{top_of}
 use Rattle.fp_sound_model.proofs.ranges.tops_of.Given as goal
 
 abbrev pub invariant-loop-component : goal.invariant-loop-component

@@ -5,7 +5,7 @@ use Rattle.fp_tables.specs.Instances.{numbers_are_in_range}
 use Rattle.fp_tables.specs.declared.topology.Instance.{Instance}
 use Rattle.fp_tables.specs.declared.machine.Machine.{Machine}
 use Rattle.fp_tables.specs.declared.kind.TypeDef.{TypeDef}
-use Rattle.fp_sound_model.proofs.Structured.{Tests, from_tests, to_tests}
+use Rattle.fp_sound_model.specs.Parts.{StructurePasses}
 use Rattle.fp_sound_model.proofs.whole.structure_is_sound.Goals as goal
 
 split : (a b c d : Bool) → IsTrue (((a && b) && c) && d) → (a ≡ true) × (b ≡ true) × (c ≡ true) × (d ≡ true)
@@ -27,8 +27,8 @@ returns c =
     in (
       λ h.
           let k = split _ _ _ _ h in
-          from_tests m (record { positions = sym c.positions_lie-positions.ensures ∙ k.0; ranges = sym c.in_ok-ranges.ensures ∙ k.1; numbers = sym numbers ∙ k.2; machines = sym machines ∙ k.3 }),
+          record { positions = sym c.positions_lie-positions.ensures ∙ k.0; ranges = sym c.in_ok-ranges.ensures ∙ k.1; numbers = sym numbers ∙ k.2; machines = sym machines ∙ k.3 },
       λ s.
-          let tests : Tests m = to_tests m s in
+          let tests : StructurePasses m = s in
           unsplit _ _ _ _ (c.positions_lie-positions.ensures ∙ tests.positions) (c.in_ok-ranges.ensures ∙ tests.ranges) (numbers ∙ tests.numbers) (machines ∙ tests.machines),
     )

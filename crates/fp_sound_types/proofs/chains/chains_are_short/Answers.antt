@@ -1,6 +1,6 @@
-use Rattle.std.proofs.Common.{◌+◌, ◌∙◌, Bool, not, List, sym, ap, subst, refl, arith}
+use Rattle.std.proofs.Common.{◌+◌, ◌∙◌, Bool, not, List, sym, ap, subst, refl, ap₂, arith}
 use Rattle.std.specs.List.{list_any}
-use Rattle.fp_sound_types.proofs.Chained.{AreMarks, first_marks, next_marks, short_early, short_late, users}
+use Rattle.fp_sound_types.proofs.Chained.{AreMarks, first_marks, next_marks, short_early, short_late, users, zero_is_last}
 use Rattle.fp_sound_types.proofs.chains.chains_are_short.Goals as goal
 
 abbrev any_of : List Bool → Bool
@@ -13,7 +13,7 @@ pub loop-preserved : goal.loop-preserved
 loop-preserved c =
     let types = c.args.types.now in
     next_marks types c.loop.counter (c.loop.counter + 1) c.loop.marks.items c.in_ok-marks-2.marks.items c.loop.invariant refl
-    (c.in_ok-marks-2.ensures ∙ ap (users types) (c.as_slice-in-loop).ensures.value)
+    (c.in_ok-marks-2.ensures ∙ ap₂ (users types) (c.as_slice-in-loop).ensures.value (zero_is_last c.loop.counter))
 
 pub returns-then-not-any_marked : goal.returns-then-not-any_marked
 returns-then-not-any_marked c =

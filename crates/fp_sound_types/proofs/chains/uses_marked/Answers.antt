@@ -1,7 +1,7 @@
 use Rattle.std.proofs.Common.{◌∙◌, ap, sym, List}
 use Rattle.std.specs.List.{list_any}
-use Rattle.fp_tables.specs.Types.{kinds_in}
-use Rattle.fp_tables.specs.Chains.{is_marked}
+use Rattle.std.specs.Prelude.{◌||◌, false}
+use Rattle.fp_sound_types.specs.Marks.{is_marked, uses_marked}
 use Rattle.fp_tables.specs.declared.kind.Field.{Field}
 use Rattle.fp_tables.specs.declared.kind.Form.{Form}
 use Rattle.fp_sound_types.proofs.Chained.{any_map}

@@ -8,7 +8,7 @@ use Rattle.fp_tables.specs.SoundPrograms.{same_place, same_guard}
 use Rattle.fp_tables.specs.declared.program.Caller.{Caller}
 use Rattle.fp_tables.specs.declared.program.Answers.{Answers}
 use Rattle.fp_sound_programs.proofs.Programming.{thirteen, thirteen_back}
-use Rattle.fp_sound_programs.proofs.programs.Program.is_sound.Goals as goal
+use Rattle.fp_sound_programs.proofs.programs.ProgramSoundProgram.is_sound.Goals as goal
 
 pub returns : goal.returns
 returns c =
