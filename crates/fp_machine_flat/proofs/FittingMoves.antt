@@ -4,12 +4,17 @@ use Rattle.std.proofs.lemmas.Bool.Decides.{nat_tests}
 use Rattle.std.proofs.lemmas.List.{length-replicate}
 use Rattle.std.specs.List.{list_all, slice_get, find}
 use Rattle.std.specs.Option.{option_map, unwrap_or, is_some}
+use Rattle.fp_base.proofs.Options.{some_of}
+use Rattle.fp_base.proofs.Bools.{both}
 use Rattle.fp_tables.specs.Lists.{if_some}
 use Rattle.fp_tables.specs.Lookup.{Described}
 use Rattle.fp_tables.specs.Machines as machines
-use Rattle.fp_tables.specs.Machines.{is_given, step_is_given, on_is_given, kind_of_signal}
+use Rattle.fp_tables.specs.Arguments.{same_target}
+use Rattle.fp_tables.specs.Components as components
+use Rattle.fp_tables.specs.Machines.{target, is_given, step_is_given, on_is_given, kind_of_signal}
 use Rattle.fp_tables.specs.Positions.{on_lies}
 use Rattle.fp_tables.specs.declared.kind.Kind.{Kind}
+use Rattle.fp_tables.specs.declared.kind.Kind.TheVariants as kind
 use Rattle.fp_tables.specs.declared.kind.TypeDef.{TypeDef}
 use Rattle.fp_tables.specs.declared.machine.Machine.{Machine}
 use Rattle.fp_tables.specs.declared.machine.Named.{Named}
@@ -18,12 +23,12 @@ use Rattle.fp_tables.specs.declared.machine.Node.TheVariants.{State, Choice}
 use Rattle.fp_tables.specs.declared.machine.Step.{Step}
 use Rattle.fp_tables.specs.declared.machine.On.{On}
 use Rattle.fp_tables.specs.declared.program.Program.{Program}
-use Rattle.fp_events.specs.Fits.{same_kind, actions_fit}
+use Rattle.fp_events.specs.Fits.{actions_fit, gives_kind}
 use Rattle.fp_events.specs.Machine.{Walk, Configuration, node, parent, upward, transitions_of, nearest, stays, answer, ask, unasked, goes, transits, starts, moves}
 use Rattle.fp_machine_flat.specs.Layout.{transitions_at, inherited}
 use Rattle.fp_machine_flat.specs.Moving.{is_leaf}
 use Rattle.fp_machine_flat.specs.Fitting.{IsFittingWalk}
-use Rattle.fp_machine_flat.proofs.SoundParts.{both, is_there, initial_low, on_target_low}
+use Rattle.fp_machine_flat.proofs.SoundParts.{initial_low, on_target_low}
 use Rattle.fp_machine_flat.proofs.Ranks.{rank, is_ranked, rank_low}
 use Rattle.fp_machine_flat.proofs.Laid.{find_holds, nearest_found, inherited_all, transitions_lie, leaf_within}
 use Rattle.fp_machine_flat.proofs.Given.{IsGiven, IsFit, all_more, of_kind, ask_keeps, step_on, goes_fit, state_parts}
@@ -52,7 +57,7 @@ module _ (types : List TypeDef) (m : Machine) (g : IsGiven types m) (answers : �
       go (Some step) is =
           let leads : if_some (λ (s : Step). is_some s.target) m.initial ≡ true =
           (both (if_some (λ (s : Step). is_some s.target) m.initial) (list_all machines.leads_somewhere m.vertices) g.sound.leads_somewhere).0 in
-          let t = is_there step.target (rw is at leads) in
+          let t = some_of step.target (rw is at leads) in
           let given : step_is_given types m None step ≡ true = ap (if_some (step_is_given types m None)) (sym is) ∙ g.initial in
           let fit : IsFit types m None (length (unasked m)) (goes m answers (length m.vertices) [] [] step (unasked m)) =
           way None [] [] step t.0 (unasked m) given t.1 (initial_low m step t.0 g.sound is t.1) in
@@ -134,20 +139,25 @@ module _ (types : List TypeDef) (m : Machine) (g : IsGiven types m) (answers : �
 
 -- ---- what the definition of entries asks
 
+-- one type is one, all strings being one
+one_target : (a b : Kind) → components.same_kind a b ≡ true → same_target a b ≡ true
+one_target (kind.Str m) (kind.Str n) h = refl
+one_target _ _ h = h
+
 module _ (t : Described) (program : Program) (m : Machine) where
-  same_kind_given : (k o : Option Kind) → of_kind t.model.types m k o ≡ true → same_kind t program o k ≡ true
+  same_kind_given : (k o : Option Kind) → of_kind t.model.types m k o ≡ true → gives_kind t program o k ≡ true
   same_kind_given k None h = refl
   same_kind_given None (Some j) h = absurd (cc)
-  same_kind_given (Some i) (Some j) h = refl
+  same_kind_given (Some i) (Some j) h = one_target (target t.model.types i) (target t.model.types j) h
 
-  named_given : (k : Option Kind) (o : Option Named) → is_given t.model.types m k o ≡ true → unwrap_or (option_map (λ (x : Named). same_kind t program x.kind k) o) false ≡ true
+  named_given : (k : Option Kind) (o : Option Named) → is_given t.model.types m k o ≡ true → unwrap_or (option_map (λ (x : Named). gives_kind t program x.kind k) o) false ≡ true
   named_given k None h = absurd (cc)
   named_given k (Some x) h = same_kind_given k x.kind h
 
   pub fitting : (k : Option Kind) (counted : ℕ) (w : Walk) → IsFit t.model.types m k counted w → IsFittingWalk t program k m counted w
   fitting k counted w h =
       let actions : actions_fit t program k m w.actions ≡ true =
-      all_more (λ a. is_given t.model.types m k (slice_get m.actions a)) (λ a. unwrap_or (option_map (λ (x : Named). same_kind t program x.kind k) (slice_get m.actions a)) false)
+      all_more (λ a. is_given t.model.types m k (slice_get m.actions a)) (λ a. unwrap_or (option_map (λ (x : Named). gives_kind t program x.kind k) (slice_get m.actions a)) false)
       (λ a. named_given k (slice_get m.actions a)) w.actions h.given in
       let within : w.reached.leaf < length m.vertices = leaf_within m w.reached.leaf h.leaf in
       let low : ltb w.reached.leaf (length m.vertices) ≡ true = grind (arith, nat_tests) in

@@ -5,6 +5,8 @@ use Rattle.std.proofs.lemmas.List.Folds.{list_all-append}
 use Rattle.std.specs.List.{list_all, slice_get, filter}
 use Rattle.std.specs.Prelude.{reverse}
 use Rattle.std.specs.Option.{option_map, unwrap_or}
+use Rattle.fp_base.proofs.Lists.{all_get}
+use Rattle.fp_base.proofs.Bools.{both}
 use Rattle.fp_tables.specs.Lists.{if_some, some_and}
 use Rattle.fp_tables.specs.Components.{same_kind}
 use Rattle.fp_tables.specs.Machines.{target, is_given, actions_are_given, guard_is_given, choice_is_given, behind_is_given, step_is_given, on_is_given, vertex_is_given}
@@ -20,7 +22,7 @@ use Rattle.fp_tables.specs.declared.machine.On.{On}
 use Rattle.fp_events.specs.Machine.{Walk, node, parent, upward, target_of, lists, entry_of, exit_of, is_in, crossing, answer, ask, onward, goes, IsRanked}
 use Rattle.fp_machine_flat.specs.Moving.{is_leaf}
 use Rattle.fp_machine_flat.specs.SoundMachine.{IsSoundMachine}
-use Rattle.fp_machine_flat.proofs.SoundParts.{both, all_get, get_some, vertex_of, initial_leads, choice_leads, state_low, choice_low}
+use Rattle.fp_machine_flat.proofs.SoundParts.{get_some, vertex_of, initial_leads, choice_leads, state_low, choice_low}
 
 pub all_more : {A : Type 0} (p q : A → Bool) → ((x : A) → p x ≡ true → q x ≡ true) → (xs : List A) → list_all p xs ≡ true → list_all q xs ≡ true
 all_more p q more [] h = refl

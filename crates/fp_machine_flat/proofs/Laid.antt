@@ -3,6 +3,9 @@ use Rattle.std.proofs.Common.{◌≡◌, ℕ, ◌*◌, ◌<◌, Bool, true, fals
 use Rattle.std.proofs.lemmas.List.Folds.{list_all-append}
 use Rattle.std.specs.List.{slice_get, find, list_all}
 use Rattle.std.specs.Option.{option_map, option_and_then, option_or, unwrap_or, is_some}
+use Rattle.fp_base.proofs.Options.{some_of}
+use Rattle.fp_base.proofs.Lists.{get_within}
+use Rattle.fp_base.proofs.Bools.{both}
 use Rattle.fp_tables.specs.Machines.{leads_somewhere}
 use Rattle.fp_tables.specs.Positions.{on_lies}
 use Rattle.fp_tables.specs.declared.machine.Machine.{Machine}
@@ -19,7 +22,7 @@ use Rattle.fp_machine_flat.specs.Walking.{walk}
 use Rattle.fp_machine_flat.specs.Moving.{has_no_initial, is_leaf, target_walk, Starts}
 use Rattle.fp_machine_flat.specs.Placed.{Grows, HasBranches, StandFor, StandForLeaves, found, IsTarget, IsFlat}
 use Rattle.fp_machine_flat.proofs.Climbing.{climb_none}
-use Rattle.fp_machine_flat.proofs.SoundParts.{both, get_some, get_within, is_there, node_within, initial_low, on_low, on_target_low}
+use Rattle.fp_machine_flat.proofs.SoundParts.{get_some, node_within, initial_low, on_low, on_target_low}
 use Rattle.fp_machine_flat.proofs.Ranks.{rank, is_ranked, rank_low}
 use Rattle.fp_machine_flat.proofs.Followed.{step_follows, transition_follows}
 
@@ -194,7 +197,7 @@ module _ (m : Machine) (sound : IsSoundMachine m) (nodes : List FlatNode) (place
       go (Some step) first is =
           let leads = both _ (list_all leads_somewhere m.vertices) sound.leads_somewhere in
           let there : is_some step.target ≡ true = rw first at leads.0 in
-          let t = is_there step.target there in
+          let t = some_of step.target there in
           let same : target_of step ≡ t.0 = ap (λ (o : Option ℕ). unwrap_or o 0) t.1 in
           let low : target_of step < length m.vertices = rw same (initial_low m step t.0 sound first t.1) in
           step_follows m answers nodes (rank m) (is_ranked m sound) (rank_low m) placed many start None None step (unasked m) low is

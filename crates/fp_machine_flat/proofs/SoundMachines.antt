@@ -2,6 +2,9 @@
 use Rattle.std.proofs.Common.{◌≡◌, ℕ, Bool, true, false, not, ◌&&◌, ◌||◌, ltb, Option, Some, None, length, refl}
 use Rattle.std.specs.List.{list_all, slice_get}
 use Rattle.std.specs.Option.{is_some, option_and_then, unwrap_or}
+use Rattle.fp_tables.specs.Specials.{no_parts}
+use Rattle.fp_base.proofs.Options.{then_some}
+use Rattle.fp_base.proofs.Bools.{both, not_true}
 use Rattle.fp_tables.specs.Components.{runs_no_external}
 use Rattle.fp_tables.specs.Lists.{all_from, if_some, some_and}
 use Rattle.fp_tables.specs.Lookup.{Described}
@@ -15,9 +18,9 @@ use Rattle.fp_tables.specs.declared.machine.Step.{Step}
 use Rattle.fp_tables.specs.declared.topology.Instance.{Instance}
 use Rattle.fp_tables.specs.declared.topology.Topology.{Topology}
 use Rattle.fp_tables.specs.declared.model.Model.{Model}
-use Rattle.fp_events.specs.Lookup.{machine, no_parts}
+use Rattle.fp_events.specs.Lookup.{machine}
 use Rattle.fp_machine_flat.specs.SoundMachine.{IsSoundMachine}
-use Rattle.fp_machine_flat.proofs.SoundParts.{both, all_get}
+use Rattle.fp_base.proofs.Lists.{all_get}
 use Rattle.fp_machine_flat.proofs.Given.{IsGiven}
 
 then_so : (a b : Bool) → (a || b) ≡ true → a ≡ false → b ≡ true
@@ -75,14 +78,6 @@ module _ (model : Model) (k : ℕ) (m : Machine) (sound : IsSound model) (at : s
 
 -- ---- the machines that run
 
-then_some : {A B : Type 0} (f : A → Option B) (o : Option A) (y : B) → option_and_then f o ≡ Some y → (x : A) × ((o ≡ Some x) × (f x ≡ Some y))
-then_some f None y h = absurd (cc)
-then_some f (Some x) y h = (x, (refl, h))
-
-not_true : (b : Bool) → not b ≡ true → b ≡ false
-not_true true h = absurd (cc)
-not_true false h = refl
-
 -- a machine that an instance runs is the model's, and has a body
 pub running_given : (t : Described) (i running : ℕ) (m : Machine) → IsSound t.model → machine t i running ≡ Some m → IsGiven t.model.types m
 running_given t i running m sound runs = go (option_and_then (λ (x : Instance). slice_get t.model.components x.component) (slice_get t.model.instances i)) refl runs
@@ -94,8 +89,8 @@ running_given t i running m sound runs = go (option_and_then (λ (x : Instance).
         let x = then_some (λ (x : Instance). slice_get t.model.components x.component) (slice_get t.model.instances i) c is in
         let r = then_some (λ (r : Running). slice_get t.model.machines r.machine) (slice_get c.machines running) m runs in
         let bodies : runs_no_external t.model.machines c ≡ true =
-        all_get (runs_no_external t.model.machines) t.model.components x.0.component c sound.no_external_machine_runs x.1.1 in
+        all_get (runs_no_external t.model.machines) t.model.components x.0.component c sound.no_external_machine_runs x.2 in
         let one : some_and (λ (m : Machine). not m.external) (slice_get t.model.machines r.0.machine) ≡ true =
-        all_get (λ (r : Running). some_and (λ (m : Machine). not m.external) (slice_get t.model.machines r.machine)) c.machines running r.0 bodies r.1.0 in
-        let body : not m.external ≡ true = rw r.1.1 at one in
-        machine_is_given t.model r.0.machine m sound r.1.1 (not_true m.external body)
+        all_get (λ (r : Running). some_and (λ (m : Machine). not m.external) (slice_get t.model.machines r.machine)) c.machines running r.0 bodies r.1 in
+        let body : not m.external ≡ true = rw r.2 at one in
+        machine_is_given t.model r.0.machine m sound r.2 (not_true m.external body)

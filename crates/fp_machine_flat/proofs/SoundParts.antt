@@ -1,8 +1,11 @@
 -- What a sound machine says of one vertex.
-use Rattle.std.proofs.Common.{◌≡◌, ℕ, zero, suc, ◌+◌, ◌<◌, Bool, true, false, ◌&&◌, ltb, List, [], ◌∷◌, Option, Some, None, length, refl, sym, ap, ◌∙◌, arith}
+use Rattle.std.proofs.Common.{◌≡◌, ℕ, zero, suc, ◌+◌, ◌<◌, Bool, true, ◌&&◌, ltb, List, [], ◌∷◌, Option, Some, None, length, refl, sym, arith}
 use Rattle.std.proofs.lemmas.Bool.Decides.{nat_tests}
-use Rattle.std.specs.Option.{option_map, option_and_then, is_some}
+use Rattle.std.specs.Option.{option_and_then, is_some}
 use Rattle.std.specs.List.{list_all, slice_get}
+use Rattle.fp_base.proofs.Options.{some_of, mapped_some}
+use Rattle.fp_base.proofs.Lists.{all_get, get_within}
+use Rattle.fp_base.proofs.Bools.{both}
 use Rattle.fp_tables.specs.Lists.{all_from, if_some}
 use Rattle.fp_tables.specs.Machines as machines
 use Rattle.fp_tables.specs.Positions.{stands_in_order, numbers_lie, step_lies, on_lies, node_lies, vertex_lies}
@@ -14,16 +17,6 @@ use Rattle.fp_tables.specs.declared.machine.Step.{Step}
 use Rattle.fp_tables.specs.declared.machine.On.{On}
 use Rattle.fp_events.specs.Machine.{node, parent}
 use Rattle.fp_machine_flat.specs.SoundMachine.{IsSoundMachine}
-
-pub both : (a b : Bool) → (a && b) ≡ true → (a ≡ true) × (b ≡ true)
-both true true h = (h, h)
-both true false h = absurd (cc)
-both false b h = absurd (cc)
-
-pub all_get : {X : Type 0} (p : X → Bool) (xs : List X) (k : ℕ) (x : X) → list_all p xs ≡ true → slice_get xs k ≡ Some x → p x ≡ true
-all_get p [] k x h e = absurd (cc)
-all_get p (y ∷ xs) zero x h e = let s : y ≡ x = cc in ap p (sym s) ∙ (both (p y) (list_all p xs) h).0
-all_get p (y ∷ xs) (suc k) x h e = all_get p xs k x (both (p y) (list_all p xs) h).1 e
 
 all_from_after : {X : Type 0} (p : ℕ → X → Bool) (n : ℕ) (xs : List X) (k : ℕ) (x : X) → all_from p n xs ≡ true → slice_get xs k ≡ Some x → p (n + k) x ≡ true
 all_from_after p n [] k x h e = absurd (cc)
@@ -40,23 +33,10 @@ all_from_get p xs k x h e =
     let z : 0 + k ≡ k = omega arith in
     rw z at (all_from_after p 0 xs k x h e)
 
-pub get_within : {A : Type 0} (xs : List A) (k : ℕ) (x : A) → slice_get xs k ≡ Some x → k < length xs
-get_within [] k x h = absurd (cc)
-get_within (y ∷ xs) zero x h = omega arith
-get_within (y ∷ xs) (suc k) x h = let low : k < length xs = get_within xs k x h in omega arith
-
 pub get_some : {A : Type 0} (xs : List A) (k : ℕ) → k < length xs → (x : A) × (slice_get xs k ≡ Some x)
 get_some [] k h = absurd (omega arith)
 get_some (y ∷ xs) zero h = (y, refl)
 get_some (y ∷ xs) (suc k) h = get_some xs k (omega arith)
-
-pub mapped_some : {A B : Type 0} (f : A → B) (o : Option A) (y : B) → option_map f o ≡ Some y → (x : A) × ((o ≡ Some x) × (f x ≡ y))
-mapped_some f None y h = absurd (cc)
-mapped_some f (Some x) y h = (x, (refl, cc))
-
-pub is_there : {A : Type 0} (o : Option A) → is_some o ≡ true → (x : A) × (o ≡ Some x)
-is_there None h = absurd (cc)
-is_there (Some x) h = (x, refl)
 
 ordered : (n p : ℕ) (f g : ℕ → Bool) (o : Option ℕ) → if_some (λ q. ltb q n && f q && g q) o ≡ true → o ≡ Some p → p < n
 ordered n p f g o h e =
@@ -67,7 +47,7 @@ ordered n p f g o h e =
 module _ (m : Machine) where
   -- the vertex at a position
   pub vertex_of : (v : ℕ) (n : Node) → node m v ≡ Some n → (x : Vertex) × ((slice_get m.vertices v ≡ Some x) × (x.node ≡ n))
-  vertex_of v n h = mapped_some (λ (x : Vertex). x.node) (slice_get m.vertices v) n h
+  vertex_of v n h = let x = mapped_some (λ (x : Vertex). x.node) (slice_get m.vertices v) n h in (x.0, (x.1, x.2))
 
   pub node_within : (v : ℕ) (n : Node) → node m v ≡ Some n → v < length m.vertices
   node_within v n h = let x = vertex_of v n h in get_within m.vertices v x.0 x.1.0
@@ -117,7 +97,7 @@ module _ (m : Machine) where
       let all = (both (if_some (λ (s : Step). is_some s.target) m.initial) (list_all machines.leads_somewhere m.vertices) sound.leads_somewhere).1 in
       let leads = all_get machines.leads_somewhere m.vertices v x.0 all x.1.0 in
       let one : (if_some (λ (s : Step). is_some s.target) (machines.initial_of x.0.node) && list_all (λ (s : Step). is_some s.target) (machines.branches_of x.0.node)) ≡ true = leads in
-      is_there initial.target (both (is_some initial.target) true (rw x.1.1 at one)).0
+      some_of initial.target (both (is_some initial.target) true (rw x.1.1 at one)).0
 
   pub choice_leads : (v guard : ℕ) (met unmet : Step) → IsSoundMachine m → node m v ≡ Some (Choice guard met unmet) →
       ((s : ℕ) × (met.target ≡ Some s)) × ((t : ℕ) × (unmet.target ≡ Some t))
@@ -128,7 +108,7 @@ module _ (m : Machine) where
       let one : (if_some (λ (s : Step). is_some s.target) (machines.initial_of x.0.node) && list_all (λ (s : Step). is_some s.target) (machines.branches_of x.0.node)) ≡ true = leads in
       let two : (is_some met.target && (is_some unmet.target && true)) ≡ true = rw x.1.1 at one in
       let first = both (is_some met.target) (is_some unmet.target && true) two in
-      (is_there met.target first.0, is_there unmet.target (both (is_some unmet.target) true first.1).0)
+      (some_of met.target first.0, some_of unmet.target (both (is_some unmet.target) true first.1).0)
 
   -- parents stand before their children
   pub parent_before : IsSoundMachine m → (v p : ℕ) → parent m v ≡ Some p → p < v

@@ -3,6 +3,7 @@ use Rattle.std.proofs.Common.{◌≡◌, ℕ, zero, suc, ◌+◌, ◌*◌, ◌<�
 use Rattle.std.proofs.lemmas.List.{take_more, map-append}
 use Rattle.std.proofs.lemmas.Bool.{cases_lt}
 use Rattle.std.specs.List.{slice_get}
+use Rattle.fp_base.proofs.Lists.{get_front, get_last}
 use Rattle.fp_tables.specs.declared.machine.Machine.{Machine}
 use Rattle.fp_tables.specs.declared.machine.On.{On}
 use Rattle.fp_events.specs.Machine.{node, upward}
@@ -10,20 +11,6 @@ use Rattle.fp_machine_flat.specs.declared.node.FlatNode.{FlatNode}
 use Rattle.fp_machine_flat.specs.declared.node.Counting.{Counting}
 use Rattle.fp_machine_flat.specs.Layout.{transition_node, branch_nodes, inherited}
 use Rattle.fp_machine_flat.specs.Placed.{Grows, HasBranches, StandFor, StandForLeaf, StandForLeaves}
-
-pub get_front : {A : Type 0} (xs ys : List A) (k : ℕ) (x : A) → slice_get xs k ≡ Some x → slice_get (xs ++ ys) k ≡ Some x
-get_front [] ys k x h = absurd (cc)
-get_front (y ∷ xs) ys zero x h = h
-get_front (y ∷ xs) ys (suc k) x h = get_front xs ys k x h
-
-pub get_last : {A : Type 0} (xs : List A) (x : A) → slice_get (xs ++ x ∷ []) (length xs) ≡ Some x
-get_last [] x = refl
-get_last (y ∷ xs) x = get_last xs x
-
-pub get_within : {A : Type 0} (xs : List A) (k : ℕ) (x : A) → slice_get xs k ≡ Some x → k < length xs
-get_within [] k x h = absurd (cc)
-get_within (y ∷ xs) zero x h = omega arith
-get_within (y ∷ xs) (suc k) x h = let low : k < length xs = get_within xs k x h in omega arith
 
 module _ (m : Machine) (leaf : ℕ) where
   pub stand_grows : (before after : List FlatNode) → Grows before after → (cs : List Counting) (ps : List (ℕ × On)) → StandFor m leaf before cs ps → StandFor m leaf after cs ps

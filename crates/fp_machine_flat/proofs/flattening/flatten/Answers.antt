@@ -1,5 +1,6 @@
+use Rattle.fp_base.proofs.Lists.{get_last}
 use Rattle.fp_machine_flat.proofs.Laid.{laid}
-use Rattle.fp_machine_flat.proofs.Standing.{get_last, grows_on, grows_more}
+use Rattle.fp_machine_flat.proofs.Standing.{grows_on, grows_more}
 use Rattle.fp_machine_flat.proofs.flattening.flatten.Goals as goal
 
 pub invariant_of-result : goal.invariant_of-result
