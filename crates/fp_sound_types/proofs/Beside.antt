@@ -1,6 +1,6 @@
 -- Two lists side by side, an item of each at a time.
 use Rattle.std.proofs.Common.{◌≡◌, suc, Bool, true, false, ◌&&◌, List, [], ◌∷◌, length, ◌⊎◌, inl, inr, refl, sym, ap, ap₂, ◌∙◌}
-use Rattle.fp_sound_types.specs.Shapes.{all_beside}
+use Rattle.fp_tables.specs.Lists.{all_beside}
 
 module _ {A B : Type 0} (test : A → B → Bool) where
   pub unlike_lengths : (xs : List A) (ys : List B) → (length ys ≡ length xs → ⊥) → false ≡ all_beside test xs ys

@@ -7,7 +7,7 @@ use Rattle.fp_base.specs.declared.value.Value.TheViews.{Array, Struct}
 use Rattle.fp_base.specs.declared.value.Value.TheBlock as block
 use Rattle.fp_base.specs.declared.value.Part.{Part}
 use Rattle.fp_tables.specs.Types.{leaves, items_leaves, parts_leaves, levels, items_levels, parts_levels}
-use Rattle.fp_sound_types.proofs.Shaped.{items_of, parts_of}
+use Rattle.fp_tables.proofs.Shaped.{items_of, parts_of}
 
 abbrev in_part : (Value → ℕ) → Part → ℕ
 in_part f p = f p.value

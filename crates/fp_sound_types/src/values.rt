@@ -2,7 +2,9 @@ ghost use Rattle.std.specs.Prelude.{◌≡◌};
 ghost use Rattle.std.specs.List.{list_all, list_any};
 ghost use Rattle.fp_base.specs.Same.{same};
 ghost use Rattle.fp_tables.specs.Types.{has, has_kind};
-ghost use Rattle.fp_sound_types.specs.Shapes.{meant, all_beside, part_has};
+ghost use Rattle.fp_sound_types.specs.Shapes.{meant};
+ghost use Rattle.fp_tables.specs.Lists.{all_beside};
+ghost use Rattle.fp_tables.specs.Types.{part_has};
 ghost use Rattle.fp_tables.specs.declared.kind.Constant.{Constant};
 
 use crate::shapes::{Shape, member_shape, shape_of};

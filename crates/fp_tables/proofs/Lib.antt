@@ -1,7 +1,9 @@
+pub mod Aliases
 pub mod Aliasing
 pub mod Alls
 pub mod Binding
 pub mod Differing
 pub mod Firsts
 pub mod Joined
+pub mod Shaped
 pub mod Short

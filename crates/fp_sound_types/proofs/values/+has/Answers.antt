@@ -4,10 +4,12 @@ use Rattle.std.specs.List.{list_all}
 use Rattle.fp_base.specs.declared.value.Value.{Value}
 use Rattle.fp_base.specs.declared.value.Part.{Part}
 use Rattle.fp_tables.specs.Types.{Shape, has, shape}
-use Rattle.fp_sound_types.specs.Shapes.{meant, all_beside, part_has}
+use Rattle.fp_sound_types.specs.Shapes.{meant}
+use Rattle.fp_tables.specs.Lists.{all_beside}
+use Rattle.fp_tables.specs.Types.{part_has}
 use Rattle.fp_sound_types.specs.declared.shapes.Shape.{Shape as Read}
 use Rattle.fp_tables.specs.declared.kind.TypeDef.{TypeDef}
-use Rattle.fp_sound_types.proofs.Shaped.{array_has, struct_has}
+use Rattle.fp_tables.proofs.Shaped.{array_has, struct_has}
 use Rattle.fp_sound_types.proofs.values.+has.Goals as goal
 
 abbrev has_read : List TypeDef → Read → Value → Bool

@@ -3,7 +3,9 @@ use Rattle.std.specs.List.{list_all}
 use Rattle.std.specs.Slice.Iter.{iter_rest}
 use Rattle.std.specs.Iterator.Adapters.{zip_first, zip_second}
 use Rattle.fp_tables.specs.Types.{has}
-use Rattle.fp_sound_types.specs.Shapes.{meant, all_beside, part_has}
+use Rattle.fp_sound_types.specs.Shapes.{meant}
+use Rattle.fp_tables.specs.Lists.{all_beside}
+use Rattle.fp_tables.specs.Types.{part_has}
 use Rattle.fp_sound_types.proofs.values.+has.Given as goal
 
 abbrev pub invariant-items_have-loop-item : goal.invariant-items_have-loop-item

@@ -8,7 +8,8 @@ use denote.Ref.{Bor}
 use Rattle.std.proofs.lemmas.List.{take_all}
 use Rattle.fp_tables.specs.Arguments.{formals_bound}
 use Rattle.fp_tables.specs.declared.kind.Formal.{Formal}
-use Rattle.fp_tables.proofs.Firsts.{filled, kept, none_of}
+use Rattle.fp_base.proofs.Options.{none_of}
+use Rattle.fp_tables.proofs.Firsts.{filled, kept}
 use Rattle.fp_tables.proofs.Binding.{formal_bound}
 use Rattle.fp_tables.specs.declared.kind.Kind.{Kind}
 use Rattle.fp_tables.proofs.bindings.Bound.of.Goals as goal

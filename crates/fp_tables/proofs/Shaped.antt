@@ -8,8 +8,8 @@ use Rattle.fp_base.specs.declared.value.Value.{Value, Array', Struct', Row_of-Va
 use Rattle.fp_base.specs.declared.value.Value.TheViews.{Array, Struct}
 use Rattle.fp_base.specs.declared.value.Value.TheBlock as block
 use Rattle.fp_base.specs.declared.value.Part.{Part}
-use Rattle.fp_tables.specs.Types.{Shape, array, struct, shape, member_shape, has, items_have, parts_have}
-use Rattle.fp_sound_types.specs.Shapes.{all_beside, part_has}
+use Rattle.fp_tables.specs.Lists.{all_beside}
+use Rattle.fp_tables.specs.Types.{Shape, array, struct, shape, member_shape, has, items_have, parts_have, part_has}
 use Rattle.fp_tables.specs.declared.kind.Kind.{Kind}
 use Rattle.fp_tables.specs.declared.kind.Field.{Field}
 use Rattle.fp_tables.specs.declared.kind.TypeDef.{TypeDef}
