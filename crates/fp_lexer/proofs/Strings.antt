@@ -2,21 +2,10 @@
 use Rattle.std.proofs.Common.{◌≡◌, ℕ, ◌+◌, List, [], ◌∷◌, ◌++◌, length, Some, None, Option, sym, ap, ◌∙◌, arith, suc, refl, cond, true, false, Bool, not, ◌||◌, ◌&&◌}
 use Rattle.std.specs.Prelude.{◌==◌}
 use Rattle.std.proofs.lemmas.Bool.{eqb-true}
+use Rattle.fp_base.proofs.Bools.{neither, not_true}
 use Rattle.fp_lexer.specs.Bytes.{is_body}
 use Rattle.fp_lexer.specs.Scan.{string_len, one_more, past_bytes}
 use Rattle.fp_lexer.proofs.Runs.{bool_cases, cond_true, cond_false, and_left, and_right}
-
-not_true : (b : Bool) → not b ≡ true → b ≡ false
-not_true true e = cc
-not_true false e = refl
-
-or_left : (a b : Bool) → (a || b) ≡ false → a ≡ false
-or_left true b e = e
-or_left false b e = refl
-
-or_right : (a b : Bool) → (a || b) ≡ false → b ≡ false
-or_right true b e = cc
-or_right false b e = e
 
 pub some_more : (n : ℕ) → one_more (Some n) ≡ Some (suc n)
 some_more n = ap (λ (k : ℕ). Some k) (omega arith)
@@ -42,7 +31,7 @@ string_complete false (b ∷ bs) more h = bool_cases (b == 92) _
     let i : (not (b == 34 || b == 10) && is_body false bs) ≡ true = sym (cond_false (b == 92) (is_body true bs) (not (b == 34 || b == 10) && is_body false bs) e) ∙ h in
     let o = not_true (b == 34 || b == 10) (and_left (not (b == 34 || b == 10)) (is_body false bs) i) in
     let rest = one_more (string_len (b == 92) (bs ++ 34 ∷ more)) in
-    cond_false (b == 34) (Some 0) (cond (b == 10) None rest) (or_left (b == 34) (b == 10) o) ∙ cond_false (b == 10) None rest (or_right (b == 34) (b == 10) o)
+    cond_false (b == 34) (Some 0) (cond (b == 10) None rest) (neither (b == 34) (b == 10) o).0 ∙ cond_false (b == 10) None rest (neither (b == 34) (b == 10) o).1
     ∙ ap (λ (v : Bool). one_more (string_len v (bs ++ 34 ∷ more))) e ∙ ap one_more (string_complete false bs more (and_right (not (b == 34 || b == 10)) (is_body false bs) i)) ∙ some_more (length bs))
 
 -- what was read is a body and a quote

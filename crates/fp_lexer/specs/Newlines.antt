@@ -1,7 +1,7 @@
 -- Which newlines count. FPP Language Specification, "Lexical Elements", automatic suppression of newlines; this profile: after and before
 -- the words listed here.
 use Rattle.std.specs.Prelude.{ℕ, ◌||◌, ◌==◌, List, [], ◌∷◌, Bool, true, false, cond}
-use Rattle.fp_lexer.specs.Words.{else_word}
+use Rattle.fp_lexer.specs.Words.{reserved, mark}
 use Rattle.fp_lexer.specs.declared.token.Word.{Word}
 use Rattle.fp_lexer.specs.declared.token.Word.TheVariants.{Reserved, Mark, Newline, Before, After}
 use Rattle.fp_lexer.specs.declared.token.Token.{Token}
@@ -20,11 +20,11 @@ ignores separated = true
 
 -- newlines are ignored after ( * + - -> / : = [ {
 abbrev pub opens : ℕ → Bool
-opens k = k == 0 || (k == 6 || (k == 8 || (k == 9 || (k == 10 || (k == 7 || (k == 13 || (k == 15 || (k == 2 || k == 4))))))))
+opens k = k == mark "(" || (k == mark "*" || (k == mark "+" || (k == mark "-" || (k == mark "->" || (k == mark "/" || (k == mark ":" || (k == mark "=" || (k == mark "[" || (k == mark "{")))))))))
 
 -- after a mark: `,` and `;` separate
 abbrev pub after_mark : ℕ → Ground
-after_mark k = cond (k == 11 || k == 14) separated (cond (opens k) ignored counts)
+after_mark k = cond (k == mark "," || k == mark ";") separated (cond (opens k) ignored counts)
 
 -- after an annotation of what stands before
 abbrev pub after_post : Ground → Ground
@@ -47,8 +47,8 @@ after_newline separated = separated
 
 -- newlines are ignored before ) ] } else @<
 abbrev pub ignored_before : Word → Bool
-ignored_before (Mark k) = k == 1 || (k == 3 || k == 5)
-ignored_before (Reserved k) = k == else_word
+ignored_before (Mark k) = k == mark ")" || (k == mark "]" || k == mark "}")
+ignored_before (Reserved k) = k == reserved "else"
 ignored_before (After s) = true
 ignored_before w = false
 

@@ -2,6 +2,7 @@
 use Rattle.std.specs.Prelude.{slice_index, ℕ, ◌+◌, ◌-◌, ◌*◌, ◌==◌, ◌&&◌, ◌||◌, List, [], ◌∷◌, cond, drop, true, false, not, nat_lt, Bool, Option, Some, None}
 use Rattle.std.specs.List.{prefix_len}
 use Rattle.fp_lexer.specs.Bytes.{is_digit, is_hex_digit, hex_digit, newline_len}
+use Rattle.fp_lexer.specs.Words.{mark}
 use Rattle.fp_lexer.specs.declared.shape.Shape.{Shape}
 use Rattle.fp_lexer.specs.declared.shape.Shape.TheVariants as shape
 
@@ -64,10 +65,10 @@ float_len xs = prefix_len is_digit xs + tail_len (drop (prefix_len is_digit xs) 
 -- the mark of one byte
 abbrev pub one_mark : ℕ → Option ℕ
 one_mark b =
-    cond (b == 40) (Some 0) (cond (b == 41) (Some 1) (cond (b == 91) (Some 2) (cond (b == 93) (Some 3) (
-    cond (b == 123) (Some 4) (cond (b == 125) (Some 5) (cond (b == 42) (Some 6) (cond (b == 47) (Some 7) (
-    cond (b == 43) (Some 8) (cond (b == 45) (Some 9) (cond (b == 44) (Some 11) (cond (b == 46) (Some 12) (
-    cond (b == 58) (Some 13) (cond (b == 59) (Some 14) (cond (b == 61) (Some 15) None))))))))))))))
+    cond (b == 40) (Some (mark "(")) (cond (b == 41) (Some (mark ")")) (cond (b == 91) (Some (mark "[")) (cond (b == 93) (Some (mark "]")) (
+    cond (b == 123) (Some (mark "{")) (cond (b == 125) (Some (mark "}")) (cond (b == 42) (Some (mark "*")) (cond (b == 47) (Some (mark "/")) (
+    cond (b == 43) (Some (mark "+")) (cond (b == 45) (Some (mark "-")) (cond (b == 44) (Some (mark ",")) (cond (b == 46) (Some (mark ".")) (
+    cond (b == 58) (Some (mark ":")) (cond (b == 59) (Some (mark ";")) (cond (b == 61) (Some (mark "=")) None))))))))))))))
 
 abbrev pub one_mark_shape : Option ℕ → Option (Shape × ℕ)
 one_mark_shape None = None
@@ -79,7 +80,7 @@ other b next =
     cond (b == 32 || b == 9) (Some (shape.Blank, 1)) (
     cond (b == 10) (Some (shape.Newline, 1)) (
     cond (b == 13 && next == 10) (Some (shape.Newline, 2)) (
-    cond (b == 45 && next == 62) (Some (shape.Mark 10, 2)) (
+    cond (b == 45 && next == 62) (Some (shape.Mark (mark "->"), 2)) (
     one_mark_shape (one_mark b)))))
 
 abbrev pub one_more : Option ℕ → Option ℕ

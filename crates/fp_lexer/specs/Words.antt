@@ -1,6 +1,8 @@
 -- The reserved words and the marks, each by its number. FPP Language Specification, "Lexical Elements": reserved words and symbols.
 -- This profile: the words and marks of these two tables, and no others.
-use Rattle.std.specs.Prelude.{ℕ, List, [], ◌∷◌, codes}
+use Rattle.std.specs.Prelude.{ℕ, suc, cond, List, [], ◌∷◌, codes}
+use Prim.Native.String.{String}
+use Rattle.fp_base.specs.Same.{same_text}
 
 abbrev pub words : List (List ℕ)
 words =
@@ -119,11 +121,20 @@ words =
     codes "yellow" ∷
     []
 
--- the number of `else`
-abbrev pub else_word : ℕ
-else_word = 24
-
 abbrev pub marks : List (List ℕ)
 marks =
     codes "(" ∷ codes ")" ∷ codes "[" ∷ codes "]" ∷ codes "{" ∷ codes "}" ∷ codes "*" ∷ codes "/" ∷ codes "+" ∷ codes "-" ∷
     codes "->" ∷ codes "," ∷ codes "." ∷ codes ":" ∷ codes ";" ∷ codes "=" ∷ []
+
+-- the place of a text in a table, which is the table's length where it isn't there
+abbrev pub place_of : List ℕ → List (List ℕ) → ℕ
+place_of text [] = 0
+place_of text (row ∷ rows) = cond (same_text text row) 0 (suc (place_of text rows))
+
+-- the number of a reserved word
+abbrev pub reserved : String → ℕ
+reserved text = place_of (codes text) words
+
+-- the number of a mark
+abbrev pub mark : String → ℕ
+mark text = place_of (codes text) marks

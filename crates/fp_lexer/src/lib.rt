@@ -3,8 +3,10 @@
 
 mod bytes;
 mod lexing;
+pub mod mark;
 mod newlines;
 mod pieces;
+pub mod reserved;
 mod scan;
 mod shape;
 mod token;

@@ -4,14 +4,16 @@ ghost use Rattle.fp_lexer.specs.Found.{resume, newline_read, ground_of, standing
 ghost use Rattle.fp_lexer.specs.declared.token.Token.{Token};
 ghost use Rattle.fp_base.specs.declared.place.Span.{Span};
 
+use crate::mark::{
+    ARROW, CLOSE, CLOSE_BRACE, CLOSE_BRACKET, COLON, COMMA, EQUALS, MINUS, OPEN, OPEN_BRACE,
+    OPEN_BRACKET, OVER, PLUS, SEMICOLON, TIMES,
+};
+use crate::reserved::ELSE;
 use crate::token::{Token, Word};
 use fp_base::{NoMemory, Row, Span};
 
-/// The number of the reserved word `else`.
-const ELSE: u8 = 24;
-
 /// What a newline would mean at a place, by what stands before it.
-#[derive(Clone, Copy, PartialEq, Eq)]
+#[derive(Clone, Copy)]
 pub enum Standing {
     Counts,
     Ignored,
@@ -34,7 +36,10 @@ fn is_newline(word: &Word) -> bool
 fn opens(mark: u8) -> bool
     ensures { result ≡ opens mark }
 {
-    matches!(mark, 0 | 2 | 4 | 6..=10 | 13 | 15)
+    matches!(
+        mark,
+        OPEN | TIMES | PLUS | MINUS | ARROW | OVER | COLON | EQUALS | OPEN_BRACKET | OPEN_BRACE
+    )
 }
 
 /// Newlines are ignored before `) ] } else @<`.
@@ -42,7 +47,7 @@ fn ignored_before(word: &Word) -> bool
     ensures { result ≡ ignored_before word.now }
 {
     match word {
-        Word::Mark(mark) => matches!(*mark, 1 | 3 | 5),
+        Word::Mark(mark) => matches!(*mark, CLOSE | CLOSE_BRACKET | CLOSE_BRACE),
         Word::Reserved(number) => *number == ELSE,
         Word::After(_) => true,
         _ => false,
@@ -65,7 +70,7 @@ fn after_newline(standing: Standing, span: Span) -> Standing
 fn after_mark(mark: u8) -> Standing
     ensures { result ≡ standing (after_mark mark) }
 {
-    if matches!(mark, 11 | 14) {
+    if matches!(mark, COMMA | SEMICOLON) {
         Standing::Separated
     } else if opens(mark) {
         Standing::Ignored

@@ -5,6 +5,7 @@ ghost use Rattle.fp_lexer.specs.Found.{GivesPiece};
 ghost use Rattle.fp_lexer.specs.Scan.{hex_starts, other, tail_len};
 
 use crate::bytes::{byte_at, is_digit, is_letter, line_end, name_end, newline_len};
+use crate::mark::ARROW;
 use crate::scan::{
     bad_escape, digits_end, hex_number, hex_starts, long_end, number, one_mark, string_end,
     tail_end,
@@ -13,11 +14,8 @@ use crate::shape::{Part, Shape};
 use crate::words::reserved;
 use fp_base::Rule;
 
-/// The number of the mark `->`.
-const ARROW: u8 = 10;
-
 /// What is wrong with a piece: the rule that is broken, and where.
-#[derive(Clone, Copy, PartialEq, Eq)]
+#[derive(Clone, Copy)]
 pub struct Flaw {
     pub rule: Rule,
     pub at: usize,

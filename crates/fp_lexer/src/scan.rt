@@ -4,6 +4,10 @@ ghost use Rattle.fp_lexer.specs.Bytes.{is_digit, is_hex_digit, newline_len};
 ghost use Rattle.fp_lexer.specs.Scan.{run_value, run_hex, hex_starts, fraction_len, sign_len, signed_len, exponent_len, tail_len, one_mark, string_len, long_len, bad_len, spaces};
 
 use crate::bytes::{byte_at, hex_digit, is_digit, is_hex_digit, newline_len};
+use crate::mark::{
+    CLOSE, CLOSE_BRACE, CLOSE_BRACKET, COLON, COMMA, DOT, EQUALS, MINUS, OPEN, OPEN_BRACE,
+    OPEN_BRACKET, OVER, PLUS, SEMICOLON, TIMES,
+};
 
 /// The largest number of a token.
 const LARGEST: u128 = 0x7fff_ffff_ffff_ffff_ffff_ffff_ffff_ffff;
@@ -223,21 +227,21 @@ pub fn one_mark(b: u8) -> Option<u8>
     ensures { result ≡ one_mark b }
 {
     match b {
-        b'(' => Some(0),
-        b')' => Some(1),
-        b'[' => Some(2),
-        b']' => Some(3),
-        b'{' => Some(4),
-        b'}' => Some(5),
-        b'*' => Some(6),
-        b'/' => Some(7),
-        b'+' => Some(8),
-        b'-' => Some(9),
-        b',' => Some(11),
-        b'.' => Some(12),
-        b':' => Some(13),
-        b';' => Some(14),
-        b'=' => Some(15),
+        b'(' => Some(OPEN),
+        b')' => Some(CLOSE),
+        b'[' => Some(OPEN_BRACKET),
+        b']' => Some(CLOSE_BRACKET),
+        b'{' => Some(OPEN_BRACE),
+        b'}' => Some(CLOSE_BRACE),
+        b'*' => Some(TIMES),
+        b'/' => Some(OVER),
+        b'+' => Some(PLUS),
+        b'-' => Some(MINUS),
+        b',' => Some(COMMA),
+        b'.' => Some(DOT),
+        b':' => Some(COLON),
+        b';' => Some(SEMICOLON),
+        b'=' => Some(EQUALS),
         _ => None,
     }
 }

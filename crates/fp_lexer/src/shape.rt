@@ -11,14 +11,14 @@ use fp_base::{NoMemory, Text};
 use std::alloc::Global;
 
 /// A part of a text, from an offset to another.
-#[derive(Clone, Copy, PartialEq, Eq)]
+#[derive(Clone, Copy)]
 pub struct Part {
     pub from: usize,
     pub past: usize,
 }
 
 /// A piece as it stands in its text.
-#[derive(Clone, Copy, PartialEq, Eq)]
+#[derive(Clone, Copy)]
 pub enum Shape {
     /// A blank, a comment, or a backslash and a newline.
     Blank,
