@@ -1,7 +1,8 @@
 -- What is made of a value in a type, from what is made of its parts.
 use Rattle.std.proofs.Common.{◌≡◌, ◌↔◌, ℕ, ◌-◌, ℤ, Bool, true, false, cond, ◌&&◌, List, length, Option, Some, None, refl, sym, ◌∙◌, subst, arith}
-use Rattle.std.specs.Prelude.{IsTrue, int_le, option_map, Result, Ok, Err, IfOk}
+use Rattle.std.specs.Prelude.{IsTrue, int_le, option_map}
 use Rattle.std.specs.List.{list_any}
+use Rattle.fp_base.proofs.Options.{same_some}
 use Rattle.fp_base.specs.Same.{same}
 use Rattle.fp_base.specs.declared.value.Value.{Value, Int, Enumerated}
 use Rattle.fp_base.specs.declared.value.Value.TheOpen as value
@@ -14,10 +15,6 @@ use Rattle.fp_types.specs.Converting.{Opened, opened, IsSingle, Target, integer,
 use Rattle.fp_types.specs.Reaching.{as_integer, as_truth, as_words, as_constant, items_of, parts_of, listed, structured, repeated, completed, Reaches, ReachesEach, ReachesIn, IsMade, IsMadeOfEach, IsMadeOfPart, AreMadeOfMembers, AreMadeInEach}
 use Rattle.fp_types.proofs.Inverting.{integer_back, truth_back, words_back, constants_back, nothing_back, array_back, struct_back, alias_back}
 use Rattle.fp_types.proofs.Reached.{reached_inside, reached_named}
-
-pub if_ok_then : {A E : Type 0} (r : Result A E) (P Q : A → Type 0) → ((x : A) → P x → Q x) → IfOk r P → IfOk r Q
-if_ok_then (Ok x) P Q then h = then x h
-if_ok_then (Err e) P Q then h = tt
 
 not_both : {A : Type 0} {b : Bool} → b ≡ true → b ≡ false → A
 not_both e f = let both : true ≡ false = sym e ∙ f in cc
@@ -195,9 +192,6 @@ part_some types r fields p m w e h = subst (λ (x : Option Value). IsMadeOfPart 
 pub part_none : (types : List TypeDef) (r : Type 0) (fields : List Field) (p : Part) (m : Option Value) → m ≡ None → IsMadeOfPart types r fields p m
     → r → (f : Field) (w : Value) → member_named fields p.name ≡ Some f → Becomes types (opened p.value) (member f) w → ⊥
 part_none types r fields p m e h = subst (λ (x : Option Value). IsMadeOfPart types r fields p x) e h
-
-same_some : {A : Type 0} {x y : A} → Some x ≡ Some y → x ≡ y
-same_some e = cc
 
 none_some : {A B : Type 0} {x : A} {o : Option A} → None ≡ o → o ≡ Some x → B
 none_some e d = let both : None ≡ Some _ = e ∙ d in cc

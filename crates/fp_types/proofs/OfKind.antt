@@ -1,10 +1,12 @@
 -- What a value becomes in a type is one of the type's values.
-use Rattle.std.proofs.Common.{◌≡◌, ℕ, zero, suc, Bool, true, false, not, cond, ◌&&◌, ◌||◌, List, [], ◌∷◌, map, length, replicate, eqb, slice_get, Option, Some, None, refl, sym, ap, ◌∙◌, subst}
+use Rattle.std.proofs.Common.{◌≡◌, ℕ, zero, suc, Bool, true, false, not, cond, ◌&&◌, List, [], ◌∷◌, map, length, replicate, eqb, slice_get, Option, Some, None, refl, sym, ap, ◌∙◌, subst}
 use Rattle.std.specs.Prelude.{find, unwrap_or, option_map}
 use Rattle.std.specs.List.{list_all, list_any}
 use Rattle.std.specs.Str.{bytes_eq}
 use Rattle.std.proofs.lemmas.Slice.Eq.{bytes_eq-Decides}
 use Rattle.std.proofs.lemmas.List.{length-replicate}
+use Rattle.fp_base.proofs.Bools.{both, neither}
+use Rattle.fp_base.proofs.Options.{same_some}
 use Rattle.fp_base.proofs.Sameness.{nat_same}
 use Rattle.fp_base.specs.declared.value.Value.{Value, out-Value, roll-Value, roll-out-Value}
 use Rattle.fp_base.specs.declared.value.Value.TheOpen as value
@@ -25,13 +27,6 @@ use Rattle.fp_types.specs.Converting.{Opened, Target, integer, truth, words, arr
 use Rattle.fp_types.proofs.Inverting.{nothing_back}
 use Rattle.fp_types.proofs.Aliases.{shape_of_form}
 use Rattle.fp_types.proofs.Shaped.{all_beside, part_has, array_has, struct_has}
-
-same_some : {A : Type 0} {x y : A} → Some x ≡ Some y → x ≡ y
-same_some e = cc
-
-pub both : (a b : Bool) → (a && b) ≡ true → (a ≡ true) × (b ≡ true)
-both true b e = (refl, e)
-both false b e = absurd (cc)
 
 and : (a b : Bool) → a ≡ true → b ≡ true → (a && b) ≡ true
 and true b e d = d
@@ -61,10 +56,6 @@ names fs = map (λ (f : Field). f.name) fs
 
 later : (g : Field) (gs : List Field) (name : List ℕ) (f : Field) → bytes_eq g.name name ≡ false → member_named gs name ≡ Some f → member_named (g ∷ gs) name ≡ Some f
 later g gs name f differs h = rw differs h
-
-neither : (a b : Bool) → (a || b) ≡ false → (a ≡ false) × (b ≡ false)
-neither true b e = absurd (cc)
-neither false b e = (refl, e)
 
 is_not : (b : Bool) → not b ≡ true → b ≡ false
 is_not true e = absurd (cc)

@@ -2,6 +2,7 @@
 use Rattle.std.proofs.Common.{◌≡◌, ℕ, pos, zero, suc, ◌+◌, max, true, ◌&&◌, List, [], ◌∷◌, slice_get, Option, Some, None, refl, sym, ap, ap₂, ◌∙◌}
 use Rattle.std.specs.Prelude.{option_map, nat_le}
 use Rattle.std.specs.Str.{bytes_eq}
+use Rattle.fp_base.proofs.Bools.{both}
 use Rattle.fp_base.specs.declared.value.Value.{Value, Int, Bool as Truth, Text, Enumerated, Array', Struct', Opaque, Row_of-Value, more_of-Value, end_of-Value}
 use Rattle.fp_base.specs.declared.value.Value.TheBlock as block
 use Rattle.fp_tables.specs.Types.{Shape, integer, truth, words, array, struct, constants, opaque, has, has_kind, items_have, parts_have, shape, member_shape, of_form, form_at, form_has_values, type_has_values, leaves, items_leaves, parts_leaves, levels, items_levels, parts_levels, is_of_size}
@@ -13,7 +14,7 @@ use Rattle.fp_types.specs.Given.{AreTypes}
 use Rattle.fp_types.specs.Converting.{Opened, target, defined_if, Becomes, Converts}
 use Rattle.fp_types.proofs.Inverting.{nothing_back}
 use Rattle.fp_types.proofs.Aliases.{shape_of_form}
-use Rattle.fp_types.proofs.OfKind.{both, all_at, converted_has_kind}
+use Rattle.fp_types.proofs.OfKind.{all_at, converted_has_kind}
 
 module _ (types : List TypeDef) where
   mutual

@@ -1,15 +1,13 @@
 -- A value becomes one value of a type at most.
 use Rattle.std.proofs.Common.{◌≡◌, ℕ, List, ◌∷◌, Some, refl, sym, ap, ◌∙◌, subst}
 use Rattle.std.specs.Prelude.{replicate}
+use Rattle.fp_base.proofs.Options.{same_some}
 use Rattle.fp_base.specs.declared.value.Value.{Value, Array, Struct}
 use Rattle.fp_base.specs.declared.value.Part.{Part}
 use Rattle.fp_tables.specs.declared.kind.Kind.{Kind}
 use Rattle.fp_tables.specs.declared.kind.Field.{Field}
 use Rattle.fp_tables.specs.declared.kind.TypeDef.{TypeDef}
 use Rattle.fp_types.specs.Converting.{Opened, Target, member, member_named, parts_in, with_given, Becomes, number, numbered, truth_value, text, constant, part_by_part, member_by_member, in_each_part, in_each_member, aliased, EachBecomes, none, more, MembersBecome, no_part, part, BecomesInEach, no_member, in_member}
-
-same_some : {A : Type 0} {x y : A} → Some x ≡ Some y → x ≡ y
-same_some e = cc
 
 one_member : (fields : List Field) (name : List ℕ) {f g : Field} → member_named fields name ≡ Some f → member_named fields name ≡ Some g → g ≡ f
 one_member fields name e h = same_some (sym h ∙ e)

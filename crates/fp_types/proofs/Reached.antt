@@ -1,10 +1,12 @@
 -- How far so many steps reach.
-use Rattle.std.proofs.Common.{◌≡◌, ℕ, zero, suc, ◌+◌, ◌-◌, ◌<◌, ◌≤◌, Bool, true, false, not, cond, ◌||◌, ◌&&◌, List, [], ◌∷◌, length, map, get_or, slice_get, Option, Some, None, refl, sym, ◌∙◌, subst, arith}
+use Rattle.std.proofs.Common.{◌≡◌, ℕ, zero, suc, ◌+◌, ◌-◌, ◌<◌, ◌≤◌, Bool, true, false, not, cond, ◌&&◌, List, [], ◌∷◌, length, map, get_or, slice_get, Option, Some, None, refl, sym, ◌∙◌, subst, arith}
 use Rattle.std.specs.List.{list_any}
 use Rattle.std.specs.Str.{bytes_eq}
 use Rattle.std.proofs.lemmas.Option.{slice_get_read}
+use Rattle.fp_base.proofs.Options.{same_some}
+use Rattle.fp_base.proofs.Bools.{neither}
 use Rattle.fp_tables.specs.Lists.{all_from}
-use Rattle.fp_tables.specs.Types.{begins_chain, kinds_in}
+use Rattle.fp_tables.specs.Types.{begins_chain, kinds_in, is_last, uses_constants}
 use Rattle.fp_tables.specs.Chains.{chains_are_short}
 use Rattle.fp_tables.specs.declared.kind.Kind.{Kind}
 use Rattle.fp_tables.specs.declared.kind.Kind.TheVariants as kind
@@ -15,10 +17,6 @@ use Rattle.fp_tables.specs.declared.kind.TypeDef.{TypeDef}
 use Rattle.fp_types.specs.Converting.{Target, target, defined, defined_if, member_named}
 use Rattle.fp_types.specs.Reaching.{Reaches, ReachesEach, ReachesIn}
 
-neither : (a b : Bool) → (a || b) ≡ false → (a ≡ false) × (b ≡ false)
-neither true b e = absurd (cc)
-neither false b e = (refl, e)
-
 is_not : (b : Bool) → not b ≡ true → b ≡ false
 is_not true e = absurd (cc)
 is_not false e = refl
@@ -26,9 +24,6 @@ is_not false e = refl
 both_true : (a b : Bool) → (a && b) ≡ true → (a ≡ true) × (b ≡ true)
 both_true true b e = (refl, e)
 both_true false b e = absurd (cc)
-
-same_some : {A : Type 0} {x y : A} → Some x ≡ Some y → x ≡ y
-same_some e = cc
 
 module _ (types : List TypeDef) where
   pub no_steps : (A : Type 0) (n : ℕ) (k : Kind) → n ≡ 0 → Reaches types n k → A
@@ -50,7 +45,8 @@ module _ (types : List TypeDef) where
   unfolding begins_chain
   named_inside n i None is e = tt
   named_inside zero i (Some d) is e = let no : true ≡ false = sym (rw is refl) ∙ e in absurd (cc)
-  named_inside (suc n) i (Some d) is e = form_inside n d d.form (sym (rw is refl) ∙ e)
+  named_inside (suc n) i (Some d) is e =
+      form_inside n d d.form (neither (is_last n && uses_constants d.form) (list_any (begins_chain types n) (kinds_in d.form)) (sym (rw is refl) ∙ e)).1
 
   inside : (n : ℕ) (k : Kind) → begins_chain types n k ≡ false → ReachesIn types n (target types k)
   inside n kind.U8 e = tt

@@ -23,7 +23,7 @@ pub fn convert(alloc: Global, types: &[TypeDef], value: &Value, to: Kind) -> Res
 }
 
 /// The same over types of which no chain is too long.
-pub fn converted(alloc: Global, types: &[TypeDef], value: &Value, to: Kind) -> Result<Value, Unfit>
+fn converted(alloc: Global, types: &[TypeDef], value: &Value, to: Kind) -> Result<Value, Unfit>
     ensures { chains_are_short types.now ≡ true → Converted types.now value.now to result }
 {
     let made = becomes(alloc, types, value, to, STEPS)?;

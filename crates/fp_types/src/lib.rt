@@ -10,8 +10,6 @@ mod laws;
 mod leaves;
 mod parts;
 mod target;
-#[cfg(test)]
-mod tests;
 mod unfit;
 
 pub use converting::convert;

@@ -2,12 +2,13 @@ use Rattle.std.proofs.Common.{None, refl, ap, arith}
 use Rattle.std.specs.Prelude.{option_map}
 use Rattle.std.specs.Int.{w128}
 use Rattle.std.proofs.lemmas.Int.{to_z-of_z}
+use Rattle.fp_base.proofs.Options.{if_ok_then}
 use Rattle.fp_base.specs.declared.value.Value.TheOpen as value
 use Rattle.fp_types.specs.Converting.{opened, target, member, integer, truth, words, array, struct, constants, alias, nothing}
 use Rattle.fp_types.specs.Read.{meant}
 use Rattle.fp_types.specs.Reaching.{Reaches, ReachesEach, ReachesIn, completed}
 use Rattle.fp_types.proofs.Reached.{no_steps, reached_field}
-use Rattle.fp_types.proofs.Made.{if_ok_then, truth_made, words_made, constant_made, nothing_made, alias_made, in_each_part_made, part_by_part_made, other_length, items_are, no_array, in_each_member_made, member_by_member_made, parts_are, no_struct, same_made, same_value, at_target, integer_made_of, made_some, made_none, part_some, part_none, named_made, unnamed_made, member_sized, member_single, becomes_made, not_single}
+use Rattle.fp_types.proofs.Made.{truth_made, words_made, constant_made, nothing_made, alias_made, in_each_part_made, part_by_part_made, other_length, items_are, no_array, in_each_member_made, member_by_member_made, parts_are, no_struct, same_made, same_value, at_target, integer_made_of, made_some, made_none, part_some, part_none, named_made, unnamed_made, member_sized, member_single, becomes_made, not_single}
 use Rattle.fp_types.proofs.Loops.{each_first, each_next, each_last, each_none, members_first, members_next, members_last, members_none, in_each_first, in_each_next, in_each_last, in_each_none}
 use Rattle.fp_types.proofs.becoming.+becoming.Goals as goal
 
