@@ -34,7 +34,7 @@ pub enum Form {
     Struct(Row<Assignment>),
 }
 
-#[derive(Clone, Copy, PartialEq, Eq)]
+#[derive(Clone, Copy)]
 pub enum Operator {
     Add,
     Subtract,

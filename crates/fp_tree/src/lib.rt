@@ -7,8 +7,6 @@ mod member;
 mod name;
 mod part;
 mod source;
-#[cfg(test)]
-mod tests;
 mod type_name;
 
 pub use definition::{Abstract, Alias, Array, Constant, Def, Enum, Port, Struct};
