@@ -1,11 +1,11 @@
 -- A use means one definition.
-use Rattle.std.proofs.Common.{◌≡◌, ℕ, ◌<◌, List, [], ◌∷◌, ◌++◌, length, refl, sym, ap, subst, ◌∙◌, arith}
+use Rattle.std.proofs.Common.{◌≡◌, ℕ, ◌<◌, List, [], ◌∷◌, ◌++◌, length, refl, sym, subst, ◌∙◌, arith}
 use Rattle.fp_base.specs.declared.refusal.Refusal.{Refusal}
 use Rattle.fp_meaning.specs.declared.group.Group.{Group}
 use Rattle.fp_meaning.specs.declared.names.Definition.{Definition}
 use Rattle.fp_meaning.specs.declared.names.Mention.{Mention}
 use Rattle.fp_meaning.specs.Broken.{IsUndefined, IsWrongKind}
-use Rattle.fp_meaning.specs.Meaning.{IsNamed, IsFirst, IsScopeOf, Means}
+use Rattle.fp_meaning.specs.Meaning.{IsFirst, IsScopeOf, Means}
 use Rattle.fp_meaning.specs.Names.{Path}
 
 -- two beginnings of one length are one

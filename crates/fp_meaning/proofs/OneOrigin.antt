@@ -1,5 +1,5 @@
 -- A use has one origin.
-use Rattle.std.proofs.Common.{◌≡◌, ℕ, List, slice_get, Some, sym, subst, ◌∙◌}
+use Rattle.std.proofs.Common.{◌≡◌, ℕ, slice_get, Some, sym, subst, ◌∙◌}
 use Rattle.fp_tree.specs.declared.source.Source.{Source}
 use Rattle.fp_tree.specs.declared.name.Qual.{Qual}
 use Rattle.fp_meaning.specs.Names.{Path}

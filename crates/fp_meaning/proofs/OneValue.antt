@@ -1,5 +1,6 @@
 -- An expression has one value at most.
 use Rattle.std.proofs.Common.{◌≡◌, ℕ, ℤ, pos, neg_ℤ, List, Some, None, refl, sym, ap, subst, ◌∙◌}
+use Rattle.fp_base.proofs.Options.{same_some}
 use Rattle.fp_base.specs.declared.value.Value.{Value, Int, Array, Struct}
 use Rattle.fp_tree.specs.declared.source.Source.{Source}
 use Rattle.fp_tree.specs.declared.name.Qual.{Qual}
@@ -10,9 +11,6 @@ use Rattle.fp_meaning.specs.Names.{Path}
 use Rattle.fp_meaning.specs.Origins.{Constant, Enumerated}
 use Rattle.fp_meaning.specs.Values.{Opened, opened, number_in, result_of, constant_value, parts_with, MeansOrigin, Val, number, text, truth, constant, written, implied, negated, combined, enclosed, listed, structured, Vals, none, more}
 use Rattle.fp_meaning.proofs.OneOrigin.{origin_unique}
-
-same_some : {A : Type 0} {x y : A} → Some x ≡ Some y → x ≡ y
-same_some e = cc
 
 -- the value of an expression in another scope that is the same
 moved : {source : Source} {one other : Path} {e f : Expr} {v : Value} → one ≡ other → e ≡ f → Val source one (opened e) v → Val source other (opened f) v

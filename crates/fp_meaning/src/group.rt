@@ -1,5 +1,5 @@
 /// The group of names to which a definition belongs, and in which a use is looked up. FPP Language Specification, "Name Groups".
-#[derive(Clone, Copy, PartialEq, Eq)]
+#[derive(Clone, Copy)]
 pub enum Group {
     /// Types.
     Kind,

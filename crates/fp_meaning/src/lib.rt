@@ -1,4 +1,4 @@
-//! What names and constant expressions mean: definitions and uses, values, the rules of both that a source breaks, and the least of these.
+//! What names and constant expressions mean: definitions and uses, values, and the rules of both that a source breaks.
 #![tactic(auto)]
 
 mod group;
@@ -11,4 +11,4 @@ pub use group::Group;
 pub use laws::{one_meaning, one_scope, one_value, undefined_or_wrong_kind};
 pub use marks::Marks;
 pub use names::{Definition, Mention};
-pub use scopes::{behind, copy_scope, texts_of};
+pub use scopes::{behind, copy_scope};

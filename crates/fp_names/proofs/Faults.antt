@@ -3,6 +3,7 @@ use Rattle.std.proofs.Common.{◌≡◌, ℕ, ◌+◌, ◌⊎◌, Bool, true, fa
 use Rattle.std.specs.Prelude.{OnOk}
 use Rattle.std.proofs.lemmas.Option.{slice_get_within}
 use Rattle.std.proofs.lemmas.List.{length-append}
+use Rattle.fp_base.proofs.Lists.{take_next}
 use Rattle.fp_base.specs.declared.refusal.Refusal.{Refusal}
 use Rattle.fp_base.specs.declared.rule.Rule.TheVariants.{DefinedTwice, Undefined, WrongKindOfName}
 use Rattle.fp_meaning.specs.declared.group.Group.{Group}
@@ -19,7 +20,7 @@ use Rattle.fp_names.specs.declared.lookups.Found.{Found}
 use Rattle.fp_names.specs.declared.tree.Node.{Node}
 use Rattle.fp_names.specs.Answers.{AreFound, Notes}
 use Rattle.fp_names.specs.Tree.{IsTable, looked_up}
-use Rattle.fp_names.proofs.Lists.{get_cases, next_taken}
+use Rattle.fp_names.proofs.Lists.{get_cases}
 use Rattle.fp_names.proofs.Longest.{IsMeant, finds}
 
 -- one definition more
@@ -170,4 +171,4 @@ module _ (ds : List Definition) (ms : List Mention) (n : ℕ) (m : Mention) (bef
       let none = lesser_nothing before.first notes.said (sym notes.first ∙ e) in
       let one = notes.meant none.1 in
       subst (λ (ns : List ℕ). AreMeanings ds (take (n + 1) ms) ns) (sym one.2)
-      (subst (λ (xs : List Mention). AreMeanings ds xs (before.meanings ++ one.0 ∷ [])) (next_taken ms n m at) (meanings_push ds (take n ms) m before.meanings one.0 (found none.0) one.1))
+      (subst (λ (xs : List Mention). AreMeanings ds xs (before.meanings ++ one.0 ∷ [])) (sym (take_next ms n m at)) (meanings_push ds (take n ms) m before.meanings one.0 (found none.0) one.1))

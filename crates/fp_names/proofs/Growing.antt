@@ -2,11 +2,13 @@
 use Rattle.std.proofs.Common.{◌≡◌, ℕ, ◌+◌, ◌<◌, ◌≤◌, List, [], ◌∷◌, ◌++◌, length, slice_get, Option, Some, None, inl, inr, sym, ap, subst, ◌∙◌, arith}
 use Rattle.std.proofs.lemmas.Option.{slice_get_within, slice_get_past}
 use Rattle.std.proofs.lemmas.List.{length-append}
+use Rattle.fp_base.proofs.Lists.{get_front, get_last}
+use Rattle.fp_base.proofs.Options.{same_some}
 use Rattle.fp_meaning.specs.declared.group.Group.{Group}
 use Rattle.fp_meaning.specs.Names.{Path}
 use Rattle.fp_names.specs.declared.tree.Node.{Node}
 use Rattle.fp_names.specs.Tree.{root, step, next_of, meaning_of, meaning_at, Spot, spot, IsTree, Grows}
-use Rattle.fp_names.proofs.Lists.{some_same, get_front, get_last, get_cases, both_or_not, snoc_same, not_longer, split_last}
+use Rattle.fp_names.proofs.Lists.{get_cases, both_or_not, snoc_same, not_longer, split_last}
 
 pub group_same : {g h : Group} {p q : Path} → spot g p ≡ spot h q → g ≡ h
 group_same e = ap (λ (s : Spot). s.group) e
@@ -33,10 +35,10 @@ module _ (old new : List Node) (spots : List Spot) (n : ℕ) (g : Group) (p : Pa
   follow_here : (k j : ℕ) (h : Group) (q : Path) (c : List ℕ) → k ≡ n → c ≡ t → slice_get spots k ≡ Some (spot h q) → step new k c ≡ Some j
       → slice_get (spots ++ spot g (p ++ t ∷ []) ∷ []) j ≡ Some (spot h (q ++ c ∷ []))
   follow_here k j h q c ek ec es ej =
-      let e : spot g p ≡ spot h q = some_same (sym here ∙ ap (λ i. slice_get spots i) (sym ek) ∙ es) in
+      let e : spot g p ≡ spot h q = same_some (sym here ∙ ap (λ i. slice_get spots i) (sym ek) ∙ es) in
       let eg : g ≡ h = group_same e in
       let ep : p ≡ q = names_same e in
-      let last : j ≡ length spots = some_same (sym ej ∙ (λ i. step new (ek i) (ec i)) ∙ grows.here) ∙ tree.each in
+      let last : j ≡ length spots = same_some (sym ej ∙ (λ i. step new (ek i) (ec i)) ∙ grows.here) ∙ tree.each in
       subst (λ (i : ℕ). slice_get (spots ++ spot g (p ++ t ∷ []) ∷ []) i ≡ Some (spot h (q ++ c ∷ []))) (sym last)
       (get_last spots (spot g (p ++ t ∷ [])) ∙ (λ i. Some (spot (eg i) (ep i ++ sym ec i ∷ []))))
 

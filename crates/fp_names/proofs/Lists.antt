@@ -1,21 +1,10 @@
 -- What lists have at an index, and their parts.
-use Rattle.std.proofs.Common.{◌≡◌, ℕ, zero, suc, ◌+◌, ◌≤◌, ◌⊎◌, List, [], ◌∷◌, ◌++◌, length, take, slice_get, Some, inl, inr, refl, sym, ap, ◌∙◌, arith}
+use Rattle.std.proofs.Common.{◌≡◌, ℕ, zero, suc, ◌+◌, ◌⊎◌, List, [], ◌∷◌, ◌++◌, length, take, slice_get, Some, inl, inr, refl, sym, ap, arith}
+use Rattle.fp_base.proofs.Options.{same_some}
 use Rattle.fp_meaning.specs.Names.{Path}
 
-pub some_same : {A : Type 0} {x y : A} → Some x ≡ Some y → x ≡ y
-some_same e = cc
-
-pub get_front : {A : Type 0} (xs ys : List A) (k : ℕ) (x : A) → slice_get xs k ≡ Some x → slice_get (xs ++ ys) k ≡ Some x
-get_front [] ys k x e = cc
-get_front (y ∷ xs) ys zero x e = e
-get_front (y ∷ xs) ys (suc k) x e = get_front xs ys k x e
-
-pub get_last : {A : Type 0} (xs : List A) (x : A) → slice_get (xs ++ x ∷ []) (length xs) ≡ Some x
-get_last [] x = refl
-get_last (y ∷ xs) x = get_last xs x
-
 pub get_cases : {A : Type 0} (xs : List A) (x : A) (k : ℕ) (y : A) → slice_get (xs ++ x ∷ []) k ≡ Some y → (slice_get xs k ≡ Some y) ⊎ ((k ≡ length xs) × (y ≡ x))
-get_cases [] x zero y e = inr (refl, sym (some_same e))
+get_cases [] x zero y e = inr (refl, sym (same_some e))
 get_cases [] x (suc k) y e = cc
 get_cases (z ∷ xs) x zero y e = inl e
 get_cases (z ∷ xs) x (suc k) y e = elim (get_cases xs x k y e) [ inl h ↦ inl h | inr h ↦ inr (ap suc h.0, h.1) ]
@@ -45,10 +34,6 @@ both_or_not k n s t = elim (nat_or_not k n) [
 pub snoc_more : (p r : Path) (t : List ℕ) → (p ++ t ∷ []) ++ r ≡ p ++ t ∷ r
 snoc_more [] r t = refl
 snoc_more (x ∷ p) r t = ap (λ (q : Path). x ∷ q) (snoc_more p r t)
-
-pub with_none : (p : Path) → p ++ [] ≡ p
-with_none [] = refl
-with_none (x ∷ p) = ap (λ (q : Path). x ∷ q) (with_none p)
 
 pub not_nil : (p : Path) (t : List ℕ) → p ++ t ∷ [] ≡ [] → ⊥
 not_nil [] t e = cc
@@ -103,19 +88,5 @@ split_more (x ∷ q) r (y ∷ p) t ts e =
 -- the parts of a list at one of its elements
 pub whole : {A : Type 0} (xs : List A) (i : ℕ) (t : A) → slice_get xs i ≡ Some t → (rest : List A) × (xs ≡ (take i xs ++ t ∷ []) ++ rest)
 whole [] i t e = cc
-whole (x ∷ xs) zero t e = (xs, (λ j. some_same e j ∷ xs))
+whole (x ∷ xs) zero t e = (xs, (λ j. same_some e j ∷ xs))
 whole {A = A} (x ∷ xs) (suc i) t e = let w = whole xs i t e in (w.0, ap (λ (q : List A). x ∷ q) w.1)
-
-pub one_more : {A : Type 0} (xs : List A) (i : ℕ) (t : A) → slice_get xs i ≡ Some t → take (suc i) xs ≡ take i xs ++ t ∷ []
-one_more [] i t e = cc
-one_more (x ∷ xs) zero t e = λ j. some_same e j ∷ []
-one_more {A = A} (x ∷ xs) (suc i) t e = ap (λ (q : List A). x ∷ q) (one_more xs i t e)
-
-pub next_taken : {A : Type 0} (xs : List A) (i : ℕ) (t : A) → slice_get xs i ≡ Some t → take i xs ++ t ∷ [] ≡ take (i + 1) xs
-next_taken xs i t e = let suc_is : suc i ≡ i + 1 = omega arith in sym (one_more xs i t e) ∙ ap (λ k. take k xs) suc_is
-
-pub all_taken : {A : Type 0} (xs : List A) (n : ℕ) → length xs ≤ n → take n xs ≡ xs
-all_taken [] zero h = refl
-all_taken [] (suc n) h = refl
-all_taken (x ∷ xs) zero h = absurd (omega arith)
-all_taken {A = A} (x ∷ xs) (suc n) h = ap (λ (q : List A). x ∷ q) (all_taken xs n (omega arith))

@@ -1,6 +1,7 @@
 -- What a look-up finds in a tree of names.
 use Rattle.std.proofs.Common.{◌≡◌, ℕ, ◌<◌, ◌⊎◌, List, [], ◌∷◌, ◌++◌, length, slice_get, Option, Some, None, MatchOption, inl, inr, refl, sym, ap, subst, ◌∙◌, arith}
-use Rattle.std.proofs.lemmas.List.{length-append}
+use Rattle.std.proofs.lemmas.List.{length-append, append-nil}
+use Rattle.fp_base.proofs.Options.{same_some}
 use Rattle.fp_meaning.specs.declared.group.Group.{Group}
 use Rattle.fp_meaning.specs.declared.names.Definition.{Definition}
 use Rattle.fp_meaning.specs.Names.{Path}
@@ -8,12 +9,13 @@ use Rattle.fp_meaning.specs.Meaning.{IsNamed, IsKnown, IsScopeOf, Means}
 use Rattle.fp_meaning.proofs.Meanings.{same_start, neither_less}
 use Rattle.fp_names.specs.declared.tree.Node.{Node}
 use Rattle.fp_names.specs.Tree.{root, step, meaning_at, Spot, spot, IsTree, IsPart, IsTable, SaysFirst, onward, onward_or, or_of, walk, longest, looked_up}
-use Rattle.fp_names.proofs.Lists.{some_same, with_none, not_nil, snoc_more, split_last, split_more}
+use Rattle.fp_names.proofs.Growing.{none_some}
+use Rattle.fp_names.proofs.Lists.{not_nil, snoc_more, split_last, split_more}
 
 module _ (nodes : List Node) (spots : List Spot) (tree : IsTree nodes spots) (g : Group) where
   -- where the names lead stands for the names that they lead to
   pub walk_sound : (n j : ℕ) (p ts : Path) → slice_get spots n ≡ Some (spot g p) → walk nodes n ts ≡ Some j → slice_get spots j ≡ Some (spot g (p ++ ts))
-  walk_sound n j p [] e w = subst (λ (i : ℕ). slice_get spots i ≡ Some (spot g (p ++ []))) (some_same w) (e ∙ ap (λ (q : Path). Some (spot g q)) (sym (with_none p)))
+  walk_sound n j p [] e w = subst (λ (i : ℕ). slice_get spots i ≡ Some (spot g (p ++ []))) (same_some w) (e ∙ ap (λ (q : Path). Some (spot g q)) (sym (append-nil p)))
   walk_sound n j p (t ∷ ts) e w = go (λ to a b. walk_sound to j (p ++ t ∷ []) ts a b) (step nodes n t) refl
     where
       go : ((to : ℕ) → slice_get spots to ≡ Some (spot g (p ++ t ∷ [])) → walk nodes to ts ≡ Some j → slice_get spots j ≡ Some (spot g ((p ++ t ∷ []) ++ ts)))
@@ -24,7 +26,7 @@ module _ (nodes : List Node) (spots : List Spot) (tree : IsTree nodes spots) (g 
           further to (tree.follows n to g p t e s) f ∙ ap (λ (q : Path). Some (spot g q)) (snoc_more p ts t)
 
   pub walk_full : (n j : ℕ) (p ts : Path) → slice_get spots n ≡ Some (spot g p) → slice_get spots j ≡ Some (spot g (p ++ ts)) → walk nodes n ts ≡ Some j
-  walk_full n j p [] e f = ap (λ (i : ℕ). Some i) (tree.single n j (spot g p) e (f ∙ ap (λ (q : Path). Some (spot g q)) (with_none p)))
+  walk_full n j p [] e f = ap (λ (i : ℕ). Some i) (tree.single n j (spot g p) e (f ∙ ap (λ (q : Path). Some (spot g q)) (append-nil p)))
   walk_full n j p (t ∷ ts) e f =
       let whole : slice_get spots j ≡ Some (spot g ((p ++ t ∷ []) ++ ts)) = f ∙ ap (λ (q : Path). Some (spot g q)) (sym (snoc_more p ts t)) in
       let to = tree.closed j g (p ++ t ∷ []) ts whole in
@@ -100,8 +102,8 @@ module _ (nodes : List Node) (spots : List Spot) (tree : IsTree nodes spots) (g 
       holds = λ c f. (
         done ++ t ∷ [],
         [],
-        sym (with_none (done ++ t ∷ [])),
-        subst (λ (x : ℕ). slice_get spots x ≡ Some (spot g ((done ++ t ∷ []) ++ name ∷ []))) (some_same f) (tree.follows to b g (done ++ t ∷ []) name e s),
+        sym (append-nil (done ++ t ∷ [])),
+        subst (λ (x : ℕ). slice_get spots x ≡ Some (spot g ((done ++ t ∷ []) ++ name ∷ []))) (same_some f) (tree.follows to b g (done ++ t ∷ []) name e s),
         λ longer more j d l k. let a = ap length d in let b = length-append longer more in omega arith,
       );
       none = λ prefix rest j f d k. cc;
@@ -136,7 +138,7 @@ module _ (nodes : List Node) (spots : List Spot) (tree : IsTree nodes spots) (g 
             cc
 
     pub best_longest : (at : ℕ) (done ts : Path) (best : Option ℕ) → slice_get spots at ≡ Some (spot g done) → IsBest name done best → IsBest name (done ++ ts) (longest nodes name at best ts)
-    best_longest at done [] best e i = best_same done (done ++ []) best (sym (with_none done)) i
+    best_longest at done [] best e i = best_same done (done ++ []) best (sym (append-nil done)) i
     best_longest at done (t ∷ ts) best e i = go (λ to b a h. best_longest to (done ++ t ∷ []) ts b a h) (step nodes at t) refl
       where
         go : ((to : ℕ) (b : Option ℕ) → slice_get spots to ≡ Some (spot g (done ++ t ∷ [])) → IsBest name (done ++ t ∷ []) b → IsBest name ((done ++ t ∷ []) ++ ts) (longest nodes name to b ts))
@@ -153,9 +155,6 @@ IsMeant ds scope name g o = MatchOption o ((k : ℕ) → Means ds scope name g k
 
 first_is : (a b : List ℕ) (p q : Path) → a ∷ p ≡ b ∷ q → b ≡ a
 first_is a b p q e = cc
-
-none_some : {o : Option ℕ} {j : ℕ} → o ≡ None → o ≡ Some j → ⊥
-none_some a b = cc
 
 module _ (ds : List Definition) (nodes : List Node) (spots : List Spot) (part : IsPart ds ds nodes spots) (g : Group) (scope : Path) (first : List ℕ) (others : Path) where
   known_of : (k : ℕ) (m : Means ds scope (first ∷ others) g k) → IsKnown ds g (m.prefix ++ first ∷ [])
@@ -189,7 +188,7 @@ module _ (ds : List Definition) (nodes : List Node) (spots : List Spot) (part : 
 
     no_node : walk nodes b others ≡ None → (k : ℕ) → Means ds scope (first ∷ others) g k → ⊥
     no_node w k m =
-        let n = subst (λ (x : Path). IsNamed ds g x k) (sym (with_none (prefix ++ (first ∷ others)))) (named_at k m) in
+        let n = subst (λ (x : Path). IsNamed ds g x k) (sym (append-nil (prefix ++ (first ∷ others)))) (named_at k m) in
         let at = part.found g (prefix ++ (first ∷ others)) (k, [], n) in
         let full = walk_full nodes spots part.tree g b at.0 (prefix ++ first ∷ []) others here (at.1 ∙ ap (λ (x : Path). Some (spot g x)) (sym (snoc_more prefix others first))) in
         none_some w full

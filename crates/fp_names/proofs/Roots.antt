@@ -1,11 +1,12 @@
 -- The roots are the tree of no definitions.
 use Rattle.std.proofs.Common.{◌≡◌, ℕ, zero, suc, List, [], ◌∷◌, ◌++◌, slice_get, Some, inl, refl, sym, ap, subst, ◌∙◌}
+use Rattle.fp_base.proofs.Options.{same_some}
 use Rattle.fp_meaning.specs.declared.group.Group.{Group}
 use Rattle.fp_meaning.specs.declared.group.Group.TheVariants.{Kind, Value, Port, Component, Instance, Topology, Machine}
 use Rattle.fp_meaning.specs.Names.{Path}
 use Rattle.fp_names.specs.declared.tree.Node.{Node}
 use Rattle.fp_names.specs.Tree.{root, Spot, spot, IsTable, AreRoots}
-use Rattle.fp_names.proofs.Lists.{some_same, not_nil, nil_parts}
+use Rattle.fp_names.proofs.Lists.{not_nil, nil_parts}
 use Rattle.fp_names.proofs.Growing.{none_some}
 
 abbrev seven : List Spot
@@ -15,7 +16,7 @@ abbrev IsRooted : ℕ → Spot → Type 0
 IsRooted j s = (j ≡ root s.group) × (s.names ≡ [])
 
 moved : (j : ℕ) (a s : Spot) → Some a ≡ Some s → IsRooted j a → IsRooted j s
-moved j a s e r = subst (λ (x : Spot). IsRooted j x) (some_same e) r
+moved j a s e r = subst (λ (x : Spot). IsRooted j x) (same_some e) r
 
 rooted : (j : ℕ) (s : Spot) → slice_get seven j ≡ Some s → IsRooted j s
 rooted zero s e = moved 0 _ s e (refl, refl)

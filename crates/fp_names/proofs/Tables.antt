@@ -1,6 +1,9 @@
 -- A tree of names stands for one definition more.
-use Rattle.std.proofs.Common.{◌≡◌, ℕ, suc, Bool, MatchBool, is_some, take, get_or, ◌+◌, ◌<◌, ◌⊎◌, List, [], ◌∷◌, ◌++◌, length, slice_get, Option, Some, None, inl, inr, refl, sym, ap, subst, ◌∙◌, arith}
+use Rattle.std.proofs.Common.{◌≡◌, ℕ, Bool, MatchBool, is_some, take, get_or, ◌+◌, ◌<◌, ◌⊎◌, List, [], ◌∷◌, ◌++◌, length, slice_get, Option, Some, None, inl, inr, refl, sym, ap, subst, ◌∙◌, arith}
 use Rattle.std.proofs.lemmas.Option.{slice_get_within, slice_get_read}
+use Rattle.std.proofs.lemmas.List.{append-nil}
+use Rattle.fp_base.proofs.Lists.{get_front, get_last, take_next}
+use Rattle.fp_base.proofs.Options.{same_some}
 use Rattle.fp_meaning.specs.Broken.{HasEarlier}
 use Rattle.fp_meaning.specs.declared.group.Group.{Group}
 use Rattle.fp_meaning.specs.declared.names.Definition.{Definition}
@@ -8,7 +11,7 @@ use Rattle.fp_meaning.specs.Names.{Path}
 use Rattle.fp_meaning.specs.Meaning.{IsNamed, IsKnown, IsFirst}
 use Rattle.fp_names.specs.declared.tree.Node.{Node}
 use Rattle.fp_names.specs.Tree.{root, meaning_at, Spot, spot, IsPart, IsTable, Within, SaysFirst, Grows, Enters, Says, or_number}
-use Rattle.fp_names.proofs.Lists.{some_same, get_front, get_last, get_cases, nat_or_not, with_none, whole, one_more}
+use Rattle.fp_names.proofs.Lists.{get_cases, nat_or_not, whole}
 use Rattle.fp_names.proofs.Growing.{group_same, names_same, no_meaning, fresh, grow, retree}
 
 pub named_more : (ds more : List Definition) (g : Group) (p : Path) (k : ℕ) → IsNamed ds g p k → IsNamed (ds ++ more) g p k
@@ -47,7 +50,7 @@ module _ (after before : List Definition) (old new : List Node) (spots : List Sp
     (part : IsPart after before old spots) (here : slice_get spots n ≡ Some (spot g p)) (is : IsKnown after g (p ++ t ∷ [])) (grows : Grows old new n t) where
   none_yet : (h : Group) (q : Path) (k : ℕ) → spot h q ≡ spot g (p ++ t ∷ []) → IsNamed before h q k → ⊥
   none_yet h q k e named =
-      let whole : IsNamed before h (q ++ []) k = record { definition = named.definition; here = named.here; of_group = named.of_group; of_name = named.of_name ∙ sym (with_none q) } in
+      let whole : IsNamed before h (q ++ []) k = record { definition = named.definition; here = named.here; of_group = named.of_group; of_name = named.of_name ∙ sym (append-nil q) } in
       let at = part.found h q (k, [], whole) in
       fresh old new spots n g p t part.tree here grows at.0 (at.1 ∙ ap (λ (s : Spot). Some s) e)
 
@@ -105,9 +108,8 @@ pub enter_step : (ds : List Definition) (d : Definition) (old new : List Node) (
 enter_step ds d old new n to i t below is w enters =
     let at = slice_get_read d.name (length d.name) i t refl below is in
     let parts = whole d.name i t at in
-    let suc_is : i + 1 ≡ suc i = omega arith in
     let known : IsKnown (ds ++ d ∷ []) d.group (take i d.name ++ t ∷ []) = (length ds, parts.0, named_last ds d d.group ((take i d.name ++ t ∷ []) ++ parts.0) refl parts.1) in
-    subst (λ (p : Path). Within (ds ++ d ∷ []) ds new d.group p to) (sym (ap (λ k. take k d.name) suc_is ∙ one_more d.name i t at))
+    subst (λ (p : Path). Within (ds ++ d ∷ []) ds new d.group p to) (sym (take_next d.name i t at))
     (enter_part (ds ++ d ∷ []) ds old new n to d.group (take i d.name) t known w enters)
 
 -- the node says the number of a definition more
@@ -130,7 +132,7 @@ module _ (ds : List Definition) (d : Definition) where
   says_number : (o : Option ℕ) → SaysFirst ds d.group d.name o → SaysFirst (ds ++ d ∷ []) d.group d.name (or_number o (length ds))
   says_number None s = record {
     holds = λ k e.
-        let at : length ds ≡ k = some_same e in
+        let at : length ds ≡ k = same_some e in
         let f : IsFirst (ds ++ d ∷ []) d.group d.name (length ds) = record {
           named = named_last ds d d.group d.name refl refl;
           first = λ j below n. elim (named_cases ds d d.group d.name j n) [ inl old ↦ s.none j refl old | inr last ↦ let e = last.0 in omega arith ];
@@ -154,7 +156,7 @@ module _ (ds : List Definition) (d : Definition) where
       ];
       says = λ j g p e. elim (nat_or_not j n) [
         | inl same ↦
-            let s : spot d.group d.name ≡ spot g p = some_same (sym w.2 ∙ ap (λ i. slice_get w.0 i) (sym same) ∙ e) in
+            let s : spot d.group d.name ≡ spot g p = same_some (sym w.2 ∙ ap (λ i. slice_get w.0 i) (sym same) ∙ e) in
             let told = says_number (meaning_at old n) (w.1.says n d.group d.name w.2) in
             subst (λ (x : Group). SaysFirst (ds ++ d ∷ []) x p (meaning_at new j)) (group_same s)
             (subst (λ (x : Path). SaysFirst (ds ++ d ∷ []) d.group x (meaning_at new j)) (names_same s)
