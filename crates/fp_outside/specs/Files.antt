@@ -1,5 +1,5 @@
 -- What files hold, and what a read says of the counts.
-use Rattle.std.specs.Prelude.{ℕ, ◌≡◌, List, [], ◌∷◌, Option, Some, None, Result, Ok, Err, Bool, cond}
+use Rattle.std.specs.Prelude.{ℕ, ◌≡◌, ◌≤◌, List, [], ◌∷◌, length, Option, Some, None, IfSome, Result, Ok, Err, Bool, cond}
 use Rattle.std.specs.Str.{bytes_eq}
 use Rattle.fp_outside.specs.Counts.{Rose}
 use Rattle.fp_outside.specs.declared.files.HeldFile.{HeldFile}
@@ -29,3 +29,11 @@ abbrev pub CountsMiss : Result (Option (List ℕ)) ReadRefusal → ℕ → ℕ �
 CountsMiss (Ok None) before now = Rose before now
 CountsMiss (Ok (Some bytes)) before now = now ≡ before
 CountsMiss (Err refusal) before now = now ≡ before
+
+-- the most bytes that are read of a real file, 64 MiB
+abbrev pub most_bytes : ℕ
+most_bytes = 67108864
+
+-- all bytes that a reader has left, where it tells them, and no more than may be read
+abbrev pub IsLeft : Option (List ℕ) → List ℕ → Type 0
+IsLeft remaining bytes = IfSome remaining (λ rest. bytes ≡ rest) × (length bytes ≤ most_bytes)

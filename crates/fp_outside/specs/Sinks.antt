@@ -1,5 +1,5 @@
 -- What a write says of what was written and of the count.
-use Rattle.std.specs.Prelude.{ℕ, ◌≡◌, ◌<◌, ◌≤◌, List, [], ◌++◌, length, take, Option, Some, None, Result, Ok, Err}
+use Rattle.std.specs.Prelude.{ℕ, ◌≡◌, ◌<◌, ◌≤◌, List, ◌++◌, length, take, Option, Result, Ok, Err}
 use Rattle.std.specs.Option.{option_map}
 use Rattle.fp_outside.specs.Counts.{Rose}
 use Rattle.fp_outside.specs.declared.sink.SinkFailed.{SinkFailed}

@@ -3,14 +3,11 @@ ghost use Rattle.fp_outside.specs.Files.{bytes_of, CountsFault, CountsMiss};
 
 use fp_base::{Row, Text};
 use std::alloc::Global;
-use thiserror::Error;
 
 /// Why a file isn't read.
-#[derive(Clone, Copy, Debug, PartialEq, Eq, Error)]
+#[derive(Clone, Copy)]
 pub enum ReadRefusal {
-    #[error("read failed")]
     Failed,
-    #[error("no memory")]
     NoMemory,
 }
 

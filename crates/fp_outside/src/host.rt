@@ -1,4 +1,6 @@
-ghost use Rattle.std.specs.Prelude.{None, ◌<◌, ◌≤◌, length, IfSome};
+ghost use Rattle.std.specs.Prelude.{◌≡◌, ◌↔◌, None, Ok, Err, ◌<◌, ◌≤◌, length, IfOk, IfSome, IsErrAnd};
+ghost use Rattle.std.specs.IoError.{error_kind};
+ghost use Rattle.fp_outside.specs.Files.{CountsFault, CountsMiss, IsLeft, most_bytes};
 
 use crate::count::risen;
 use crate::files::{Files, ReadRefusal};
@@ -6,12 +8,10 @@ use crate::sink::{Sink, SinkFailed};
 use fp_base::Row;
 use std::alloc::Global;
 use std::io::{ErrorKind, Read, Stderr, Stdout, Write};
-use std::{fs, rt};
+use std::{fs, io, rt};
 
 /// The most bytes that are read of a file: 64 MiB.
-const MOST_BYTES: usize = 67_108_864;
-
-const CHUNK: usize = 65_536;
+const MOST_BYTES: u64 = 67_108_864;
 
 /// The real files. They tell no content.
 #[derive(Drop)]
@@ -22,7 +22,9 @@ pub struct HostFiles<'a, R: rt::Files> {
 }
 
 impl<'a, R: rt::Files> HostFiles<'a, R> {
-    pub fn new(rt: &'a R) -> HostFiles<'a, R> {
+    pub fn new(rt: &'a R) -> HostFiles<'a, R>
+        ensures { (result.faults ≡ 0) × (result.misses ≡ 0) }
+    {
         HostFiles {
             rt,
             faults: 0,
@@ -39,36 +41,54 @@ enum Trouble {
 }
 
 /// The bytes that a reader has left, where they are no more than the limit.
-fn read_all<S: Read>(alloc: Global, reader: &mut S) -> Result<Row<u8>, Trouble> {
+fn read_all<S: Read + Drop>(alloc: Global, reader: S) -> Result<Row<u8>, Trouble>
+    ensures bytes { IfOk result (IsLeft (S.remaining reader)) }
+    ensures there { result ≡ Err Trouble.Absent → ⊥ }
+{
     let mut bytes = Vec::new(alloc);
-    let mut chunk = [0u8; CHUNK];
-    for _ in 0..u64::MAX {
-        let count = match reader.read(&mut chunk) {
-            Ok(0) => return Ok(Row::from_vec(bytes)),
-            Ok(count) => count,
-            Err(error) if error.kind() == ErrorKind::Interrupted => continue,
-            Err(_) => return Err(Trouble::Failed),
-        };
-        if bytes.len() > MOST_BYTES || count > MOST_BYTES - bytes.len() {
-            return Err(Trouble::Failed);
-        }
-        if bytes.extend_from_slice(&chunk[..count]).is_err() {
-            return Err(Trouble::NoMemory);
-        }
+    match reader.take(MOST_BYTES + 1).read_to_end(&mut bytes) {
+        Ok(_) => within_limit(bytes),
+        Err(error) => Err(failure_of(error.kind())),
     }
-    Err(Trouble::Failed)
 }
 
-fn read_file<R: rt::Files>(rt: &R, alloc: Global, name: &str) -> Result<Row<u8>, Trouble> {
-    match fs::open(rt, name) {
-        Ok(mut file) => read_all(alloc, &mut file),
+/// The bytes, where they are no more than the limit.
+fn within_limit(bytes: Vec<u8>) -> Result<Row<u8>, Trouble>
+    ensures bytes { IfOk result (λ row. (row ≡ bytes.items) × (length row ≤ most_bytes)) }
+    ensures there { result ≡ Err Trouble.Absent → ⊥ }
+{
+    if bytes.len() as u64 > MOST_BYTES {
+        Err(Trouble::Failed)
+    } else {
+        Ok(Row::from_vec(bytes))
+    }
+}
+
+/// The bytes of a file that was opened, or wasn't.
+fn read_opened<S: Read + Drop>(alloc: Global, opened: io::Result<S>) -> Result<Row<u8>, Trouble>
+    ensures bytes { IfOk result (λ bytes. (file : S) × (opened ≡ Ok file) × IsLeft (S.remaining file) bytes) }
+    ensures absent { (result ≡ Err Trouble.Absent) ↔ IsErrAnd opened (λ e. error_kind e ≡ ErrorKind.NotFound) }
+{
+    match opened {
+        Ok(file) => read_all(alloc, file),
         Err(error) => Err(trouble_of(error.kind())),
     }
 }
 
-fn trouble_of(kind: ErrorKind) -> Trouble {
+/// Why a file isn't opened: a name that isn't found is no fault.
+fn trouble_of(kind: ErrorKind) -> Trouble
+    ensures { (result ≡ Trouble.Absent) ↔ (kind ≡ ErrorKind.NotFound) }
+{
     match kind {
         ErrorKind::NotFound => Trouble::Absent,
+        other => failure_of(other),
+    }
+}
+
+fn failure_of(kind: ErrorKind) -> Trouble
+    ensures { result ≡ Trouble.Absent → ⊥ }
+{
+    match kind {
         ErrorKind::OutOfMemory => Trouble::NoMemory,
         _ => Trouble::Failed,
     }
@@ -81,8 +101,12 @@ impl<'a, R: rt::Files> Files for HostFiles<'a, R> {
 
     ghost misses = { λ files. files.misses };
 
-    fn read(&mut self, alloc: Global, name: &str) -> Result<Option<Row<u8>>, ReadRefusal> {
-        match read_file(self.rt, alloc, name) {
+    fn read(&mut self, alloc: Global, name: &str) -> Result<Option<Row<u8>>, ReadRefusal>
+        ensures faults { CountsFault result self.old.faults self.new.faults }
+        ensures misses { CountsMiss result self.old.misses self.new.misses }
+        ensures most { IfOk result (λ read. IfSome read (λ bytes. length bytes ≤ most_bytes)) }
+    {
+        match read_opened(alloc, fs::open(self.rt, name)) {
             Ok(bytes) => Ok(Some(bytes)),
             Err(Trouble::Absent) => {
                 self.misses = risen(self.misses);
@@ -111,7 +135,9 @@ pub type HostOut = HostSink<Stdout>;
 pub type HostErr = HostSink<Stderr>;
 
 impl<W: Write + Drop> HostSink<W> {
-    pub fn new(stream: W) -> HostSink<W> {
+    pub fn new(stream: W) -> HostSink<W>
+        ensures { result ≡ record { stream = stream; faults = 0 } }
+    {
         HostSink { stream, faults: 0 }
     }
 }

@@ -15,6 +15,3 @@ pub use host::{HostErr, HostFiles, HostOut, HostSink};
 pub use mem_files::{MemFiles, SureFiles};
 pub use mem_sink::MemSink;
 pub use sink::{Sink, SinkFailed};
-
-#[cfg(test)]
-mod tests;

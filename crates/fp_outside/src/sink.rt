@@ -1,11 +1,8 @@
 ghost use Rattle.std.specs.Prelude.{◌≡◌, List, ℕ, Option, [], IfOk, Ok};
 ghost use Rattle.fp_outside.specs.Sinks.{TakesFront, told_after, CountsFailure};
 
-use thiserror::Error;
-
 /// A write failed, and nothing of its piece was written.
-#[derive(Clone, Copy, Debug, PartialEq, Eq, Error)]
-#[error("write failed")]
+#[derive(Clone, Copy)]
 pub struct SinkFailed;
 
 /// Where bytes are written to.
