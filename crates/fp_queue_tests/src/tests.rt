@@ -2,7 +2,7 @@ ghost use Rattle.std.specs.Prelude.{◌≡◌, ◌≢◌, ◌<◌, length};
 ghost use Rattle.std.specs.List.{AllPairs};
 
 use fp_base::{NoMemory, Row};
-use fp_queue::{Call, PlainQueue, Queue, answer_all};
+use fp_queue::{Answer, Call, PlainQueue, Queue, answer_all};
 use std::alloc::Global;
 use std::test::Fail;
 
@@ -81,24 +81,38 @@ fn takes_by_priority_and_then_by_arrival(rt: HostRuntime) -> Result<(), Fail> {
 
 fn goes_to_other_threads<T: Send + Sync>(_: &T) {}
 
+// Whether an answer is that of a take, and the item that came back.
+fn told(answer: &Answer<u32>) -> (bool, Option<u32>) {
+    match answer {
+        Answer::Put(Ok(())) => (false, None),
+        Answer::Put(Err(back)) => (false, Some(*back)),
+        Answer::Take(taken) => (true, *taken),
+    }
+}
+
 #[test]
 fn answers_calls_in_order(rt: HostRuntime) -> Result<(), Fail> {
     let mut queue = Queue::new(rt.alloc(), 1, &[-1, 2])?;
     goes_to_other_threads(&queue);
     let first = Call::Put {
         priority: 2,
-        item: "first",
+        item: 10u32,
     };
     let second = Call::Put {
         priority: -1,
-        item: "second",
+        item: 20,
     };
     let calls = Vec::from_array(rt.alloc(), [first, second, Call::Take, Call::Take])?;
     let answers = answer_all(rt.alloc(), &mut queue, Row::from_vec(calls))?;
-    let wanted = "[Put(Ok(())), Put(Err(\"second\")), Take(Some(\"first\")), Take(None)]";
-    assert_eq!(rt;
-        format!(in rt.alloc(); "{:?}", answers.as_slice())?.as_str(),
-        wanted
-    );
+    let wanted = [
+        (false, None),
+        (false, Some(20)),
+        (true, Some(10)),
+        (true, None),
+    ];
+    assert!(rt; answers.len() == wanted.len());
+    for (answer, wanted) in answers.as_slice().iter().zip(wanted) {
+        assert_eq!(rt; told(answer), wanted);
+    }
     Ok(())
 }
