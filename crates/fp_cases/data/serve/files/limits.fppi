@@ -1,0 +1,1 @@
+constant LIMIT = 40

@@ -1,0 +1,5 @@
+module Thermal {
+  include "limits.fppi"
+  constant COUNT = LIMIT - 1
+  array Samples = [COUNT] I16
+}

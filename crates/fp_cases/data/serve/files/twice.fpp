@@ -1,0 +1,3 @@
+port Set
+
+port Set

@@ -1,0 +1,91 @@
+use crate::cases::Case;
+use crate::conversion::becomes;
+use crate::grammar::{View, definition, expression};
+use crate::serving::{code, left, written};
+use crate::sources::{
+    broken_constants, broken_names, copy, count, definitions, evaluated, examined, found, meanings,
+    members, values,
+};
+use crate::tokens::tokens;
+use crate::words::refused;
+use fp_base::{NoMemory, Stop, Text};
+use fp_meaning::Group;
+use std::alloc::Global;
+use std::rt::Files;
+use std::sync::Wait;
+use std::thread::Threads;
+
+/// Whether a label names what is given to a case.
+pub fn is_given(label: &str) -> bool {
+    let named = match label {
+        "source" | "second file" | "from" | "scope" | "use" => true,
+        "value" | "type" => true,
+        "words" | "files" | "failing read" | "failing out" | "failing diag" => true,
+        _ => false,
+    };
+    named || label.starts_with("file ")
+}
+
+/// What the front end answers to a question on a source; None where there is no such question.
+fn of_source(alloc: Global, case: &Case, question: &str) -> Option<Result<Text, Stop>> {
+    match question {
+        "tokens" => Some(tokens(alloc, case.source())),
+        "expression" => Some(expression(alloc, case, View::Shape)),
+        "places of expression" => Some(expression(alloc, case, View::Places)),
+        "definition" => Some(definition(alloc, case, View::Shape)),
+        "places of definition" => Some(definition(alloc, case, View::Places)),
+        "members" => Some(members(alloc, case)),
+        "copy" => Some(copy(alloc, case)),
+        "definitions" => Some(definitions(alloc, case)),
+        "uses" => Some(meanings(alloc, case)),
+        "broken names" => Some(broken_names(alloc, case)),
+        "value found" => Some(found(alloc, case, Group::Value)),
+        "type found" => Some(found(alloc, case, Group::Kind)),
+        "port found" => Some(found(alloc, case, Group::Port)),
+        _ => None,
+    }
+}
+
+fn of_constants(alloc: Global, case: &Case, question: &str) -> Option<Result<Text, Stop>> {
+    match question {
+        "values" => Some(values(alloc, case)),
+        "how many values" => Some(count(alloc, case)),
+        "broken constants" => Some(broken_constants(alloc, case)),
+        "evaluated" => Some(evaluated(alloc, case)),
+        "becomes" => Some(becomes(alloc, case)),
+        "examined" => Some(examined(alloc, case)),
+        _ => None,
+    }
+}
+
+/// What a call leaves, asked by one question.
+fn of_call<R: Threads + Wait + Sync + Files>(
+    rt: &R,
+    alloc: Global,
+    case: &Case,
+    question: &str,
+) -> Result<Text, NoMemory> {
+    match question {
+        "out" => written(alloc, &left(rt, alloc, case)?.out),
+        "diag" => written(alloc, &left(rt, alloc, case)?.diag),
+        "status" => code(alloc, left(rt, alloc, case)?.status),
+        _ => Text::from_str(alloc, "no such question"),
+    }
+}
+
+/// What comes of a question: an answer, or the rule that is broken, and where.
+pub fn answer<R: Threads + Wait + Sync + Files>(
+    rt: &R,
+    alloc: Global,
+    case: &Case,
+    question: &str,
+) -> Result<Text, NoMemory> {
+    let of_source = of_source(alloc, case, question);
+    let of_any = of_source.or_else(|| of_constants(alloc, case, question));
+    match of_any {
+        Some(Ok(text)) => Ok(text),
+        Some(Err(Stop::Broken(refusal))) => refused(alloc, refusal),
+        Some(Err(Stop::NoMemory)) => Err(NoMemory),
+        None => of_call(rt, alloc, case, question),
+    }
+}

@@ -1,0 +1,68 @@
+use crate::cases::Case;
+use crate::definitions::add_definition;
+use crate::expressions::add_expression;
+use crate::tree::Tree;
+use fp_base::{NoMemory, Row, Stop, Text};
+use fp_lexer::{Token, lex};
+use fp_parse_defs::{parse_def, parse_expr};
+use fp_tree::Expr;
+use std::alloc::Global;
+
+const MOST_TOKENS: usize = 1000;
+
+/// What is told of a tree.
+#[derive(Clone, Copy)]
+pub enum View {
+    /// The number of the token behind it, and what it is made of.
+    Shape,
+    /// Where it and its parts stand.
+    Places,
+}
+
+/// Whether a parser of parts may begin at a token.
+fn may_begin(tokens: &Row<Token>, from: u32) -> bool {
+    tokens.len() > 0 && tokens.len() <= MOST_TOKENS && from as usize <= tokens.len()
+}
+
+fn viewed(alloc: Global, tree: Tree, to: u32, view: View) -> Result<Text, Stop> {
+    match view {
+        View::Places => Ok(tree.places),
+        View::Shape => {
+            let text = format!(in alloc; "to token {to}\n{}", tree.shape.as_str()).map_err(
+                |_| NoMemory,
+            )?;
+            Ok(Text::from_str(alloc, text.as_str())?)
+        }
+    }
+}
+
+/// The expression that begins at a token, and the number of the token behind it.
+pub fn parsed_expression(alloc: Global, case: &Case) -> Result<(Expr, u32), Stop> {
+    let tokens = lex(alloc, 0, case.source())?;
+    let from = case.number("from");
+    if !may_begin(&tokens, from) {
+        return Err(Stop::NoMemory);
+    }
+    parse_expr(alloc, &tokens, from)
+}
+
+/// What an expression spells.
+pub fn expression(alloc: Global, case: &Case, view: View) -> Result<Text, Stop> {
+    let mut tree = Tree::new(alloc);
+    let (expression, to) = parsed_expression(alloc, case)?;
+    add_expression(alloc, &expression, &mut tree)?;
+    viewed(alloc, tree, to, view)
+}
+
+/// What a definition spells.
+pub fn definition(alloc: Global, case: &Case, view: View) -> Result<Text, Stop> {
+    let mut tree = Tree::new(alloc);
+    let tokens = lex(alloc, 0, case.source())?;
+    let from = case.number("from");
+    if !may_begin(&tokens, from) {
+        return Err(Stop::NoMemory);
+    }
+    let (definition, to) = parse_def(alloc, &tokens, from)?;
+    add_definition(alloc, &definition, &mut tree)?;
+    viewed(alloc, tree, to, view)
+}

@@ -1,0 +1,96 @@
+use crate::definitions::add_definition;
+use crate::tree::Tree;
+use crate::words::push_span;
+use fp_base::{NoMemory, Span, Text};
+use fp_tree::{Def, Member};
+use std::alloc::Global;
+
+fn place_and_note(definition: &Def) -> (Span, &Text) {
+    match definition {
+        Def::Constant(constant) => (constant.at, &constant.note),
+        Def::Abstract(opaque) => (opaque.at, &opaque.note),
+        Def::Alias(alias) => (alias.get().at, &alias.get().note),
+        Def::Array(array) => (array.get().at, &array.get().note),
+        Def::Struct(structure) => (structure.get().at, &structure.get().note),
+        Def::Enum(enumeration) => (enumeration.get().at, &enumeration.get().note),
+        Def::Port(port) => (port.get().at, &port.get().note),
+    }
+}
+
+/// Adds a line: where a member stands, what it is and its annotation.
+fn add_line(
+    alloc: Global,
+    depth: usize,
+    at: Span,
+    tree: &Tree,
+    out: &mut Text,
+) -> Result<(), NoMemory> {
+    if out.len() > 0 {
+        out.push_str("\n")?;
+    }
+    for _ in 0..depth {
+        out.push_str("  ")?;
+    }
+    push_span(alloc, at, out)?;
+    out.push_str(" ")?;
+    out.push_str(tree.shape.as_str())
+}
+
+/// Adds a member, and behind it those of a module.
+#[cycle(members)]
+fn add_member(
+    alloc: Global,
+    depth: usize,
+    member: &Member,
+    out: &mut Text,
+) -> Result<(), NoMemory> {
+    let mut tree = Tree::new(alloc);
+    match member {
+        Member::Module(module) => {
+            tree.add("module ")?;
+            tree.add_name(alloc, &module.name)?;
+            tree.add_note(&module.note)?;
+            add_line(alloc, depth, module.at, &tree, out)?;
+            add_members(
+                alloc,
+                depth.saturating_add(1),
+                module.members.as_slice(),
+                out,
+            )
+        }
+        Member::Def(definition) => {
+            let (at, note) = place_and_note(definition);
+            add_definition(alloc, definition, &mut tree)?;
+            tree.add_note(note)?;
+            add_line(alloc, depth, at, &tree, out)
+        }
+        Member::Include(include) => {
+            tree.add("include ")?;
+            tree.add_quoted(&include.file.text)?;
+            tree.add_note(&include.note)?;
+            add_line(alloc, depth, include.at, &tree, out)
+        }
+        Member::Locate(locate) => {
+            tree.add("locate ")?;
+            tree.add_qualified(alloc, &locate.of)?;
+            tree.add(" at ")?;
+            tree.add_quoted(&locate.file.text)?;
+            tree.add_note(&locate.note)?;
+            add_line(alloc, depth, locate.at, &tree, out)
+        }
+    }
+}
+
+/// Adds members, one a line, those of a module behind it and further in.
+#[cycle(members)]
+pub fn add_members(
+    alloc: Global,
+    depth: usize,
+    members: &[Member],
+    out: &mut Text,
+) -> Result<(), NoMemory> {
+    for member in members {
+        add_member(alloc, depth, member, out)?;
+    }
+    Ok(())
+}

@@ -1,0 +1,173 @@
+use crate::cases::Case;
+use crate::grammar::parsed_expression;
+use crate::members::add_members;
+use crate::words::{first_broken, lines, printed};
+use fp_base::{NoMemory, Row, Stop, Text, Value};
+use fp_consts::{evaluate, evaluate_all, examine};
+use fp_lexer::lex;
+use fp_meaning::{Group, Marks};
+use fp_names::{collect, name_faults, uses};
+use fp_parse_parts::{Inside, Members, parse};
+use fp_tree::{Source, Unit, Values};
+use std::alloc::Global;
+
+fn unit(alloc: Global, file: u32, source: &[u8]) -> Result<Unit, Stop> {
+    let tokens = lex(alloc, file, source)?;
+    match parse(alloc, &tokens, Inside::Unit)? {
+        Members::Unit(members) => Ok(Unit { members }),
+    }
+}
+
+/// The source of two files.
+fn source_of(alloc: Global, first: &[u8], second: &[u8]) -> Result<Source, Stop> {
+    let mut names = Row::new(alloc);
+    names.push(Text::from_str(alloc, "a.fpp")?)?;
+    names.push(Text::from_str(alloc, "b.fpp")?)?;
+    let mut units = Row::new(alloc);
+    units.push(unit(alloc, 0, first)?)?;
+    units.push(unit(alloc, 1, second)?)?;
+    Ok(Source { names, units })
+}
+
+fn source(alloc: Global, case: &Case) -> Result<Source, Stop> {
+    source_of(alloc, case.source(), case.text("second file").as_bytes())
+}
+
+/// The members of a file.
+pub fn members(alloc: Global, case: &Case) -> Result<Text, Stop> {
+    let unit = unit(alloc, 0, case.source())?;
+    let mut out = Text::new(alloc);
+    add_members(alloc, 0, unit.members.as_slice(), &mut out)?;
+    Ok(out)
+}
+
+/// The members of a copy of a file.
+pub fn copy(alloc: Global, case: &Case) -> Result<Text, Stop> {
+    let copy = unit(alloc, 0, case.source())?.copy(alloc)?;
+    let mut out = Text::new(alloc);
+    add_members(alloc, 0, copy.members.as_slice(), &mut out)?;
+    Ok(out)
+}
+
+/// What of its definitions is broken first.
+pub fn definitions(alloc: Global, case: &Case) -> Result<Text, Stop> {
+    let _names = collect(alloc, &source(alloc, case)?)?;
+    Ok(first_broken(alloc, None)?)
+}
+
+/// The numbers of the definitions that its uses mean.
+pub fn meanings(alloc: Global, case: &Case) -> Result<Text, Stop> {
+    let source = source(alloc, case)?;
+    let names = collect(alloc, &source)?;
+    let meant = uses(alloc, &source, &names)?;
+    let mut out = Text::new(alloc);
+    for number in meant.meanings.as_slice() {
+        let space = if out.len() == 0 { "" } else { " " };
+        let number = format!(in alloc; "{space}{number}").map_err(|_| NoMemory)?;
+        out.push_str(number.as_str())?;
+    }
+    Ok(out)
+}
+
+/// What of its names is broken first.
+pub fn broken_names(alloc: Global, case: &Case) -> Result<Text, Stop> {
+    let first = name_faults(alloc, &source(alloc, case)?)?;
+    Ok(first_broken(alloc, first)?)
+}
+
+/// The names of a qualified name.
+fn path(alloc: Global, qualified: &str) -> Result<Row<Text>, NoMemory> {
+    let mut names = Row::new(alloc);
+    if qualified.is_empty() {
+        return Ok(names);
+    }
+    for name in qualified.split('.') {
+        names.push(Text::from_str(alloc, name)?)?;
+    }
+    Ok(names)
+}
+
+/// The number of the definition that a use in a scope means in a group.
+pub fn found(alloc: Global, case: &Case, group: Group) -> Result<Text, Stop> {
+    let names = collect(alloc, &source(alloc, case)?)?;
+    let scope = path(alloc, case.text("scope"))?;
+    let name = path(alloc, case.text("use"))?;
+    let text = match names.find(&scope, &name, group) {
+        Some(number) => format!(in alloc; "{number}"),
+        None => String::from_str(alloc, "nothing"),
+    };
+    let text = text.map_err(|_| NoMemory)?;
+    Ok(Text::from_str(alloc, text.as_str())?)
+}
+
+fn marks(alloc: Global, case: &Case) -> Result<Marks, Stop> {
+    let source = source(alloc, case)?;
+    let names = collect(alloc, &source)?;
+    let meant = uses(alloc, &source, &names)?;
+    Ok(evaluate_all(alloc, &source, &meant)?)
+}
+
+fn optional(alloc: Global, value: Option<&Value>) -> Result<Text, NoMemory> {
+    match value {
+        Some(value) => printed(alloc, value),
+        None => Text::from_str(alloc, "none"),
+    }
+}
+
+/// The values of its expressions, where they have one.
+pub fn values(alloc: Global, case: &Case) -> Result<Text, Stop> {
+    let marks = marks(alloc, case)?;
+    let mut texts = Vec::new(alloc);
+    for value in marks.at.as_slice() {
+        texts
+            .push(optional(alloc, value.as_ref())?)
+            .map_err(|_| NoMemory)?;
+    }
+    Ok(lines(alloc, texts.as_slice())?)
+}
+
+/// How many of its expressions have a value.
+pub fn count(alloc: Global, case: &Case) -> Result<Text, Stop> {
+    let marks = marks(alloc, case)?;
+    let count = marks
+        .at
+        .as_slice()
+        .iter()
+        .filter(|value| value.is_some())
+        .count();
+    let text = format!(in alloc; "{count}").map_err(|_| NoMemory)?;
+    Ok(Text::from_str(alloc, text.as_str())?)
+}
+
+/// What of its constants is broken first.
+pub fn broken_constants(alloc: Global, case: &Case) -> Result<Text, Stop> {
+    Ok(first_broken(alloc, marks(alloc, case)?.first)?)
+}
+
+/// The values of the expressions of a file of which no constant breaks a rule.
+pub fn evaluated_values(alloc: Global, text: &[u8]) -> Result<Values, Stop> {
+    let source = source_of(alloc, text, b"")?;
+    let names = collect(alloc, &source)?;
+    let meant = uses(alloc, &source, &names)?;
+    evaluate(alloc, &source, &meant)
+}
+
+/// The same as text.
+pub fn evaluated(alloc: Global, case: &Case) -> Result<Text, Stop> {
+    let values = evaluated_values(alloc, case.source())?;
+    let mut texts = Vec::new(alloc);
+    for value in values.at.as_slice() {
+        texts.push(printed(alloc, value)?).map_err(|_| NoMemory)?;
+    }
+    Ok(lines(alloc, texts.as_slice())?)
+}
+
+/// The value of an expression that uses no name, or what is broken first in it.
+pub fn examined(alloc: Global, case: &Case) -> Result<Text, Stop> {
+    let (expression, _) = parsed_expression(alloc, case)?;
+    let found = examine(alloc, &expression, &[], &[], 0)?;
+    match found.value {
+        Some(measured) => Ok(printed(alloc, &measured.value)?),
+        None => Ok(first_broken(alloc, found.first)?),
+    }
+}

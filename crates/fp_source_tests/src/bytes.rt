@@ -1,0 +1,61 @@
+use crate::refused::{push_times, refused};
+use fp_base::NoMemory;
+use fp_lexer::{Word, lex};
+use std::alloc::Global;
+use std::test::Fail;
+
+/// The names of a text, or the rule that it breaks and where.
+fn names(alloc: Global, text: &[u8]) -> Result<String, NoMemory> {
+    let tokens = match lex(alloc, 0, text) {
+        Ok(tokens) => tokens,
+        Err(stop) => return refused(alloc, stop),
+    };
+    let mut names = String::new(alloc);
+    for token in tokens.as_slice() {
+        if let Word::Name(name) = &token.what {
+            names.push_str(name.as_str())?;
+        }
+    }
+    Ok(names)
+}
+
+/// The bytes that may stand behind a name: letters, digits, `_`, the marks, blanks, the newline, and what begins a comment or an
+/// annotation.
+static BYTES_OF_TEXTS: &str =
+    "ABCDEFGHIJKLMNOPQRSTUVWXYZabcdefghijklmnopqrstuvwxyz_0123456789()[]{}*/+-,.:;= \t\n#@";
+
+#[test]
+fn refuses_bytes(rt: HostRuntime) -> Result<(), Fail> {
+    for byte in 0..=255u8 {
+        let found = names(rt.alloc(), &[b'a', byte])?;
+        let begins = BYTES_OF_TEXTS.as_bytes().contains(&byte);
+        let wanted = if byte == b'"' {
+            "1:2 L2 open string"
+        } else {
+            "1:2 L1 bad character"
+        };
+        assert_eq!(rt; found.as_str() == wanted, !begins, "at {byte}");
+    }
+    Ok(())
+}
+
+const LONGEST: u32 = 4_194_304;
+
+/// A beginning, so many bytes in all, and what comes of it.
+static LONG: [(&str, u32, &str); 4] = [
+    ("a", LONGEST, "a"),
+    ("a", LONGEST + 1, "1:1 L5 text too long"),
+    ("?", LONGEST + 1, "1:1 L1 bad character"),
+    ("\"\"\"\\\n\"\"\"", LONGEST + 1, "1:1 L5 text too long"),
+];
+
+#[test]
+fn refuses_long_texts(rt: HostRuntime) -> Result<(), Fail> {
+    for (first, length, wanted) in LONG.iter() {
+        let mut text = String::from_str(rt.alloc(), first)?;
+        push_times(&mut text, " ", length.saturating_sub(first.len() as u32))?;
+        let found = names(rt.alloc(), text.as_bytes())?;
+        assert_eq!(rt; found.as_str(), *wanted, "at {first:?}");
+    }
+    Ok(())
+}

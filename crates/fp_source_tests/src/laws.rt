@@ -1,0 +1,15 @@
+use fp_lexer::{one_lexing, places_rise, same_words, spans_rise, worked_strings};
+use fp_main::Status;
+use fp_parse_parts::{one_refusal, one_unit};
+
+#[test]
+fn laws_can_be_cited(rt: HostRuntime) {
+    one_lexing();
+    spans_rise();
+    places_rise();
+    same_words();
+    worked_strings();
+    one_unit();
+    one_refusal();
+    assert_eq!(rt; Status::NoTopology.code(), 12);
+}
