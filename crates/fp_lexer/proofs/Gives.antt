@@ -5,12 +5,13 @@ use Rattle.std.specs.List.{list_all, prefix_len}
 use Rattle.std.proofs.lemmas.Bool.{ne_eqb, eqb-true}
 use Rattle.std.proofs.lemmas.List.{drop_more}
 use Rattle.std.proofs.lemmas.List.Sums.{prefix_len-le-length}
-use Rattle.fp_lexer.specs.Bytes.{is_letter, is_digit, is_hex_digit, is_name_byte, body_text, line, newline_len, newline_at, indent_at, trimmed}
+use Rattle.fp_base.specs.Names.{is_letter, is_digit, is_name_byte, is_name}
+use Rattle.fp_lexer.specs.Bytes.{is_hex_digit, body_text, line, newline_len, newline_at, indent_at, trimmed}
 use Rattle.fp_lexer.specs.Words.{words}
 use Rattle.fp_lexer.specs.Scan.{run_value, run_hex, hex_starts, tail_len, float_len, string_len, other, long_len}
 use Rattle.fp_lexer.specs.Found.{HasNoBadEscape, IsSmall, GivesPiece, what_of}
 use Rattle.fp_lexer.specs.Broken.{NoneBegins, LargeBegins, BadEscapeAt}
-use Rattle.fp_lexer.specs.Tokens.{Spells, begins_long, IsLongest, IsPiece, Piece, is_name, hex_after}
+use Rattle.fp_lexer.specs.Tokens.{Spells, begins_long, IsLongest, IsPiece, Piece, hex_after}
 use Rattle.fp_lexer.specs.declared.shape.Shape.{Shape}
 use Rattle.fp_lexer.specs.declared.shape.Shape.TheVariants as shape
 use Rattle.fp_lexer.specs.declared.token.Word.{Word}

@@ -3,7 +3,8 @@ use Rattle.std.proofs.Common.{◌≡◌, ℕ, ◌⊎◌, List, [], ◌∷◌, �
 use Rattle.std.specs.Prelude.{◌==◌, slice_index}
 use Rattle.std.proofs.lemmas.Bool.Decides.{nat_tests}
 use Rattle.std.proofs.lemmas.Option.{some_pair_parts, none-some}
-use Rattle.fp_lexer.specs.Bytes.{line, newline_at, trimmed, body_text, long_text, is_letter, is_digit}
+use Rattle.fp_base.specs.Names.{is_letter, is_digit}
+use Rattle.fp_lexer.specs.Bytes.{line, newline_at, trimmed, body_text, long_text}
 use Rattle.fp_lexer.specs.Scan.{string_len, long_len}
 use Rattle.fp_lexer.proofs.Strings.{string_complete}
 use Rattle.fp_lexer.proofs.LongStrings.{long_complete}

@@ -6,13 +6,13 @@ use Rattle.std.specs.Option.{is_some}
 use Rattle.std.proofs.lemmas.Bool.{eqb-true}
 use Rattle.std.proofs.lemmas.Option.{some_pair_parts}
 use Rattle.std.proofs.lemmas.List.Sums.{prefix_len-le-length}
-use Rattle.fp_lexer.specs.Bytes.{is_letter, is_digit, is_name_byte}
+use Rattle.fp_base.specs.Names.{is_letter, is_digit, is_name_byte, is_name}
 use Rattle.fp_lexer.specs.Words.{marks}
 use Rattle.fp_lexer.specs.Scan.{one_mark, one_mark_shape, other}
 use Rattle.fp_lexer.specs.Found.{IsSmall, HasPart, what_of}
 use Rattle.fp_lexer.specs.declared.shape.Shape.{Shape}
 use Rattle.fp_lexer.specs.declared.shape.Shape.TheVariants as shape
-use Rattle.fp_lexer.specs.Tokens.{Spells, Spelled, IsLongest, is_name}
+use Rattle.fp_lexer.specs.Tokens.{Spells, Spelled, IsLongest}
 use Rattle.fp_lexer.specs.declared.token.Word.{Word}
 use Rattle.fp_lexer.specs.declared.token.Word.TheVariants.{Name, Mark, Newline}
 use Rattle.fp_lexer.proofs.Runs.{bool_cases, cond_true, cond_false, and_left, and_right, or_cases}

@@ -6,7 +6,8 @@ use Rattle.std.proofs.lemmas.Bool.{eqb-true}
 use Rattle.std.proofs.lemmas.Slice.Eq.{bytes_eq-Decides}
 use Rattle.std.proofs.lemmas.Option.{same_Some}
 use Rattle.fp_lexer.specs.Words.{words, marks}
-use Rattle.fp_lexer.specs.Tokens.{Spelled, Spells, is_name}
+use Rattle.fp_base.specs.Names.{is_name}
+use Rattle.fp_lexer.specs.Tokens.{Spelled, Spells}
 use Rattle.fp_lexer.specs.declared.token.Word.{Word}
 use Rattle.fp_lexer.specs.declared.token.Word.TheVariants.{Name, Reserved, Number, Float, Str, Mark, Newline, Before, After}
 use Rattle.fp_lexer.proofs.Runs.{and_left, and_right, bool_cases, cond_true, cond_false}

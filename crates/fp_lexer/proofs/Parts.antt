@@ -6,7 +6,8 @@ use Rattle.std.specs.Str.{IsUtf8, IsCharBoundary}
 use Rattle.std.proofs.lemmas.Bool.Decides.{nat_tests}
 use Rattle.std.proofs.lemmas.Str.{IsCharBoundary-after_ascii}
 use Rattle.std.proofs.lemmas.List.Sums.{prefix_len_passes, prefix_len-le-length}
-use Rattle.fp_lexer.specs.Bytes.{is_letter, is_name_byte, is_blank, newline_len, line}
+use Rattle.fp_base.specs.Names.{is_letter, is_name_byte}
+use Rattle.fp_lexer.specs.Bytes.{is_blank, newline_len, line}
 use Rattle.fp_lexer.specs.Found.{IsPart}
 use Rattle.fp_lexer.proofs.Runs.{bool_cases, cond_true, cond_false, name_byte_ascii}
 use Rattle.fp_lexer.proofs.Lines.{newline_forms}

@@ -4,7 +4,8 @@ use Rattle.std.specs.List.{prefix_len, list_all}
 use Rattle.std.proofs.lemmas.List.{drop_more}
 use Rattle.std.specs.Str.{IsAscii}
 use Rattle.std.proofs.lemmas.Bool.Decides.{nat_tests}
-use Rattle.fp_lexer.specs.Bytes.{is_digit, is_hex_digit, hex_digit, is_name_byte}
+use Rattle.fp_base.specs.Names.{is_digit, is_name_byte}
+use Rattle.fp_lexer.specs.Bytes.{is_hex_digit, hex_digit}
 use Rattle.fp_lexer.specs.Scan.{run_value, run_hex}
 use Rattle.fp_lexer.specs.Tokens.{value_after, hex_after}
 

@@ -2,17 +2,7 @@
 -- white space and of ends of lines.
 use Rattle.std.specs.Prelude.{ℕ, Bool, true, false, not, ◌-◌, ◌&&◌, ◌||◌, nat_le, nat_lt, ◌==◌, List, [], ◌∷◌, cond, length, take, drop, slice_index}
 use Rattle.std.specs.List.{prefix_len, suffix_len}
-
--- a letter or `_`
-abbrev pub is_letter : ℕ → Bool
-is_letter b = (nat_le 65 b && nat_le b 90) || ((nat_le 97 b && nat_le b 122) || b == 95)
-
-abbrev pub is_digit : ℕ → Bool
-is_digit b = nat_le 48 b && nat_le b 57
-
--- a letter, `_` or a digit
-abbrev pub is_name_byte : ℕ → Bool
-is_name_byte b = is_letter b || is_digit b
+use Rattle.fp_base.specs.Names.{is_digit}
 
 abbrev pub is_hex_digit : ℕ → Bool
 is_hex_digit b = is_digit b || ((nat_le 97 b && nat_le b 102) || (nat_le 65 b && nat_le b 70))

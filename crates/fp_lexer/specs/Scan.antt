@@ -1,7 +1,8 @@
 -- What comes first in a text, byte by byte: what the parts of the lexer that scan answer.
 use Rattle.std.specs.Prelude.{slice_index, ℕ, ◌+◌, ◌-◌, ◌*◌, ◌==◌, ◌&&◌, ◌||◌, List, [], ◌∷◌, cond, drop, true, false, not, nat_lt, Bool, Option, Some, None}
 use Rattle.std.specs.List.{prefix_len}
-use Rattle.fp_lexer.specs.Bytes.{is_digit, is_hex_digit, hex_digit, newline_len}
+use Rattle.fp_base.specs.Names.{is_digit}
+use Rattle.fp_lexer.specs.Bytes.{is_hex_digit, hex_digit, newline_len}
 use Rattle.fp_lexer.specs.Words.{mark}
 use Rattle.fp_lexer.specs.declared.shape.Shape.{Shape}
 use Rattle.fp_lexer.specs.declared.shape.Shape.TheVariants as shape

@@ -4,7 +4,8 @@ use Rattle.std.specs.Prelude.{◌≡◌, ℕ, ◌+◌, ◌*◌, ◌-◌, ◌<◌
 use Rattle.std.specs.List.{list_all}
 use Rattle.fp_base.specs.Places.{place_at}
 use Rattle.fp_base.specs.declared.place.Span.{Span}
-use Rattle.fp_lexer.specs.Bytes.{is_letter, is_digit, is_hex_digit, hex_digit, is_name_byte, is_body, body_text, escapes, long_text, indent_at, line, newline_at, trimmed}
+use Rattle.fp_base.specs.Names.{is_name, is_digit}
+use Rattle.fp_lexer.specs.Bytes.{is_hex_digit, hex_digit, is_body, body_text, escapes, long_text, indent_at, line, newline_at, trimmed}
 use Rattle.fp_lexer.specs.Newlines.{kept, ignored}
 use Rattle.fp_lexer.specs.Words.{words, marks}
 use Rattle.fp_lexer.specs.declared.token.Word.{Word}
@@ -12,11 +13,6 @@ use Rattle.fp_lexer.specs.declared.token.Word.TheVariants.{Name, Reserved, Numbe
 use Rattle.fp_lexer.specs.declared.token.Token.{Token}
 
 -- ---- pieces
-
--- FPP Language Specification, "Lexical Elements", identifiers
-abbrev pub is_name : List ℕ → Bool
-is_name [] = false
-is_name (b ∷ bs) = is_letter b && list_all is_name_byte bs
 
 -- FPP Language Specification, "Expressions", integer literals: decimal digits
 abbrev pub is_number : List ℕ → Bool

@@ -1,6 +1,7 @@
 ghost use Rattle.std.specs.Prelude.{◌≡◌, ◌+◌, ◌<◌, ◌≤◌, drop, length, slice_index, true};
 ghost use Rattle.std.specs.List.{prefix_len};
-ghost use Rattle.fp_lexer.specs.Bytes.{is_letter, is_digit, is_hex_digit, hex_digit, is_blank, is_name_byte, newline_of, newline_len, line};
+ghost use Rattle.fp_base.specs.Names.{is_letter, is_digit, is_name_byte};
+ghost use Rattle.fp_lexer.specs.Bytes.{is_hex_digit, hex_digit, is_blank, newline_of, newline_len, line};
 
 /// A letter or `_`.
 pub fn is_letter(b: u8) -> bool

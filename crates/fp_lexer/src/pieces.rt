@@ -1,6 +1,6 @@
 ghost use Rattle.std.specs.Prelude.{◌≡◌, ◌≢◌, ◌+◌, ◌<◌, drop, length, slice_index, true, false, ◌==◌, ◌&&◌};
 ghost use Rattle.std.specs.List.{prefix_len};
-ghost use Rattle.fp_lexer.specs.Bytes.{is_letter, is_digit};
+ghost use Rattle.fp_base.specs.Names.{is_letter, is_digit};
 ghost use Rattle.fp_lexer.specs.Found.{GivesPiece};
 ghost use Rattle.fp_lexer.specs.Scan.{hex_starts, other, tail_len};
 

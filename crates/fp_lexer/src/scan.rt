@@ -1,6 +1,7 @@
 ghost use Rattle.std.specs.Prelude.{◌≡◌, ◌==◌, ◌&&◌, not, slice_index, ◌+◌, ◌<◌, ◌≤◌, ◌^◌, drop, length, false, Some, None, ◌-◌, MatchOption};
 ghost use Rattle.std.specs.List.{prefix_len};
-ghost use Rattle.fp_lexer.specs.Bytes.{is_digit, is_hex_digit, newline_len};
+ghost use Rattle.fp_base.specs.Names.{is_digit};
+ghost use Rattle.fp_lexer.specs.Bytes.{is_hex_digit, newline_len};
 ghost use Rattle.fp_lexer.specs.Scan.{run_value, run_hex, hex_starts, fraction_len, sign_len, signed_len, exponent_len, tail_len, one_mark, string_len, long_len, bad_len, spaces};
 
 use crate::bytes::{byte_at, hex_digit, is_digit, is_hex_digit, newline_len};

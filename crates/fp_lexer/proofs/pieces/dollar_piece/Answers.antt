@@ -1,5 +1,5 @@
 use Rattle.std.proofs.Common.{sym, ◌∙◌, ap, refl, arith}
-use Rattle.fp_lexer.specs.Bytes.{is_letter}
+use Rattle.fp_base.specs.Names.{is_letter}
 use Rattle.fp_lexer.proofs.Gives.{gives_dollar, dollar_begins_none, letter_within, not_quote}
 use Rattle.fp_lexer.proofs.pieces.dollar_piece.Goals as goal
 

@@ -1,6 +1,6 @@
 use Rattle.std.proofs.Common.{◌≡◌, ◌+◌, ◌≤◌, ◌-◌, drop, length}
 use Rattle.std.specs.List.{prefix_len}
-use Rattle.fp_lexer.specs.Bytes.{is_digit}
+use Rattle.fp_base.specs.Names.{is_digit}
 use Rattle.fp_lexer.proofs.scan.digits_end.Given as goal
 
 abbrev pub invariant-digits : goal.invariant-digits

@@ -1,6 +1,6 @@
 use Rattle.std.proofs.Common.{◌≡◌, ◌+◌, ◌≤◌, ◌<◌, ◌-◌, ◌^◌, drop, length}
 use Rattle.std.specs.List.{prefix_len}
-use Rattle.fp_lexer.specs.Bytes.{is_digit}
+use Rattle.fp_base.specs.Names.{is_digit}
 use Rattle.fp_lexer.specs.Scan.{run_value}
 use Rattle.fp_lexer.proofs.scan.number.Given as goal
 
