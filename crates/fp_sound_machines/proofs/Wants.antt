@@ -3,7 +3,7 @@ use Rattle.std.proofs.Common.{◌≡◌, ℕ, zero, suc, ◌+◌, ◌-◌, ◌<�
 use Rattle.std.proofs.lemmas.Bool.Decides.{nat_tests}
 use Rattle.fp_tables.specs.Components.{same_kind}
 use Rattle.fp_tables.specs.Machines.{target_by, target, follow, is_given}
-use Rattle.fp_sound_machines.specs.Wanted.{aliased, alias_of, meets, both_wanted, wanted_by}
+use Rattle.fp_sound_machines.specs.Wanted.{meets, both_wanted, wanted_by}
 use Rattle.fp_tables.specs.declared.kind.Kind.{Kind}
 use Rattle.fp_tables.specs.declared.kind.Kind.TheVariants as kind
 use Rattle.fp_tables.specs.declared.kind.Form.{Form}

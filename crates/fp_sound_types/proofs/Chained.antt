@@ -1,5 +1,6 @@
 -- Chains of definitions, found by marks.
 use Rattle.std.proofs.Common.{◌≡◌, ℕ, zero, suc, ◌+◌, ◌-◌, ◌≤◌, Bool, true, false, not, ◌&&◌, ◌||◌, List, [], ◌∷◌, map, length, replicate, Option, Some, None, option_map, is_some, unwrap_or, refl, sym, ap, ap₂, subst, ◌∙◌, arith, eqb}
+use Rattle.std.proofs.lemmas.Bool.Decides.{nat_tests}
 use Rattle.std.proofs.lemmas.List.{length-map}
 use Rattle.std.proofs.lemmas.Option.{slice_get-map}
 use Rattle.std.specs.List.{list_any, slice_get}
@@ -68,7 +69,7 @@ turned false false = refl
 
 pub zero_is_last : (n : ℕ) → eqb n 0 ≡ is_last n
 zero_is_last zero = refl
-zero_is_last (suc n) = refl
+zero_is_last (suc n) = grind (arith, nat_tests)
 
 module _ (types : List TypeDef) where
   -- the marks stand where a chain of so many uses begins

@@ -1,9 +1,7 @@
 use Rattle.std.proofs.Common.{◌∙◌, ap, sym, List}
 use Rattle.std.specs.List.{list_any}
-use Rattle.std.specs.Prelude.{◌||◌, false}
 use Rattle.fp_sound_types.specs.Marks.{is_marked, uses_marked}
 use Rattle.fp_tables.specs.declared.kind.Field.{Field}
-use Rattle.fp_tables.specs.declared.kind.Form.{Form}
 use Rattle.fp_sound_types.proofs.Chained.{any_map}
 use Rattle.fp_sound_types.proofs.chains.uses_marked.Goals as goal
 
@@ -12,4 +10,4 @@ returns-in-Struct c =
     let marks = c.args.marks.now in
     c.any_is_marked.ensures ∙ ap (λ (fields : List Field). list_any (λ (field : Field). is_marked marks field.kind) fields) c.as_slice.ensures
     ∙ any_map (is_marked marks) (λ (field : Field). field.kind) c.in-Struct.fields
-    ∙ sym (ap (λ (form : Form). list_any (is_marked marks) (kinds_in form)) c.in-Struct.is)
+    ∙ sym (ap (uses_marked marks c.args.constants) c.in-Struct.is)
