@@ -5,7 +5,10 @@ ghost use Rattle.fp_tables.specs.Lists.{all_pass};
 ghost use Rattle.fp_sound_machines.specs.SoundMachine.{tests_of_outlines, tests_of_bodies, is_sound_machine};
 
 use crate::choices::behind_choices;
-use crate::machines::{all_signals_differ, is_machine_of_size, machine_leads_somewhere, machine_names_differ, siblings_differ};
+use crate::machines::{
+    all_signals_differ, is_machine_of_size, machine_leads_somewhere, machine_names_differ,
+    siblings_differ,
+};
 use crate::states::{are_in_preorder, states_begin};
 use crate::steps::{initials_stay_inside, values_are_given};
 use fp_base::NoMemory;

@@ -6,6 +6,7 @@ ghost use Rattle.fp_tables.specs.declared.component.Running.{Running};
 ghost use Rattle.fp_tables.specs.declared.component.Command.{Command};
 
 use fp_base::NoMemory;
+use fp_sound_types::{ids_differ, names_differ};
 use fp_tables::{Command, Component, Port, Role, Running, Way};
 use std::alloc::Global;
 
@@ -49,26 +50,26 @@ pub fn ports_are_of_size(ports: &[Port]) -> bool
 }
 
 /// Whether no two parts of one sort have one name.
-pub fn names_differ(alloc: Global, component: &Component) -> Result<bool, NoMemory>
+pub fn component_names_differ(alloc: Global, component: &Component) -> Result<bool, NoMemory>
     ensures { IfOk result (λ differ. differ ≡ names_differ component.now) }
 {
-    let ports = fp_sound_types::names_differ(alloc, &component.ports)?;
-    let commands = fp_sound_types::names_differ(alloc, &component.commands)?;
-    let events = fp_sound_types::names_differ(alloc, &component.events)?;
-    let channels = fp_sound_types::names_differ(alloc, &component.channels)?;
-    let params = fp_sound_types::names_differ(alloc, &component.params)?;
-    let machines = fp_sound_types::names_differ(alloc, &component.machines)?;
+    let ports = names_differ(alloc, &component.ports)?;
+    let commands = names_differ(alloc, &component.commands)?;
+    let events = names_differ(alloc, &component.events)?;
+    let channels = names_differ(alloc, &component.channels)?;
+    let params = names_differ(alloc, &component.params)?;
+    let machines = names_differ(alloc, &component.machines)?;
     Ok(ports & commands & events & channels & params & machines)
 }
 
 /// Whether no two parts of one sort have one opcode or id.
-pub fn ids_differ(alloc: Global, component: &Component) -> Result<bool, NoMemory>
+pub fn component_ids_differ(alloc: Global, component: &Component) -> Result<bool, NoMemory>
     ensures { IfOk result (λ differ. differ ≡ ids_differ component.now) }
 {
-    let commands = fp_sound_types::ids_differ(alloc, &component.commands)?;
-    let events = fp_sound_types::ids_differ(alloc, &component.events)?;
-    let channels = fp_sound_types::ids_differ(alloc, &component.channels)?;
-    let params = fp_sound_types::ids_differ(alloc, &component.params)?;
+    let commands = ids_differ(alloc, &component.commands)?;
+    let events = ids_differ(alloc, &component.events)?;
+    let channels = ids_differ(alloc, &component.channels)?;
+    let params = ids_differ(alloc, &component.params)?;
     Ok(commands & events & channels & params)
 }
 

@@ -4,18 +4,23 @@ ghost use Rattle.fp_tables.specs.Components.{reads_its_format, is_passive, waits
 ghost use Rattle.fp_tables.specs.Lists.{all_hold, all_pass};
 ghost use Rattle.fp_sound_model.specs.Parts.{tests_of_ports, tests_of_commands, tests_of_reports, tests_of_names, tests_of_running, tests_of_component, tests_of_types, tests_of_definitions, PartsPass};
 
-use crate::components;
-use crate::ports;
 use crate::channels::{component_has_values, limits_are_good, params_are_of_size};
 use crate::events::fields_agree_with_formals;
 use crate::formals::{formals_differ, formals_of_ports_differ};
 use crate::formats::reads_its_format;
 use crate::instances::instances_have_their_queues;
 use crate::lengths::lists_are_short;
-use crate::parameters::{commands_take_their_values, each_has_one_save_command, each_has_one_set_command};
+use crate::parameters::{
+    commands_take_their_values, each_has_one_save_command, each_has_one_set_command,
+};
 use crate::running::runs_no_external;
+use crate::{components, ports};
 use fp_base::NoMemory;
-use fp_sound_types::{arrays_are_of_size, chains_are_short, constants_are_of_size, defaults_are_of_size, members_differ, names_differ, own_names_are_names, qualified_names_are_names, types_have_their_values};
+use fp_sound_types::{
+    arrays_are_of_size, chains_are_short, constants_are_of_size, defaults_are_of_size,
+    members_differ, names_differ, own_names_are_names, qualified_names_are_names,
+    types_have_their_values,
+};
 use fp_tables::{Component, Event, Model, Queueing};
 use std::alloc::Global;
 
@@ -71,8 +76,8 @@ fn reports_are_sound(alloc: Global, model: &Model, component: &Component) -> Res
 fn names_are_sound(alloc: Global, model: &Model, component: &Component) -> Result<bool, NoMemory>
     ensures { IfOk result (λ sound. sound ≡ all_pass (tests_of_names model.now) component.now) }
 {
-    let names = components::names_differ(alloc, component)?;
-    let ids = components::ids_differ(alloc, component)?;
+    let names = components::component_names_differ(alloc, component)?;
+    let ids = components::component_ids_differ(alloc, component)?;
     let formals = formals_differ(alloc, component)?;
     Ok(names & ids & formals)
 }

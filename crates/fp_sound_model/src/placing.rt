@@ -5,7 +5,9 @@ ghost use Rattle.fp_tables.specs.declared.kind.TypeDef.{TypeDef};
 ghost use Rattle.fp_tables.specs.declared.topology.Instance.{Instance};
 
 use crate::positions::{component_lies, form_lies, machine_lies, port_def_lies};
-use fp_tables::{Component, Instance, Item, Link, Machine, Model, PortDef, Topology, TypeDef, Wire};
+use fp_tables::{
+    Component, Instance, Item, Link, Machine, Model, PortDef, Topology, TypeDef, Wire,
+};
 
 fn has_port(model: &Model, instance: u32, port: u32) -> bool
     ensures { result ≡ has_port model.now instance port }

@@ -6,7 +6,9 @@ ghost use Rattle.fp_tables.specs.declared.component.Port.{Port};
 ghost use Rattle.fp_tables.specs.Components.{same_formal, definition, definition_of, has_its_formals, suits_its_role, waits_for_no_result, special_in, special_ports_differ};
 
 use fp_base::NoMemory;
-use fp_tables::{Component, Formal, Kind, Port, PortDef, Role, Special, Way, all_differ, same_kind};
+use fp_tables::{
+    Component, Formal, Kind, Port, PortDef, Role, Special, Way, all_differ, same_kind,
+};
 use std::alloc::{AllocError, Global};
 
 fn same_formal(left: &Formal, right: &Formal) -> bool

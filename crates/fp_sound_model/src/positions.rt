@@ -6,7 +6,10 @@ ghost use Rattle.fp_tables.specs.declared.component.Param.{Param};
 ghost use Rattle.fp_tables.specs.declared.component.Running.{Running};
 ghost use Rattle.fp_tables.specs.Positions.{kind_lies, form_lies, formals_lie, port_def_lies, port_lies, part_lies, command_lies, event_lies, channel_lies, component_lies, named_lies, numbers_lie, step_lies, on_lies, node_lies, vertex_lies, machine_lies};
 
-use fp_tables::{Channel, Command, Component, Event, Field, Form, Formal, Kind, Limit, Machine, Named, Node, On, Param, Part, Port, PortDef, Running, Step, Vertex};
+use fp_tables::{
+    Channel, Command, Component, Event, Field, Form, Formal, Kind, Limit, Machine, Named, Node, On,
+    Param, Part, Port, PortDef, Running, Step, Vertex,
+};
 
 fn kind_lies(kind: &Kind, types: usize) -> bool
     ensures { result ≡ kind_lies types kind.now }

@@ -14,7 +14,9 @@ ghost use Rattle.fp_tables.specs.declared.component.Port.{Port};
 ghost use Rattle.fp_tables.specs.declared.topology.Wire.{Wire};
 
 use fp_base::NoMemory;
-use fp_tables::{End, Model, Port, Role, Special, Topology, Wire, all_differ, numbers_differ, set_of};
+use fp_tables::{
+    End, Model, Port, Role, Special, Topology, Wire, all_differ, numbers_differ, set_of,
+};
 use std::alloc::Global;
 use std::collections::BTreeSet;
 

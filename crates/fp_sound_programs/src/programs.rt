@@ -6,7 +6,9 @@ ghost use Rattle.fp_tables.specs.SoundPrograms.{IsSoundProgram};
 
 use crate::callers::callers_suit;
 use crate::handlers::handlers_suit;
-use crate::limits::{actions_are_few, answers_are_few, callers_are_few, instances_are_few, steps_are_in_range};
+use crate::limits::{
+    actions_are_few, answers_are_few, callers_are_few, instances_are_few, steps_are_in_range,
+};
 use crate::queues::queues_are_small;
 use crate::repeats::{answers_differ, callers_differ, callers_have_names, handlers_differ};
 use fp_base::NoMemory;

@@ -36,9 +36,10 @@ fn uses_marked(marks: &[bool], constants: bool, form: &Form) -> bool
         Form::Alias(kind) => is_marked(marks, *kind),
         Form::Array { element, .. } => is_marked(marks, *element),
         Form::Struct(fields) => any_is_marked(marks, fields.as_slice()),
-        Form::Enum { repr, constants: own } => {
-            own.len() > 0 && constants || is_marked(marks, *repr)
-        }
+        Form::Enum {
+            repr,
+            constants: own,
+        } => { own.len() > 0 && constants || is_marked(marks, *repr) }
     }
 }
 

@@ -2,7 +2,10 @@ ghost use Rattle.std.specs.Prelude.{◌≡◌, ℕ, List, IfOk, map};
 ghost use Rattle.fp_tables.specs.Names.{texts_differ, numbers_differ};
 
 use fp_base::{NoMemory, Row, Text};
-use fp_tables::{Channel, Command, Constant, Event, Field, Formal, Instance, Named, Param, Port, Running, TypeDef, all_differ, numbers_differ};
+use fp_tables::{
+    Channel, Command, Constant, Event, Field, Formal, Instance, Named, Param, Port, Running,
+    TypeDef, all_differ, numbers_differ,
+};
 use std::alloc::Global;
 
 /// What has a name.

@@ -11,7 +11,9 @@ ghost use Rattle.fp_tables.specs.declared.component.Event.{Event};
 use crate::names::Called;
 use crate::naming::{formals_have_names, is_name, is_qualified};
 use fp_base::{Row, Text};
-use fp_tables::{Command, Component, Event, Form, Machine, Model, Port, PortDef, Topology, TypeDef, Vertex};
+use fp_tables::{
+    Command, Component, Event, Form, Machine, Model, Port, PortDef, Topology, TypeDef, Vertex,
+};
 
 impl Called for PortDef {
     ghost name_of = { λ called. called.name };

@@ -5,9 +5,9 @@
 mod acting;
 pub mod choosing;
 pub mod joined;
-pub mod queued;
 #[cfg(test)]
 mod program_tests;
+pub mod queued;
 #[cfg(test)]
 mod tests;
 pub mod wide;

@@ -75,11 +75,7 @@ fn tables_of(alloc: Global, responses: Responses) -> Result<Option<Tables>, NoMe
     }
 }
 
-fn is_sound_with(
-    alloc: Global,
-    responses: Responses,
-    program: &Program,
-) -> Result<bool, NoMemory> {
+fn is_sound_with(alloc: Global, responses: Responses, program: &Program) -> Result<bool, NoMemory> {
     match tables_of(alloc, responses)? {
         Some(tables) => program.is_sound(alloc, &tables),
         None => Ok(false),
@@ -140,7 +136,11 @@ fn responses_have_number_0(rt: HostRuntime) -> Result<(), Fail> {
             number: wired,
         };
         assert!(rt; acting(alloc, responses)?.is_sound(alloc, Some(0))?);
-        let program = handled(alloc, command, &[(Verb::Respond, RESP, number, 0, Nothing, "OK")])?;
+        let program = handled(
+            alloc,
+            command,
+            &[(Verb::Respond, RESP, number, 0, Nothing, "OK")],
+        )?;
         assert_eq!(rt; is_sound_with(alloc, responses, &program)?, sound);
     }
     Ok(())

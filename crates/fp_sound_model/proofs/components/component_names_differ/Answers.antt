@@ -1,5 +1,5 @@
 use Rattle.std.proofs.Common.{refl}
-use Rattle.fp_sound_model.proofs.components.names_differ.Goals as goal
+use Rattle.fp_sound_model.proofs.components.component_names_differ.Goals as goal
 
 pub returns : goal.returns
 returns c =
