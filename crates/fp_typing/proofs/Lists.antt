@@ -1,0 +1,58 @@
+-- What holds of all items of a list.
+use Rattle.std.proofs.Common.{◌≡◌, ℕ, zero, suc, Bool, true, false, cond, ◌==◌, List, [], ◌∷◌, ◌++◌, get_or, Option, Some, None, option_map, is_some, unwrap_or, find, refl, sym, ap, ◌∙◌, slice_get, arith}
+use Rattle.std.specs.List.{list_all}
+use Rattle.std.proofs.lemmas.Bool.Decides.{nat_tests}
+use Rattle.fp_base.proofs.Bools.{both, join}
+use Rattle.fp_tables.specs.Lists.{some_and}
+use Rattle.fp_events.specs.Machine.{is_in}
+
+-- what holds of each item at its place holds of all
+pub all_of_each : {X : Type 0} (p : X → Bool) (xs : List X) → ((before rest : List X) (x : X) → xs ≡ before ++ x ∷ rest → p x ≡ true) → list_all p xs ≡ true
+all_of_each p [] h = refl
+all_of_each {X} p (x ∷ xs) h =
+    join (p x) (list_all p xs) (h [] xs x refl)
+    (all_of_each p xs (λ before rest y is. h (x ∷ before) rest y (ap (λ (l : List X). x ∷ l) is)))
+
+pub find_passes : {X : Type 0} (p q : X → Bool) (xs : List X) (x : X) → list_all q xs ≡ true → find p xs ≡ Some x → (p x ≡ true) × (q x ≡ true)
+find_passes p q [] x h e = absurd (cc)
+find_passes {X} p q (y ∷ xs) x h e = go (p y) refl e (λ found. find_passes p q xs x (both (q y) (list_all q xs) h).1 found)
+  where
+    go : (b : Bool) → p y ≡ b → cond b (Some y) (find p xs) ≡ Some x → (find p xs ≡ Some x → (p x ≡ true) × (q x ≡ true)) → (p x ≡ true) × (q x ≡ true)
+    go true is found rest = let s : y ≡ x = cc in (ap p (sym s) ∙ is, ap q (sym s) ∙ (both (q y) (list_all q xs) h).0)
+    go false is found rest = rest found
+
+pub slice_get-get_or : {X : Type 0} (xs : List X) (k : ℕ) (x : X) → slice_get xs k ≡ Some x → get_or xs k x ≡ x
+slice_get-get_or [] k x h = absurd (cc)
+slice_get-get_or (y ∷ xs) zero x h = cc
+slice_get-get_or (y ∷ xs) (suc k) x h = slice_get-get_or xs k x h
+
+pub all_in : (p : ℕ → Bool) (k : ℕ) (xs : List ℕ) → list_all p xs ≡ true → is_in k xs ≡ true → p k ≡ true
+all_in p k [] h e = absurd (cc)
+all_in p k (x ∷ xs) h e = go (k == x) refl e (λ found. all_in p k xs (both (p x) (list_all p xs) h).1 found)
+  where
+    go : (b : Bool) → (k == x) ≡ b → cond b true (is_in k xs) ≡ true → (is_in k xs ≡ true → p k ≡ true) → p k ≡ true
+    go true is found rest = let s : k ≡ x = grind (arith, nat_tests) in ap p s ∙ (both (p x) (list_all p xs) h).0
+    go false is found rest = rest found
+
+-- what is some
+pub some_and_of : {X : Type 0} (p : X → Bool) (o : Option X) → some_and p o ≡ true → (x : X) × (o ≡ Some x) × (p x ≡ true)
+some_and_of p None h = absurd (cc)
+some_and_of p (Some x) h = (x, refl, h)
+
+pub all_implied : {X : Type 0} (p q : X → Bool) (xs : List X) → ((x : X) → p x ≡ true → q x ≡ true) → list_all p xs ≡ true → list_all q xs ≡ true
+all_implied p q [] f h = refl
+all_implied p q (x ∷ xs) f h =
+    let b = both (p x) (list_all p xs) h in
+    join (q x) (list_all q xs) (f x b.0) (all_implied p q xs f b.1)
+
+-- a test of what there is
+pub mapped_test : {X : Type 0} (p : X → Bool) (o : Option X) → unwrap_or (option_map p o) false ≡ some_and p o
+mapped_test p None = refl
+mapped_test p (Some x) = refl
+
+pub some_mapped : {X Y : Type 0} (f : X → Y) (o : Option X) → is_some (option_map f o) ≡ is_some o
+some_mapped f None = refl
+some_mapped f (Some x) = refl
+
+pub some_and_at : {X : Type 0} (p : X → Bool) (o : Option X) (x : X) → o ≡ Some x → p x ≡ true → some_and p o ≡ true
+some_and_at p o x e h = ap (some_and p) e ∙ h
