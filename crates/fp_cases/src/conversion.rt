@@ -2,6 +2,7 @@ use crate::cases::Case;
 use crate::types::{kind_named, model, value_of};
 use crate::words::printed;
 use fp_base::{NoMemory, Stop, Text, Value};
+use fp_sound_model::SoundModel;
 use fp_tables::{Kind, Model};
 use fp_types::{Unfit, convert};
 use std::alloc::Global;
