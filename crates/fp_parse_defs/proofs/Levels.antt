@@ -56,50 +56,50 @@ kept (suc depth) =
     kept_of (suc depth) (nested_good (good_of (inside depth) refl (assumption (each_kind, f, e)))) f k.terms
 
 pub factor_fits : (depth : ℕ) → Fits kind (factor_body (level depth).nested)
-factor_fits depth = let n = (kept depth).nest in record { ll1 = refl; some = refl; refs = assumption (each_kind, n) }
+factor_fits depth = let n = (kept depth).nest in record { predictive = refl; some = refl; refs = assumption (each_kind, n) }
 
 pub term_fits : (depth : ℕ) → Fits kind (term_body depth (level depth))
-term_fits depth = let k = kept depth in let f = k.factors in let g = k.low_factor in record { ll1 = refl; some = refl; refs = assumption (each_kind, f, g) }
+term_fits depth = let k = kept depth in let f = k.factors in let g = k.low_factor in record { predictive = refl; some = refl; refs = assumption (each_kind, f, g) }
 
 pub expr_fits : (depth : ℕ) → Fits kind (expr_body depth (level depth))
-expr_fits depth = let k = kept depth in let t = k.terms in let g = k.low_term in record { ll1 = refl; some = refl; refs = assumption (each_kind, t, g) }
+expr_fits depth = let k = kept depth in let t = k.terms in let g = k.low_term in record { predictive = refl; some = refl; refs = assumption (each_kind, t, g) }
 
 -- an operator and its right operand
 pub product_fits : (depth : ℕ) → 0 < depth → Fits kind (seq times_over (operand_of depth (level depth).factor (k_dot ∷ [])))
-product_fits depth p = let g = (kept depth).low_factor in record { ll1 = refl; some = left_some depth p; refs = assumption (each_kind, g) }
+product_fits depth p = let g = (kept depth).low_factor in record { predictive = refl; some = left_some depth p; refs = assumption (each_kind, g) }
 
 pub sum_fits : (depth : ℕ) → 0 < depth → Fits kind (seq plus_minus (operand_of depth (level depth).term (k_dot ∷ k_times ∷ k_over ∷ [])))
-sum_fits depth p = let g = (kept depth).low_term in record { ll1 = refl; some = left_some depth p; refs = assumption (each_kind, g) }
+sum_fits depth p = let g = (kept depth).low_term in record { predictive = refl; some = left_some depth p; refs = assumption (each_kind, g) }
 
 pub negated_fits : (depth : ℕ) → Fits kind (negated depth)
-negated_fits depth = let f = (kept depth).factors in record { ll1 = refl; some = refl; refs = assumption (each_kind, f) }
+negated_fits depth = let f = (kept depth).factors in record { predictive = refl; some = refl; refs = assumption (each_kind, f) }
 
 pub group_fits : (depth : ℕ) → Fits kind (group depth)
-group_fits depth = let e = (kept depth).exprs in record { ll1 = refl; some = refl; refs = assumption (each_kind, e) }
+group_fits depth = let e = (kept depth).exprs in record { predictive = refl; some = refl; refs = assumption (each_kind, e) }
 
 pub noted_expr_fits : (depth : ℕ) → Fits kind (noted (expr depth))
-noted_expr_fits depth = let e = (kept depth).exprs in record { ll1 = refl; some = refl; refs = assumption (each_kind, e) }
+noted_expr_fits depth = let e = (kept depth).exprs in record { predictive = refl; some = refl; refs = assumption (each_kind, e) }
 
 pub items_fits : (depth : ℕ) → Fits kind (items depth)
-items_fits depth = let e = (kept depth).exprs in record { ll1 = refl; some = refl; refs = assumption (each_kind, e) }
+items_fits depth = let e = (kept depth).exprs in record { predictive = refl; some = refl; refs = assumption (each_kind, e) }
 
 pub array_fits : (depth : ℕ) → Fits kind (array depth)
-array_fits depth = let e = (kept depth).exprs in record { ll1 = refl; some = refl; refs = assumption (each_kind, e) }
+array_fits depth = let e = (kept depth).exprs in record { predictive = refl; some = refl; refs = assumption (each_kind, e) }
 
 pub setting_fits : (depth : ℕ) → Fits kind (setting depth)
-setting_fits depth = let e = (kept depth).exprs in record { ll1 = refl; some = refl; refs = assumption (each_kind, e) }
+setting_fits depth = let e = (kept depth).exprs in record { predictive = refl; some = refl; refs = assumption (each_kind, e) }
 
 pub noted_setting_fits : (depth : ℕ) → Fits kind (noted (setting depth))
-noted_setting_fits depth = let e = (kept depth).exprs in record { ll1 = refl; some = refl; refs = assumption (each_kind, e) }
+noted_setting_fits depth = let e = (kept depth).exprs in record { predictive = refl; some = refl; refs = assumption (each_kind, e) }
 
 pub some_members_fits : (depth : ℕ) → Fits kind (some_members depth)
-some_members_fits depth = let e = (kept depth).exprs in record { ll1 = refl; some = refl; refs = assumption (each_kind, e) }
+some_members_fits depth = let e = (kept depth).exprs in record { predictive = refl; some = refl; refs = assumption (each_kind, e) }
 
 pub structure_fits : (depth : ℕ) → Fits kind (structure depth)
-structure_fits depth = let e = (kept depth).exprs in record { ll1 = refl; some = refl; refs = assumption (each_kind, e) }
+structure_fits depth = let e = (kept depth).exprs in record { predictive = refl; some = refl; refs = assumption (each_kind, e) }
 
 pub inside_fits : (depth : ℕ) → Fits kind (inside depth)
-inside_fits depth = let k = kept depth in let f = k.factors in let e = k.exprs in record { ll1 = refl; some = refl; refs = assumption (each_kind, f, e) }
+inside_fits depth = let k = kept depth in let f = k.factors in let e = k.exprs in record { predictive = refl; some = refl; refs = assumption (each_kind, f, e) }
 
 -- no depth is left: nothing nests
 pub nested_closed : (depth : ℕ) (tokens : List Token) (from : ℕ) → depth ≡ 0 → Refuses kind (nested depth) tokens from from

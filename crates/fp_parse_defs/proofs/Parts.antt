@@ -19,7 +19,7 @@ pub absent_seq : {A B : Type 0} {a : Grammar Token A} {b : Grammar Token B} {tok
 absent_seq n = record { nothing = λ z y agrees s. n.nothing s.0 y.0 (λ t r e. agrees t (r ++ s.1) (s.2 ∙ ap (λ l. l ++ s.1) e)) s.3 }
 
 separator_fits : Fits kind (seq (one_of commas) after_lines)
-separator_fits = record { ll1 = refl; some = refl; refs = (each_kind, each_kind) }
+separator_fits = record { predictive = refl; some = refl; refs = (each_kind, each_kind) }
 
 -- a comma, and the annotations behind it
 pub separator_accepts : {X : Type 0} {tokens : List Token} {mid to : ℕ} {lines : List (List ℕ)} → NextAmong kind commas tokens mid → Accepts kind after_lines tokens (mid + 1) lines to → Accepts kind (separated_by {X = X} commas) tokens mid (separator lines) to

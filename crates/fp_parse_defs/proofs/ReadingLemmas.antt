@@ -25,7 +25,7 @@ use Rattle.fp_parse_defs.proofs.WordsFit.{each_kind}
 use Rattle.fp_parse_defs.proofs.Levels.{kept}
 
 pub expression_fits : (depth : ℕ) → Fits kind (expression depth)
-expression_fits depth = let e = (kept depth).exprs in record { ll1 = refl; some = refl; refs = assumption (each_kind, e) }
+expression_fits depth = let e = (kept depth).exprs in record { predictive = refl; some = refl; refs = assumption (each_kind, e) }
 
 pub read_some : (depth : ℕ) (tokens : List Token) (from : ℕ) (m : Measured) (to : ℕ) → Accepts kind (expr depth) tokens from m to → Reads (expression depth) tokens from (Some m.expr) to
 read_some depth tokens from m to p =

@@ -48,17 +48,17 @@ pub each_kind : HasEachKind kind
 each_kind = record { example = λ k. let w = word_of k in (record { what = w.0; at = somewhere }, w.1) }
 
 pub before_lines_fits : Fits kind L.before_lines
-before_lines_fits = record { ll1 = refl; some = refl; refs = assumption each_kind }
+before_lines_fits = record { predictive = refl; some = refl; refs = assumption each_kind }
 
 pub after_lines_fits : Fits kind L.after_lines
-after_lines_fits = record { ll1 = refl; some = refl; refs = assumption each_kind }
+after_lines_fits = record { predictive = refl; some = refl; refs = assumption each_kind }
 
 pub qual_fits : Fits kind W.qual
-qual_fits = record { ll1 = refl; some = refl; refs = assumption each_kind }
+qual_fits = record { predictive = refl; some = refl; refs = assumption each_kind }
 
 -- a name behind a dot
 pub dotted_fits : Fits kind (seq (token k_dot) W.name)
-dotted_fits = record { ll1 = refl; some = refl; refs = assumption each_kind }
+dotted_fits = record { predictive = refl; some = refl; refs = assumption each_kind }
 
 -- what was built, said otherwise
 pub building_as : {X Y : Type 0} {a : Grammar Token X} {b : Grammar Token Y} {allows : X → Bool} {build : X → Y → X} {tokens : List Token} {from mid : ℕ} {sum sum' : X} → sum ≡ sum' → Building kind a b allows build tokens from sum mid → Building kind a b allows build tokens from sum' mid

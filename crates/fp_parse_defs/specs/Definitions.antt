@@ -2,6 +2,7 @@
 -- annotation but at elements of lists; `type` begins an abstract type or an alias, which what follows the name tells apart.
 use Rattle.std.specs.Prelude.{ℕ, Bool, true, false, is_some, ◌==◌, cond, Option, Some, None, List, [], ◌∷◌, ◌++◌}
 use Rattle.fp_base.specs.declared.place.Span.{Span}
+use Rattle.fp_lexer.specs.Words.{reserved, mark}
 use Rattle.fp_lexer.specs.declared.token.Word.{Word}
 use Rattle.fp_lexer.specs.declared.token.Word.TheVariants as word
 use Rattle.fp_lexer.specs.declared.token.Token.{Token}
@@ -27,68 +28,68 @@ use Rattle.fp_parse_defs.specs.Language.{expression}
 
 -- the marks -> and :
 abbrev pub k_arrow : ℕ
-k_arrow = k_mark 10
+k_arrow = k_mark (mark "->")
 
 abbrev pub k_colon : ℕ
-k_colon = k_mark 13
+k_colon = k_mark (mark ":")
 
 -- the reserved words of definitions
 abbrev pub k_array : ℕ
-k_array = k_reserved 4
+k_array = k_reserved (reserved "array")
 
 abbrev pub k_constant : ℕ
-k_constant = k_reserved 16
+k_constant = k_reserved (reserved "constant")
 
 abbrev pub k_default : ℕ
-k_default = k_reserved 19
+k_default = k_reserved (reserved "default")
 
 abbrev pub k_enum : ℕ
-k_enum = k_reserved 27
+k_enum = k_reserved (reserved "enum")
 
 abbrev pub k_format : ℕ
-k_format = k_reserved 36
+k_format = k_reserved (reserved "format")
 
 abbrev pub k_port : ℕ
-k_port = k_reserved 72
+k_port = k_reserved (reserved "port")
 
 abbrev pub k_ref : ℕ
-k_ref = k_reserved 81
+k_ref = k_reserved (reserved "ref")
 
 abbrev pub k_size : ℕ
-k_size = k_reserved 91
+k_size = k_reserved (reserved "size")
 
 abbrev pub k_string_word : ℕ
-k_string_word = k_reserved 94
+k_string_word = k_reserved (reserved "string")
 
 abbrev pub k_struct : ℕ
-k_struct = k_reserved 95
+k_struct = k_reserved (reserved "struct")
 
 abbrev pub k_type : ℕ
-k_type = k_reserved 103
+k_type = k_reserved (reserved "type")
 
 -- 'U8' | 'U16' | 'U32' | 'U64'
 abbrev pub unsigned_form : Word → TypeForm
-unsigned_form (word.Reserved r) = cond (r == 107) type.U8 (cond (r == 104) type.U16 (cond (r == 105) type.U32 type.U64))
+unsigned_form (word.Reserved r) = cond (r == reserved "U8") type.U8 (cond (r == reserved "U16") type.U16 (cond (r == reserved "U32") type.U32 type.U64))
 unsigned_form _ = type.U64
 
 -- 'I8' | 'I16' | 'I32' | 'I64'
 abbrev pub signed_form : Word → TypeForm
-signed_form (word.Reserved r) = cond (r == 47) type.I8 (cond (r == 44) type.I16 (cond (r == 45) type.I32 type.I64))
+signed_form (word.Reserved r) = cond (r == reserved "I8") type.I8 (cond (r == reserved "I16") type.I16 (cond (r == reserved "I32") type.I32 type.I64))
 signed_form _ = type.I64
 
 -- 'F32' | 'F64' | 'bool'
 abbrev pub other_form : Word → TypeForm
-other_form (word.Reserved r) = cond (r == 32) type.F32 (cond (r == 33) type.F64 type.Bool)
+other_form (word.Reserved r) = cond (r == reserved "F32") type.F32 (cond (r == reserved "F64") type.F64 type.Bool)
 other_form _ = type.Bool
 
 abbrev pub unsigned : Grammar Token TypeName
-unsigned = map (λ t. record { form = unsigned_form t.what; at = t.at }) (one_of (k_reserved 107 ∷ k_reserved 104 ∷ k_reserved 105 ∷ k_reserved 106 ∷ []))
+unsigned = map (λ t. record { form = unsigned_form t.what; at = t.at }) (one_of (k_reserved (reserved "U8") ∷ k_reserved (reserved "U16") ∷ k_reserved (reserved "U32") ∷ k_reserved (reserved "U64") ∷ []))
 
 abbrev pub signed : Grammar Token TypeName
-signed = map (λ t. record { form = signed_form t.what; at = t.at }) (one_of (k_reserved 47 ∷ k_reserved 44 ∷ k_reserved 45 ∷ k_reserved 46 ∷ []))
+signed = map (λ t. record { form = signed_form t.what; at = t.at }) (one_of (k_reserved (reserved "I8") ∷ k_reserved (reserved "I16") ∷ k_reserved (reserved "I32") ∷ k_reserved (reserved "I64") ∷ []))
 
 abbrev pub other : Grammar Token TypeName
-other = map (λ t. record { form = other_form t.what; at = t.at }) (one_of (k_reserved 32 ∷ k_reserved 33 ∷ k_reserved 10 ∷ []))
+other = map (λ t. record { form = other_form t.what; at = t.at }) (one_of (k_reserved (reserved "F32") ∷ k_reserved (reserved "F64") ∷ k_reserved (reserved "bool") ∷ []))
 
 abbrev pub signed_or_other : Grammar Token TypeName
 signed_or_other = alt signed other
@@ -119,7 +120,7 @@ type_or span (Some t) = t.at
 
 -- what begins a type's name
 abbrev pub type_begins : List ℕ
-type_begins = k_string_word ∷ k_name ∷ k_reserved 107 ∷ k_reserved 104 ∷ k_reserved 105 ∷ k_reserved 106 ∷ k_reserved 47 ∷ k_reserved 44 ∷ k_reserved 45 ∷ k_reserved 46 ∷ k_reserved 32 ∷ k_reserved 33 ∷ k_reserved 10 ∷ []
+type_begins = k_string_word ∷ k_name ∷ k_reserved (reserved "U8") ∷ k_reserved (reserved "U16") ∷ k_reserved (reserved "U32") ∷ k_reserved (reserved "U64") ∷ k_reserved (reserved "I8") ∷ k_reserved (reserved "I16") ∷ k_reserved (reserved "I32") ∷ k_reserved (reserved "I64") ∷ k_reserved (reserved "F32") ∷ k_reserved (reserved "F64") ∷ k_reserved (reserved "bool") ∷ []
 
 -- what an expression goes on with
 abbrev pub expr_goes_on : List ℕ

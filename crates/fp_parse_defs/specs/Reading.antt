@@ -6,6 +6,7 @@ use Rattle.fp_base.specs.declared.refusal.Stop.{Stop}
 use Rattle.fp_base.specs.declared.refusal.Stop.TheVariants.{Broken, NoMemory}
 use Rattle.fp_base.specs.declared.rule.Rule.{Rule}
 use Rattle.fp_base.specs.declared.rule.Rule.TheVariants.{UnexpectedToken, NestingTooDeep, FormLeftOut}
+use Rattle.fp_lexer.specs.Words.{reserved}
 use Rattle.fp_lexer.specs.declared.token.Word.{Word}
 use Rattle.fp_lexer.specs.declared.token.Word.TheVariants as word
 use Rattle.fp_lexer.specs.declared.token.Token.{Token}
@@ -22,10 +23,9 @@ abbrev pub BeginsAt : List Token → List Token → Place → Type 0
 BeginsAt before (t ∷ rest) place = place ≡ t.at.first
 BeginsAt before [] place = (front : List Token) × (t : Token) × (before ≡ front ++ t ∷ []) × (place ≡ t.at.past)
 
--- one of `container dictionary every external import interface packets product record serial`, by their places in the table of
--- reserved words
+-- a word that begins a form of the language which is left out, wherever it stands
 abbrev pub left_out : Word → Bool
-left_out (word.Reserved r) = r == 17 || (r == 21 || (r == 29 || (r == 31 || (r == 50 || (r == 55 || (r == 68 || (r == 75 || (r == 78 || r == 87))))))))
+left_out (word.Reserved r) = r == reserved "container" || (r == reserved "dictionary" || (r == reserved "every" || (r == reserved "external" || (r == reserved "import" || (r == reserved "interface" || (r == reserved "packets" || (r == reserved "product" || (r == reserved "record" || r == reserved "serial"))))))))
 left_out _ = false
 
 -- the rule that a token breaks which can't stand where it stands: it begins a form of the language that is left out, or not

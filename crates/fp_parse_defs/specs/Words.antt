@@ -1,6 +1,7 @@
 -- What single tokens spell: names, literals, operators and the places of marks.
 use Rattle.std.specs.Prelude.{ℕ, List, [], ◌∷◌, ◌++◌, true, cond, ◌==◌}
 use Rattle.fp_base.specs.declared.place.Span.{Span}
+use Rattle.fp_lexer.specs.Words.{reserved, mark}
 use Rattle.fp_lexer.specs.declared.token.Word.{Word}
 use Rattle.fp_lexer.specs.declared.token.Word.TheVariants as word
 use Rattle.fp_lexer.specs.declared.token.Token.{Token}
@@ -55,7 +56,7 @@ leaf f at = record { expr = bare f at; height = 0 }
 abbrev pub literal_form : Word → Form
 literal_form (word.Number value) = form.Number value
 literal_form (word.Str text) = form.Text text
-literal_form (word.Reserved r) = form.Truth (r == 102)
+literal_form (word.Reserved r) = form.Truth (r == reserved "true")
 literal_form _ = form.Float
 
 abbrev pub literal : Grammar Token Measured
@@ -66,7 +67,7 @@ named = map (λ q. leaf (form.Use q) q.at) qual
 
 -- '+' | '-'
 abbrev pub sum_operator : Word → Operator
-sum_operator (word.Mark m) = cond (m == 8) operator.Add operator.Subtract
+sum_operator (word.Mark m) = cond (m == mark "+") operator.Add operator.Subtract
 sum_operator _ = operator.Subtract
 
 abbrev pub plus_minus : Grammar Token Operator
@@ -74,7 +75,7 @@ plus_minus = map (λ t. sum_operator t.what) (one_of (k_plus ∷ k_minus ∷ [])
 
 -- '*' | '/'
 abbrev pub product_operator : Word → Operator
-product_operator (word.Mark m) = cond (m == 6) operator.Multiply operator.Divide
+product_operator (word.Mark m) = cond (m == mark "*") operator.Multiply operator.Divide
 product_operator _ = operator.Divide
 
 abbrev pub times_over : Grammar Token Operator

@@ -8,30 +8,17 @@ use crate::elements::{enum_consts, fields, formal_list};
 use crate::type_names::{
     default_part, format_part, repr_part, result_part, sized, target_part, type_name, value,
 };
-use crate::words::{
-    CLOSE, CLOSE_BRACE, EQUALS, OPEN, OPEN_BRACE, OPEN_BRACKET, expect_mark, expect_name,
-    expect_word, mark_at, skip_mark, word_at,
-};
+use crate::words::{expect_mark, expect_name, expect_word, mark_at, skip_mark, word_at};
 use fp_base::{Boxed, NoMemory, Row, Span, Text};
 use fp_grammar::Halt;
 use fp_lexer::Token;
+use fp_lexer::mark::{CLOSE, CLOSE_BRACE, EQUALS, OPEN, OPEN_BRACE, OPEN_BRACKET};
+use fp_lexer::reserved::{ARRAY, CONSTANT, ENUM, PORT, STRUCT, TYPE};
 use fp_tree::{
     Abstract, Alias, Array, Constant, Def, Enum, EnumConst, Expr, Field, Formal, Name, Port, Str,
     Struct, TypeName,
 };
 use std::alloc::Global;
-
-const ARRAY: u8 = 4;
-
-const CONSTANT: u8 = 16;
-
-const ENUM: u8 = 27;
-
-const PORT: u8 = 72;
-
-const STRUCT: u8 = 95;
-
-const TYPE: u8 = 103;
 
 fn constant_of(alloc: Global, word: Span, name: Name, value: Expr) -> Def
     ensures { result ≡ D.made_constant (word, (name, value)) }

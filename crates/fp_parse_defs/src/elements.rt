@@ -7,15 +7,15 @@ ghost use Rattle.fp_parse_defs.specs.Language;
 ghost use Rattle.fp_parse_defs.specs.Definitions as D;
 
 use crate::notes::{after_lines, appended, before_lines, join};
-use crate::type_names::{COLON, format_part, size_part, type_name, value_part};
+use crate::type_names::{format_part, size_part, type_name, value_part};
 use crate::words::{comma_at, expect_name, skip_mark, span_at};
 use fp_base::{NoMemory, Row, Span, Text};
 use fp_grammar::Halt;
 use fp_lexer::Token;
+use fp_lexer::mark::COLON;
+use fp_lexer::reserved::REF;
 use fp_tree::{EnumConst, Expr, Field, Formal, Name, Str, TypeName};
 use std::alloc::Global;
-
-const REF: u8 = 81;
 
 fn field_of(
     alloc: Global,

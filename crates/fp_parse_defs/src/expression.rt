@@ -10,13 +10,15 @@ use crate::build::{
 use crate::measured::{Items, Measured, Members, Setting};
 use crate::notes::{after_lines, appended, before_lines};
 use crate::words::{
-    CLOSE, CLOSE_BRACE, CLOSE_BRACKET, EQUALS, MINUS, OPEN, OPEN_BRACE, OPEN_BRACKET, comma_at,
-    expect_mark, expect_name, literal, mark_at, name_at, named, nested_at, plus_minus_at,
+    comma_at, expect_mark, expect_name, literal, mark_at, name_at, named, nested_at, plus_minus_at,
     times_over_at,
 };
 use fp_base::{Row, Text};
 use fp_grammar::Halt;
 use fp_lexer::Token;
+use fp_lexer::mark::{
+    CLOSE, CLOSE_BRACE, CLOSE_BRACKET, EQUALS, MINUS, OPEN, OPEN_BRACE, OPEN_BRACKET,
+};
 use std::alloc::Global;
 
 /// Reads an expression, with this much depth left.

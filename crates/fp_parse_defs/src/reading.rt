@@ -13,6 +13,9 @@ use crate::expression::expression;
 use crate::measured::Measured;
 use fp_base::{NoMemory, Refusal, Row, Rule, Stop};
 use fp_grammar::Halt;
+use fp_lexer::reserved::{
+    CONTAINER, DICTIONARY, EVERY, EXTERNAL, IMPORT, INTERFACE, PACKETS, PRODUCT, RECORD, SERIAL,
+};
 use fp_lexer::{Token, Word};
 use fp_tree::{Def, Expr};
 use std::alloc::Global;
@@ -105,13 +108,23 @@ fn read_definition(
     }
 }
 
-fn is_left_out(word: &Word) -> bool
+/// Whether a word begins a form of the language that is left out, wherever it stands.
+pub fn is_left_out(word: &Word) -> bool
     ensures { result ≡ left_out word.now }
 {
     match word {
         Word::Reserved(reserved) => matches!(
             *reserved,
-            17 | 21 | 29 | 31 | 50 | 55 | 68 | 75 | 78 | 87
+            CONTAINER
+                | DICTIONARY
+                | EVERY
+                | EXTERNAL
+                | IMPORT
+                | INTERFACE
+                | PACKETS
+                | PRODUCT
+                | RECORD
+                | SERIAL
         ),
         _ => false,
     }

@@ -8,49 +8,16 @@ ghost use Rattle.fp_parse_defs.specs.Definitions as D;
 
 use crate::expression::expression;
 use crate::measured::Measured;
-use crate::words::{
-    CLOSE_BRACKET, EQUALS, OPEN_BRACKET, expect_word, mark_at, qualified_name, skip_mark, word_at,
-};
+use crate::words::{expect_word, mark_at, qualified_name, skip_mark, word_at};
 use fp_base::Span;
 use fp_grammar::Halt;
+use fp_lexer::mark::{ARROW, CLOSE_BRACKET, COLON, EQUALS, OPEN_BRACKET};
+use fp_lexer::reserved::{
+    BOOL, DEFAULT, F32, F64, FORMAT, I8, I16, I32, I64, SIZE, STRING, U8, U16, U32, U64,
+};
 use fp_lexer::{Token, Word};
 use fp_tree::{Expr, Str, TypeForm, TypeName};
 use std::alloc::Global;
-
-// Places in the lexer's tables of reserved words and of marks.
-const BOOL: u8 = 10;
-
-const F32: u8 = 32;
-
-const F64: u8 = 33;
-
-const I16: u8 = 44;
-
-const I32: u8 = 45;
-
-const I64: u8 = 46;
-
-const I8: u8 = 47;
-
-const U16: u8 = 104;
-
-const U32: u8 = 105;
-
-const U64: u8 = 106;
-
-const U8: u8 = 107;
-
-pub const DEFAULT: u8 = 19;
-
-pub const FORMAT: u8 = 36;
-
-pub const SIZE: u8 = 91;
-
-pub const STRING: u8 = 94;
-
-pub const ARROW: u8 = 10;
-
-pub const COLON: u8 = 13;
 
 pub fn value(
     alloc: Global,

@@ -8,40 +8,11 @@ use crate::build::bare;
 use crate::measured::Measured;
 use fp_base::{NoMemory, Row, Span};
 use fp_grammar::Halt;
+use fp_lexer::mark::{COMMA, DOT, MINUS, OPEN, OPEN_BRACE, OPEN_BRACKET, OVER, PLUS, TIMES};
+use fp_lexer::reserved::{FALSE, TRUE};
 use fp_lexer::{Token, Word};
 use fp_tree::{Form, Name, Operator, Qual};
 use std::alloc::Global;
-
-// Places in the lexer's tables of marks and of reserved words.
-pub const OPEN: u8 = 0;
-
-pub const CLOSE: u8 = 1;
-
-pub const OPEN_BRACKET: u8 = 2;
-
-pub const CLOSE_BRACKET: u8 = 3;
-
-pub const OPEN_BRACE: u8 = 4;
-
-pub const CLOSE_BRACE: u8 = 5;
-
-const TIMES: u8 = 6;
-
-const OVER: u8 = 7;
-
-const PLUS: u8 = 8;
-
-pub const MINUS: u8 = 9;
-
-const COMMA: u8 = 11;
-
-pub const DOT: u8 = 12;
-
-pub const EQUALS: u8 = 15;
-
-const FALSE: u8 = 34;
-
-const TRUE: u8 = 102;
 
 fn is_mark(word: &Word, mark: u8) -> bool
     ensures { MatchBool result (word_kind word.now ≡ k_mark mark) (word_kind word.now ≡ k_mark mark → ⊥) }

@@ -5,4 +5,4 @@ use Rattle.fp_parse_defs.proofs.DefinitionsFit.{definition_fits}
 use Rattle.fp_parse_defs.proofs.reading.one_def.Goals as goal
 
 pub returns : goal.returns
-returns c = (good_of (D.definition limit) (definition_fits limit).ll1 (definition_fits limit).refs).unique
+returns c = (good_of (D.definition limit) (definition_fits limit).predictive (definition_fits limit).refs).unique

@@ -5,4 +5,4 @@ use Rattle.fp_parse_defs.proofs.ReadingLemmas.{expression_fits}
 use Rattle.fp_parse_defs.proofs.reading.one_expr.Goals as goal
 
 pub returns : goal.returns
-returns c = (good_of (Language.expression limit) (expression_fits limit).ll1 (expression_fits limit).refs).unique
+returns c = (good_of (Language.expression limit) (expression_fits limit).predictive (expression_fits limit).refs).unique
