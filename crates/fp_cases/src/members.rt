@@ -1,6 +1,6 @@
 use crate::definitions::add_definition;
 use crate::tree::Tree;
-use crate::words::push_span;
+use crate::words::{push_line, push_span};
 use fp_base::{NoMemory, Span, Text};
 use fp_tree::{Def, Member};
 use std::alloc::Global;
@@ -25,9 +25,7 @@ fn add_line(
     tree: &Tree,
     out: &mut Text,
 ) -> Result<(), NoMemory> {
-    if out.len() > 0 {
-        out.push_str("\n")?;
-    }
+    push_line(out, "")?;
     for _ in 0..depth {
         out.push_str("  ")?;
     }

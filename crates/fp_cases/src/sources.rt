@@ -1,7 +1,7 @@
 use crate::cases::Case;
 use crate::grammar::parsed_expression;
 use crate::members::add_members;
-use crate::words::{first_broken, lines, printed};
+use crate::words::{first_broken, printed, push_line};
 use fp_base::{NoMemory, Row, Stop, Text, Value};
 use fp_consts::{evaluate, evaluate_all, examine};
 use fp_lexer::lex;
@@ -116,14 +116,12 @@ fn optional(alloc: Global, value: Option<&Value>) -> Result<Text, NoMemory> {
 
 /// The values of its expressions, where they have one.
 pub fn values(alloc: Global, case: &Case) -> Result<Text, Stop> {
-    let marks = marks(alloc, case)?;
-    let mut texts = Vec::new(alloc);
-    for value in marks.at.as_slice() {
-        texts
-            .push(optional(alloc, value.as_ref())?)
-            .map_err(|_| NoMemory)?;
+    let mut out = Text::new(alloc);
+    for value in marks(alloc, case)?.at.as_slice() {
+        let text = optional(alloc, value.as_ref())?;
+        push_line(&mut out, text.as_str())?;
     }
-    Ok(lines(alloc, texts.as_slice())?)
+    Ok(out)
 }
 
 /// How many of its expressions have a value.
@@ -154,12 +152,11 @@ pub fn evaluated_values(alloc: Global, text: &[u8]) -> Result<Values, Stop> {
 
 /// The same as text.
 pub fn evaluated(alloc: Global, case: &Case) -> Result<Text, Stop> {
-    let values = evaluated_values(alloc, case.source())?;
-    let mut texts = Vec::new(alloc);
-    for value in values.at.as_slice() {
-        texts.push(printed(alloc, value)?).map_err(|_| NoMemory)?;
+    let mut out = Text::new(alloc);
+    for value in evaluated_values(alloc, case.source())?.at.as_slice() {
+        push_line(&mut out, printed(alloc, value)?.as_str())?;
     }
-    Ok(lines(alloc, texts.as_slice())?)
+    Ok(out)
 }
 
 /// The value of an expression that uses no name, or what is broken first in it.

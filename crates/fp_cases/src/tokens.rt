@@ -1,4 +1,4 @@
-use crate::words::{push_all, push_span};
+use crate::words::{push_all, push_line, push_span};
 use fp_base::{NoMemory, Stop, Text};
 use fp_lexer::{Token, Word, lex};
 use std::alloc::Global;
@@ -42,9 +42,7 @@ fn push_word(alloc: Global, word: &Word, out: &mut Text) -> Result<(), NoMemory>
 }
 
 fn push_token(alloc: Global, token: &Token, out: &mut Text) -> Result<(), NoMemory> {
-    if out.len() > 0 {
-        out.push_str("\n")?;
-    }
+    push_line(out, "")?;
     push_span(alloc, token.at, out)?;
     out.push_str(" ")?;
     push_word(alloc, &token.what, out)

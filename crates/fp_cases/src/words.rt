@@ -45,14 +45,10 @@ pub fn printed(alloc: Global, value: &Value) -> Result<Text, NoMemory> {
     Ok(text.unwrap_or(Text::new(alloc)))
 }
 
-/// Texts, one a line.
-pub fn lines(alloc: Global, texts: &[Text]) -> Result<Text, NoMemory> {
-    let mut out = Text::new(alloc);
-    for (at, text) in texts.iter().enumerate() {
-        if at > 0 {
-            out.push_str("\n")?;
-        }
-        out.push_str(text.as_str())?;
+/// Adds a line behind those that are there.
+pub fn push_line(out: &mut Text, line: &str) -> Result<(), NoMemory> {
+    if out.len() > 0 {
+        out.push_str("\n")?;
     }
-    Ok(out)
+    out.push_str(line)
 }

@@ -1,0 +1,5 @@
+use Rattle.fp_cases.proofs.Types.{types_of_sound}
+use Rattle.fp_cases.proofs.conversion.converted.Goals as goal
+
+pub convert-requires : goal.convert-requires
+convert-requires c = types_of_sound c.args.model.now (c.in_ok-sound.ensures.0 c.if-sound.true)
