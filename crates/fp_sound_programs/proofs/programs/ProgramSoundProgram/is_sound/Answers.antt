@@ -1,7 +1,7 @@
-use Rattle.std.proofs.Common.{◌∙◌, ap, sym, length}
+use Rattle.std.proofs.Common.{◌∙◌, List, ap, map, sym, length}
 use Rattle.std.specs.List.{list_all}
 use Rattle.fp_tables.specs.Lists.{apart}
-use Rattle.fp_tables.specs.Names.{is_name}
+use Rattle.fp_tables.specs.Names.{is_name, texts_differ}
 use Rattle.fp_tables.specs.Components.{is_from_1_to}
 use Rattle.fp_tables.specs.Programs.{caller_acts_suit, handler_suits, answers_suit}
 use Rattle.fp_tables.specs.SoundPrograms.{same_place, same_guard}
@@ -21,7 +21,7 @@ returns c =
     let answered = (c.all_answers_suit-answered).ensures ∙ ap (list_all (answers_suit t)) answers in
     let places = c.in_ok-places.ensures ∙ ap (apart same_place) handlers in
     let guards = c.in_ok-guards.ensures ∙ ap (apart same_guard) answers in
-    let differ = c.in_ok-differ.ensures in
+    let differ = c.in_ok-differ.ensures ∙ ap (λ (xs : List Caller). texts_differ (map (λ (x : Caller). x.name) xs)) callers in
     let names = (c.callers_have_names-names).ensures ∙ ap (list_all (λ (x : Caller). is_name x.name)) callers in
     let steps = (c.steps_are_in_range-steps).ensures in
     let few_callers = (c.callers_are_few-few_callers).ensures in
