@@ -1,16 +1,16 @@
--- What breaks the grammar of files breaks one rule at one place.
+-- What breaks the grammar of a kind of file breaks one rule at one place.
 use Rattle.std.specs.Prelude.{None}
 use Rattle.std.proofs.Common.{◌≡◌, ℕ, zero, suc, ◌+◌, ◌<◌, ◌≤◌, List, [], ◌∷◌, ◌++◌, ◌⊎◌, length, take, drop, refl, sym, ◌∙◌, ap, subst, inl, inr, arith}
 use Rattle.fp_base.specs.declared.place.Place.{Place}
 use Rattle.fp_base.specs.declared.rule.Rule.{Rule}
 use Rattle.fp_lexer.specs.declared.token.Token.{Token}
-use Rattle.fp_tree.specs.declared.member.Member.{Member}
-use Rattle.fp_grammar.specs.Grammar.{Spells}
+use Rattle.fp_grammar.specs.Grammar.{Grammar}
 use Rattle.fp_grammar.specs.Broken.{IsBroken}
 use Rattle.fp_grammar.proofs.BrokenLemmas.{one_broken, broken_not_spelled}
 use Rattle.fp_parse_defs.specs.Kinds.{kind}
 use Rattle.fp_parse_defs.specs.Reading.{BeginsAt, limit}
-use Rattle.fp_parse_parts.specs.Units.{unit, SpellsUnit, BeginsLeftOut, GoesTooDeep, BrokenRule, BreaksUnit}
+use Rattle.fp_parse_parts.specs.Files.{Probe, SpellsFile, BrokenRule, BreaksFile}
+use Rattle.fp_parse_parts.specs.Units.{unit, SpellsUnit}
 
 -- the empty list spells a file without members
 empty_unit : SpellsUnit [] []
@@ -40,22 +40,23 @@ one_beginning : (before rest : List Token) (place other : Place) → BeginsAt be
 one_beginning before (t ∷ rest) place other e f = e ∙ sym f
 one_beginning before [] place other (f, t, e, i) (g, s, h, j) = i ∙ ap (λ v. v.at.past) (same_last f g t s (sym e ∙ h)) ∙ sym j
 
-one_rule : (before rest : List Token) (rule other : Rule) → BrokenRule before rest rule → BrokenRule before rest other → rule ≡ other
-one_rule before [] rule other e f = e ∙ sym f
-one_rule before (t ∷ rest) rule other (inl (d, e)) (inl (d', f)) = e ∙ sym f
-one_rule before (t ∷ rest) rule other (inl (d, e)) (inr (n, f)) = absurd (n d)
-one_rule before (t ∷ rest) rule other (inr (n, e)) (inl (d, f)) = absurd (n d)
-one_rule before (t ∷ rest) rule other (inr (n, inl (b, e))) (inr (n', inl (b', f))) = e ∙ sym f
-one_rule before (t ∷ rest) rule other (inr (n, inl (b, e))) (inr (n', inr (m, f))) = absurd (m b)
-one_rule before (t ∷ rest) rule other (inr (n, inr (m, e))) (inr (n', inl (b, f))) = absurd (m b)
-one_rule before (t ∷ rest) rule other (inr (n, inr (m, e))) (inr (n', inr (m', f))) = e ∙ sym f
+module _ {X : Type 0} (g : ℕ → Grammar Token X) (probes : List Probe) where
+  one_rule : (before rest : List Token) (rule other : Rule) → BrokenRule g probes before rest rule → BrokenRule g probes before rest other → rule ≡ other
+  one_rule before [] rule other e f = e ∙ sym f
+  one_rule before (t ∷ rest) rule other (inl (d, e)) (inl (d', f)) = e ∙ sym f
+  one_rule before (t ∷ rest) rule other (inl (d, e)) (inr (n, f)) = absurd (n d)
+  one_rule before (t ∷ rest) rule other (inr (n, e)) (inl (d, f)) = absurd (n d)
+  one_rule before (t ∷ rest) rule other (inr (n, inl (b, e))) (inr (n', inl (b', f))) = e ∙ sym f
+  one_rule before (t ∷ rest) rule other (inr (n, inl (b, e))) (inr (n', inr (m, f))) = absurd (m b)
+  one_rule before (t ∷ rest) rule other (inr (n, inr (m, e))) (inr (n', inl (b, f))) = absurd (m b)
+  one_rule before (t ∷ rest) rule other (inr (n, inr (m, e))) (inr (n', inr (m', f))) = e ∙ sym f
 
-pub one_break : (tokens : List Token) (rule other : Rule) (place elsewhere : Place) → BreaksUnit tokens rule place → BreaksUnit tokens other elsewhere → (rule ≡ other) × (place ≡ elsewhere)
-one_break tokens rule other place elsewhere (before, rest, b, p, r) (before', rest', b', p', r') =
-    let e = one_broken b b' in (
-      one_rule before rest rule other r (subst (λ l. BrokenRule l rest other) (sym e.0) (subst (λ l. BrokenRule before' l other) (sym e.1) r')),
-      one_beginning before rest place elsewhere p (subst (λ l. BeginsAt l rest elsewhere) (sym e.0) (subst (λ l. BeginsAt before' l elsewhere) (sym e.1) p')),
-    )
+  pub one_break : (tokens : List Token) (rule other : Rule) (place elsewhere : Place) → BreaksFile g probes tokens rule place → BreaksFile g probes tokens other elsewhere → (rule ≡ other) × (place ≡ elsewhere)
+  one_break tokens rule other place elsewhere (before, rest, b, p, r) (before', rest', b', p', r') =
+      let e = one_broken b b' in (
+        one_rule before rest rule other r (subst (λ l. BrokenRule g probes l rest other) (sym e.0) (subst (λ l. BrokenRule g probes before' l other) (sym e.1) r')),
+        one_beginning before rest place elsewhere p (subst (λ l. BeginsAt l rest elsewhere) (sym e.0) (subst (λ l. BeginsAt before' l elsewhere) (sym e.1) p')),
+      )
 
-pub broken_no_unit : (tokens : List Token) (rule : Rule) (place : Place) (xs : List Member) → BreaksUnit tokens rule place → SpellsUnit tokens xs → ⊥
-broken_no_unit tokens rule place xs (before, rest, b, p, r) s = broken_not_spelled b xs s
+  pub broken_no_file : (tokens : List Token) (rule : Rule) (place : Place) (x : X) → BreaksFile g probes tokens rule place → SpellsFile g tokens x → ⊥
+  broken_no_file tokens rule place x (before, rest, b, p, r) s = broken_not_spelled b x s

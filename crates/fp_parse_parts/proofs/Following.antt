@@ -9,11 +9,11 @@ use Rattle.fp_base.specs.declared.place.Span.{Span}
 use Rattle.fp_base.specs.declared.rule.Rule.{Rule}
 use Rattle.fp_base.specs.declared.rule.Rule.TheVariants.{UnexpectedToken, NestingTooDeep, FormLeftOut}
 use Rattle.fp_lexer.specs.declared.token.Token.{Token}
-use Rattle.fp_grammar.specs.Longest.{IsViable}
+use Rattle.fp_grammar.specs.Grammar.{Grammar}
 use Rattle.fp_grammar.proofs.Tokens.{rest_at, rest_at_end}
 use Rattle.fp_parse_defs.specs.Kinds.{kind}
 use Rattle.fp_parse_defs.specs.Reading.{left_out, limit}
-use Rattle.fp_parse_parts.specs.Units.{unit, ReachesTo, opens_left_out, include_at, StartsMember, BeginsLeftOut, GoesTooDeep, BrokenRule}
+use Rattle.fp_parse_parts.specs.Files.{Probe, tried_at, ReachesTo, StartsMember, BeginsLeftOut, GoesTooDeep, BrokenRule}
 use Rattle.fp_parse_parts.proofs.Reaching.{goes_on, ends_there}
 
 -- a list before and behind the token at a position
@@ -23,49 +23,6 @@ cut_at tokens at t e = sym (take-append-drop at tokens) ∙ ap (λ l. take at to
 length_before : (tokens : List Token) (at : ℕ) (t : Token) → Some t ≡ slice_get tokens at → length (take at tokens) ≡ at
 length_before tokens at t e = let h = slice_get_within tokens at t (sym e) in length-take-le at tokens (omega (arith, h))
 
-pub rule_at_end : (tokens : List Token) (at : ℕ) → None ≡ slice_get tokens at → BrokenRule (take at tokens) (drop at tokens) UnexpectedToken
-rule_at_end tokens at e = subst (λ l. BrokenRule (take at tokens) l UnexpectedToken) (sym (rest_at_end tokens at (sym e))) refl
-
-rule_at : (tokens : List Token) (at : ℕ) (t : Token) (rule : Rule) → Some t ≡ slice_get tokens at → BrokenRule (take at tokens) (t ∷ drop (at + 1) tokens) rule → BrokenRule (take at tokens) (drop at tokens) rule
-rule_at tokens at t rule e b = subst (λ l. BrokenRule (take at tokens) l rule) (sym (rest_at tokens at t (sym e))) b
-
-pub rule_deeper : (tokens : List Token) (at : ℕ) (t : Token) (to : ℕ) → Some t ≡ slice_get tokens at → ReachesTo (limit + 1) tokens to → at < to → BrokenRule (take at tokens) (drop at tokens) NestingTooDeep
-rule_deeper tokens at t to e r l =
-    let h = length_before tokens at t e in
-    rule_at tokens at t NestingTooDeep e (inl (goes_on (limit + 1) tokens (take at tokens) t (drop (at + 1) tokens) to (cut_at tokens at t e) r (omega (arith, h, l)), refl))
-
-not_deeper : (tokens : List Token) (at : ℕ) (t : Token) (to : ℕ) → Some t ≡ slice_get tokens at → ReachesTo (limit + 1) tokens to → to ≤ at → GoesTooDeep (take at tokens) t → ⊥
-not_deeper tokens at t to e r l =
-    let h = length_before tokens at t e in
-    ends_there (limit + 1) tokens (take at tokens) t (drop (at + 1) tokens) to (cut_at tokens at t e) r (omega (arith, h, l))
-
-pub rule_left_out : (tokens : List Token) (at : ℕ) (t : Token) (to : ℕ) → Some t ≡ slice_get tokens at → ReachesTo (limit + 1) tokens to → to ≤ at → BeginsLeftOut (take at tokens) t → BrokenRule (take at tokens) (drop at tokens) FormLeftOut
-rule_left_out tokens at t to e r l b = rule_at tokens at t FormLeftOut e (inr (not_deeper tokens at t to e r l, inl (b, refl)))
-
-pub rule_plain : (tokens : List Token) (at : ℕ) (t : Token) (to : ℕ) → Some t ≡ slice_get tokens at → ReachesTo (limit + 1) tokens to → to ≤ at → (BeginsLeftOut (take at tokens) t → ⊥) → BrokenRule (take at tokens) (drop at tokens) UnexpectedToken
-rule_plain tokens at t to e r l n = rule_at tokens at t UnexpectedToken e (inr (not_deeper tokens at t to e r l, inr (n, refl)))
-
--- an `include` was read in that place
-pub include_read : (tokens tried : List Token) (at : ℕ) (place : Span) (to : ℕ) → at ≤ length tokens → tried ≡ take at tokens ++ include_at place ∷ [] → ReachesTo limit tried to → at < to → StartsMember (take at tokens) place
-include_read tokens tried at place to w e r l =
-    let h = length-take-le at tokens w in
-    goes_on limit tried (take at tokens) (include_at place) [] to e r (omega (arith, h, l))
-
-pub include_unread : (tokens tried : List Token) (at : ℕ) (place : Span) (to : ℕ) → at ≤ length tokens → tried ≡ take at tokens ++ include_at place ∷ [] → ReachesTo limit tried to → to ≤ at → StartsMember (take at tokens) place → ⊥
-include_unread tokens tried at place to w e r l =
-    let h = length-take-le at tokens w in
-    ends_there limit tried (take at tokens) (include_at place) [] to e r (omega (arith, h, l))
-
-pub include_told : (tokens tried : List Token) (at : ℕ) (place : Span) (to : ℕ) → at ≤ length tokens → tried ≡ take at tokens ++ include_at place ∷ [] → ReachesTo limit tried to → MatchBool (ltb at to) (StartsMember (take at tokens) place) (StartsMember (take at tokens) place → ⊥)
-include_told tokens tried at place to w e r =
-    elim (short at to) [
-      | inl l ↦ subst (λ b. MatchBool b (StartsMember (take at tokens) place) (StartsMember (take at tokens) place → ⊥)) (sym (lt-ltb at to l)) (include_read tokens tried at place to w e r l)
-      | inr l ↦ subst (λ b. MatchBool b (StartsMember (take at tokens) place) (StartsMember (take at tokens) place → ⊥)) (sym (le-ltb at to l)) (include_unread tokens tried at place to w e r l)
-    ]
-  where
-    short : (r n : ℕ) → (r < n) ⊎ (n ≤ r)
-    short r n = grind arith
-
 pub when_true : (A B : Type 0) (b : Bool) → MatchBool b A B → b ≡ true → A
 when_true A B true m e = m
 when_true A B false m e = cc
@@ -74,20 +31,67 @@ pub when_false : (A B : Type 0) (b : Bool) → MatchBool b A B → b ≡ false �
 when_false A B false m e = m
 when_false A B true m e = cc
 
--- a word that begins no form that is left out
-pub begins_none : (before : List Token) (t : Token) → left_out t.what ≡ false → opens_left_out t.what ≡ false → BeginsLeftOut before t → ⊥
-begins_none before t e f (inl h) = cc
-begins_none before t e f (inr (h, s)) = cc
+module _ {X : Type 0} (g : ℕ → Grammar Token X) (probes : List Probe) where
+  pub rule_at_end : (tokens : List Token) (at : ℕ) → None ≡ slice_get tokens at → BrokenRule g probes (take at tokens) (drop at tokens) UnexpectedToken
+  rule_at_end tokens at e = subst (λ l. BrokenRule g probes (take at tokens) l UnexpectedToken) (sym (rest_at_end tokens at (sym e))) refl
 
--- a word that begins such a form at the start of a member
-pub begins_there : (before : List Token) (t : Token) (b : Bool) → left_out t.what ≡ false → opens_left_out t.what ≡ true → MatchBool b (StartsMember before t.at) (StartsMember before t.at → ⊥) → MatchBool b (BeginsLeftOut before t) (BeginsLeftOut before t → ⊥)
-begins_there before t true e f s = inr (f, s)
-begins_there before t false e f s = λ h. only h
-  where
-    only : BeginsLeftOut before t → ⊥
-    only (inl g) = let i : true ≡ false = sym g ∙ e in cc
-    only (inr (g, r)) = s r
+  rule_at : (tokens : List Token) (at : ℕ) (t : Token) (rule : Rule) → Some t ≡ slice_get tokens at → BrokenRule g probes (take at tokens) (t ∷ drop (at + 1) tokens) rule → BrokenRule g probes (take at tokens) (drop at tokens) rule
+  rule_at tokens at t rule e b = subst (λ l. BrokenRule g probes (take at tokens) l rule) (sym (rest_at tokens at t (sym e))) b
 
-pub begins_handed : (before : List Token) (t : Token) (r : Result Bool NoMemory) → left_out t.what ≡ false → opens_left_out t.what ≡ true → IfOk r (λ b. MatchBool b (StartsMember before t.at) (StartsMember before t.at → ⊥)) → IfOk r (λ b. MatchBool b (BeginsLeftOut before t) (BeginsLeftOut before t → ⊥))
-begins_handed before t (Ok b) e f i = begins_there before t b e f i
-begins_handed before t (Err n) e f i = i
+  pub rule_deeper : (tokens : List Token) (at : ℕ) (t : Token) (to : ℕ) → Some t ≡ slice_get tokens at → ReachesTo (g (limit + 1)) tokens to → at < to → BrokenRule g probes (take at tokens) (drop at tokens) NestingTooDeep
+  rule_deeper tokens at t to e r l =
+      let h = length_before tokens at t e in
+      rule_at tokens at t NestingTooDeep e (inl (goes_on (g (limit + 1)) tokens (take at tokens) t (drop (at + 1) tokens) to (cut_at tokens at t e) r (omega (arith, h, l)), refl))
+
+  not_deeper : (tokens : List Token) (at : ℕ) (t : Token) (to : ℕ) → Some t ≡ slice_get tokens at → ReachesTo (g (limit + 1)) tokens to → to ≤ at → GoesTooDeep g (take at tokens) t → ⊥
+  not_deeper tokens at t to e r l =
+      let h = length_before tokens at t e in
+      ends_there (g (limit + 1)) tokens (take at tokens) t (drop (at + 1) tokens) to (cut_at tokens at t e) r (omega (arith, h, l))
+
+  pub rule_left_out : (tokens : List Token) (at : ℕ) (t : Token) (to : ℕ) → Some t ≡ slice_get tokens at → ReachesTo (g (limit + 1)) tokens to → to ≤ at → BeginsLeftOut g probes (take at tokens) t → BrokenRule g probes (take at tokens) (drop at tokens) FormLeftOut
+  rule_left_out tokens at t to e r l b = rule_at tokens at t FormLeftOut e (inr (not_deeper tokens at t to e r l, inl (b, refl)))
+
+  pub rule_plain : (tokens : List Token) (at : ℕ) (t : Token) (to : ℕ) → Some t ≡ slice_get tokens at → ReachesTo (g (limit + 1)) tokens to → to ≤ at → (BeginsLeftOut g probes (take at tokens) t → ⊥) → BrokenRule g probes (take at tokens) (drop at tokens) UnexpectedToken
+  rule_plain tokens at t to e r l n = rule_at tokens at t UnexpectedToken e (inr (not_deeper tokens at t to e r l, inr (n, refl)))
+
+module _ {X : Type 0} (g : ℕ → Grammar Token X) where
+  -- the word that is tried was read in that place
+  pub tried_read : (probe : Probe) (tokens tried : List Token) (at : ℕ) (place : Span) (to : ℕ) → at ≤ length tokens → tried ≡ take at tokens ++ tried_at probe place ∷ [] → ReachesTo (g limit) tried to → at < to → StartsMember g probe (take at tokens) place
+  tried_read probe tokens tried at place to w e r l =
+      let h = length-take-le at tokens w in
+      goes_on (g limit) tried (take at tokens) (tried_at probe place) [] to e r (omega (arith, h, l))
+
+  pub tried_unread : (probe : Probe) (tokens tried : List Token) (at : ℕ) (place : Span) (to : ℕ) → at ≤ length tokens → tried ≡ take at tokens ++ tried_at probe place ∷ [] → ReachesTo (g limit) tried to → to ≤ at → StartsMember g probe (take at tokens) place → ⊥
+  tried_unread probe tokens tried at place to w e r l =
+      let h = length-take-le at tokens w in
+      ends_there (g limit) tried (take at tokens) (tried_at probe place) [] to e r (omega (arith, h, l))
+
+  pub tried_told : (probe : Probe) (tokens tried : List Token) (at : ℕ) (place : Span) (to : ℕ) → at ≤ length tokens → tried ≡ take at tokens ++ tried_at probe place ∷ [] → ReachesTo (g limit) tried to → MatchBool (ltb at to) (StartsMember g probe (take at tokens) place) (StartsMember g probe (take at tokens) place → ⊥)
+  tried_told probe tokens tried at place to w e r =
+      elim (short at to) [
+        | inl l ↦ subst (λ b. MatchBool b (StartsMember g probe (take at tokens) place) (StartsMember g probe (take at tokens) place → ⊥)) (sym (lt-ltb at to l)) (tried_read probe tokens tried at place to w e r l)
+        | inr l ↦ subst (λ b. MatchBool b (StartsMember g probe (take at tokens) place) (StartsMember g probe (take at tokens) place → ⊥)) (sym (le-ltb at to l)) (tried_unread probe tokens tried at place to w e r l)
+      ]
+    where
+      short : (r n : ℕ) → (r < n) ⊎ (n ≤ r)
+      short r n = grind arith
+
+  -- where one word is tried: a word that begins no form that is left out
+  pub begins_none : (probe : Probe) (before : List Token) (t : Token) → left_out t.what ≡ false → probe.opens t.what ≡ false → BeginsLeftOut g (probe ∷ []) before t → ⊥
+  begins_none probe before t e f (inl h) = cc
+  begins_none probe before t e f (inr (inl (h, s))) = cc
+  begins_none probe before t e f (inr (inr h)) = h
+
+  -- a word that begins such a form at the start of a member
+  pub begins_there : (probe : Probe) (before : List Token) (t : Token) (b : Bool) → left_out t.what ≡ false → probe.opens t.what ≡ true → MatchBool b (StartsMember g probe before t.at) (StartsMember g probe before t.at → ⊥) → MatchBool b (BeginsLeftOut g (probe ∷ []) before t) (BeginsLeftOut g (probe ∷ []) before t → ⊥)
+  begins_there probe before t true e f s = inr (inl (f, s))
+  begins_there probe before t false e f s = λ h. only h
+    where
+      only : BeginsLeftOut g (probe ∷ []) before t → ⊥
+      only (inl h) = let i : true ≡ false = sym h ∙ e in cc
+      only (inr (inl (h, r))) = s r
+      only (inr (inr h)) = h
+
+  pub begins_handed : (probe : Probe) (before : List Token) (t : Token) (r : Result Bool NoMemory) → left_out t.what ≡ false → probe.opens t.what ≡ true → IfOk r (λ b. MatchBool b (StartsMember g probe before t.at) (StartsMember g probe before t.at → ⊥)) → IfOk r (λ b. MatchBool b (BeginsLeftOut g (probe ∷ []) before t) (BeginsLeftOut g (probe ∷ []) before t → ⊥))
+  begins_handed probe before t (Ok b) e f i = begins_there probe before t b e f i
+  begins_handed probe before t (Err n) e f i = i

@@ -21,7 +21,7 @@ use Rattle.fp_parse_parts.specs.Members.{definition_begins, definition_goes_on, 
 use Rattle.fp_parse_parts.specs.Units.{unit}
 
 pub definition_good : (expressions : ℕ) → RefsGood kind (seal kind (definition expressions) definition_begins definition_goes_on)
-definition_good expressions = sealed_good (definition expressions) definition_begins definition_goes_on (definition_fits expressions).ll1 refl refl refl (definition_fits expressions).refs
+definition_good expressions = sealed_good (definition expressions) definition_begins definition_goes_on (definition_fits expressions).predictive refl refl refl (definition_fits expressions).refs
 
 -- the sets of modules hold what they promise
 pub modules_good : (expressions depth : ℕ) → IsGood kind (modules expressions depth) false false (k_module ∷ []) []
@@ -32,28 +32,28 @@ modules_good expressions (suc depth) =
     nested_good (good_of (M.opened_module expressions depth) refl (assumption (each_kind, g, d)))
 
 pub include_fits : Fits kind M.include
-include_fits = record { ll1 = refl; some = refl; refs = assumption each_kind }
+include_fits = record { predictive = refl; some = refl; refs = assumption each_kind }
 
 pub locate_words_fits : Fits kind M.locate_words
-locate_words_fits = record { ll1 = refl; some = refl; refs = assumption each_kind }
+locate_words_fits = record { predictive = refl; some = refl; refs = assumption each_kind }
 
 pub locate_fits : Fits kind M.locate
-locate_fits = record { ll1 = refl; some = refl; refs = assumption each_kind }
+locate_fits = record { predictive = refl; some = refl; refs = assumption each_kind }
 
 pub member_fits : (expressions depth : ℕ) → Fits kind (M.member expressions depth)
-member_fits expressions depth = let g = modules_good expressions depth in let d = definition_good expressions in record { ll1 = refl; some = refl; refs = assumption (each_kind, g, d) }
+member_fits expressions depth = let g = modules_good expressions depth in let d = definition_good expressions in record { predictive = refl; some = refl; refs = assumption (each_kind, g, d) }
 
 pub noted_member_fits : (expressions depth : ℕ) → Fits kind (noted (M.member expressions depth))
-noted_member_fits expressions depth = let g = modules_good expressions depth in let d = definition_good expressions in record { ll1 = refl; some = refl; refs = assumption (each_kind, g, d) }
+noted_member_fits expressions depth = let g = modules_good expressions depth in let d = definition_good expressions in record { predictive = refl; some = refl; refs = assumption (each_kind, g, d) }
 
 pub some_members_fits : (expressions depth : ℕ) → Fits kind (M.some_members expressions depth)
-some_members_fits expressions depth = let g = modules_good expressions depth in let d = definition_good expressions in record { ll1 = refl; some = refl; refs = assumption (each_kind, g, d) }
+some_members_fits expressions depth = let g = modules_good expressions depth in let d = definition_good expressions in record { predictive = refl; some = refl; refs = assumption (each_kind, g, d) }
 
 pub opened_module_fits : (expressions depth : ℕ) → Fits kind (M.opened_module expressions depth)
-opened_module_fits expressions depth = let g = modules_good expressions depth in let d = definition_good expressions in record { ll1 = refl; some = refl; refs = assumption (each_kind, g, d) }
+opened_module_fits expressions depth = let g = modules_good expressions depth in let d = definition_good expressions in record { predictive = refl; some = refl; refs = assumption (each_kind, g, d) }
 
 pub unit_fits : (depth : ℕ) → Fits kind (unit depth)
-unit_fits depth = let g = modules_good depth depth in let d = definition_good depth in record { ll1 = refl; some = refl; refs = assumption (each_kind, g, d) }
+unit_fits depth = let g = modules_good depth depth in let d = definition_good depth in record { predictive = refl; some = refl; refs = assumption (each_kind, g, d) }
 
 -- no depth is left: there are no modules
 pub no_modules : (expressions depth : ℕ) (tokens : List Token) (from : ℕ) → depth ≡ 0 → Refuses kind (M.nested_module expressions depth) tokens from from

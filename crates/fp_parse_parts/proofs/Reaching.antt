@@ -6,7 +6,7 @@ use Rattle.fp_lexer.specs.declared.token.Token.{Token}
 use Rattle.fp_tree.specs.declared.member.Member.{Member}
 use Rattle.fp_grammar.specs.declared.halt.Halt.{Halt}
 use Rattle.fp_grammar.specs.declared.halt.Halt.TheVariants.{Unexpected}
-use Rattle.fp_grammar.specs.Grammar.{Spells}
+use Rattle.fp_grammar.specs.Grammar.{Grammar, Spells}
 use Rattle.fp_grammar.specs.Longest.{IsViable}
 use Rattle.fp_grammar.specs.Broken.{IsBroken}
 use Rattle.fp_grammar.specs.Parses.{Accepts, Refuses, RefusesBy}
@@ -16,39 +16,40 @@ use Rattle.fp_grammar.proofs.Lists.Cuts.{same, longer, shorter}
 use Rattle.fp_grammar.proofs.LongestLemmas.{answers_longest}
 use Rattle.fp_parse_defs.specs.Kinds.{kind}
 use Rattle.fp_parse_defs.specs.Reading.{limit}
-use Rattle.fp_parse_parts.specs.Units.{unit, ReachesTo, SpellsUnit, StopsUnit, Answers}
+use Rattle.fp_parse_parts.specs.Files.{ReachesTo}
+use Rattle.fp_parse_parts.specs.Units.{unit, SpellsUnit, StopsUnit, Answers}
 use Rattle.fp_parse_parts.specs.declared.parsing.Inside.{Inside}
 use Rattle.fp_parse_parts.specs.declared.parsing.Inside.TheVariants as inside
 use Rattle.fp_parse_parts.specs.declared.parsing.Members.TheVariants as found
 use Rattle.fp_parse_parts.proofs.MembersFit.{unit_fits}
 
-pub reached_by_node : (depth : ℕ) (tokens : List Token) (xs : List Member) (to : ℕ) → Accepts kind (unit depth) tokens 0 xs to → ReachesTo depth tokens to
+pub reached_by_node : (depth : ℕ) (tokens : List Token) (xs : List Member) (to : ℕ) → Accepts kind (unit depth) tokens 0 xs to → ReachesTo (unit depth) tokens to
 reached_by_node depth tokens xs to p =
     let a = answers_longest (unit depth) tokens 0 (Ok (xs, to)) (unit_fits depth) p in
     (a.0, a.1, omega (arith, a.3))
 
-reached_by_refusal : (depth : ℕ) (tokens : List Token) (to : ℕ) → Refuses kind (unit depth) tokens 0 to → ReachesTo depth tokens to
+reached_by_refusal : (depth : ℕ) (tokens : List Token) (to : ℕ) → Refuses kind (unit depth) tokens 0 to → ReachesTo (unit depth) tokens to
 reached_by_refusal depth tokens to p =
     let a = answers_longest (unit depth) tokens 0 (Err (Unexpected to)) (unit_fits depth) p in
     (a.0, a.1, omega (arith, a.3))
 
-pub reached_by_halt : (depth : ℕ) (tokens : List Token) (halt : Halt) (to : ℕ) → halt ≡ Unexpected to → RefusesBy kind (unit depth) tokens 0 halt → ReachesTo depth tokens to
+pub reached_by_halt : (depth : ℕ) (tokens : List Token) (halt : Halt) (to : ℕ) → halt ≡ Unexpected to → RefusesBy kind (unit depth) tokens 0 halt → ReachesTo (unit depth) tokens to
 reached_by_halt depth tokens halt to e p = reached_by_refusal depth tokens to (subst (λ h. RefusesBy kind (unit depth) tokens 0 h) e p)
 
 -- more was read: the token could stand there
-pub goes_on : (depth : ℕ) (tokens before : List Token) (t : Token) (rest : List Token) (to : ℕ) → tokens ≡ before ++ t ∷ rest → ReachesTo depth tokens to → length before < to → IsViable kind (unit depth) (before ++ t ∷ [])
-goes_on depth tokens before t rest to e (w, v, p) l = go (cuts_of before (t ∷ rest) w v.begins.0 (sym e ∙ v.begins.1))
+pub goes_on : {X : Type 0} (g : Grammar Token X) (tokens before : List Token) (t : Token) (rest : List Token) (to : ℕ) → tokens ≡ before ++ t ∷ rest → ReachesTo g tokens to → length before < to → IsViable kind g (before ++ t ∷ [])
+goes_on g tokens before t rest to e (w, v, p) l = go (cuts_of before (t ∷ rest) w v.begins.0 (sym e ∙ v.begins.1))
   where
-    go : Cuts before (t ∷ rest) w v.begins.0 → IsViable kind (unit depth) (before ++ t ∷ [])
+    go : Cuts before (t ∷ rest) w v.begins.0 → IsViable kind g (before ++ t ∷ [])
     go (same f h) = absurd (omega (arith, l, p, ap length f))
     go (longer s r f h) =
         let i : s ≡ t = cc in
-        (r ++ v.viable.0, v.viable.1, subst (λ z. Spells kind (unit depth) z v.viable.1) (ap (λ z. z ++ v.viable.0) f ∙ append_assoc before (s ∷ r) v.viable.0 ∙ ap (λ z. before ++ z ∷ (r ++ v.viable.0)) i ∙ sym (append_assoc before (t ∷ []) (r ++ v.viable.0))) v.viable.2)
+        (r ++ v.viable.0, v.viable.1, subst (λ z. Spells kind g z v.viable.1) (ap (λ z. z ++ v.viable.0) f ∙ append_assoc before (s ∷ r) v.viable.0 ∙ ap (λ z. before ++ z ∷ (r ++ v.viable.0)) i ∙ sym (append_assoc before (t ∷ []) (r ++ v.viable.0))) v.viable.2)
     go (shorter s r f h) = absurd (omega (arith, l, p, ap length f, length-append w (s ∷ r)))
 
 -- no more was read: it could not
-pub ends_there : (depth : ℕ) (tokens before : List Token) (t : Token) (rest : List Token) (to : ℕ) → tokens ≡ before ++ t ∷ rest → ReachesTo depth tokens to → to ≤ length before → IsViable kind (unit depth) (before ++ t ∷ []) → ⊥
-ends_there depth tokens before t rest to e (w, v, p) l viable =
+pub ends_there : {X : Type 0} (g : Grammar Token X) (tokens before : List Token) (t : Token) (rest : List Token) (to : ℕ) → tokens ≡ before ++ t ∷ rest → ReachesTo g tokens to → to ≤ length before → IsViable kind g (before ++ t ∷ []) → ⊥
+ends_there g tokens before t rest to e (w, v, p) l viable =
     let h = v.longest (before ++ t ∷ []) (rest, e ∙ sym (append_assoc before (t ∷ []) rest)) viable in
     omega (arith, l, p, h, length-append before (t ∷ []))
 

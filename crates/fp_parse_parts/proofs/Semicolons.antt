@@ -14,7 +14,7 @@ use Rattle.fp_parse_defs.proofs.WordsFit.{each_kind}
 use Rattle.fp_parse_parts.specs.Members.{semicolons}
 
 separator_fits : Fits kind (seq (one_of semicolons) after_lines)
-separator_fits = record { ll1 = refl; some = refl; refs = (each_kind, each_kind) }
+separator_fits = record { predictive = refl; some = refl; refs = (each_kind, each_kind) }
 
 pub separator_accepts : {X : Type 0} {tokens : List Token} {mid to : ℕ} {lines : List (List ℕ)} → NextAmong kind semicolons tokens mid → Accepts kind after_lines tokens (mid + 1) lines to → Accepts kind (separated_by {X = X} semicolons) tokens mid (separator lines) to
 separator_accepts {tokens = tokens} {mid = mid} n p = map_accepts (done (next (begin tokens mid separator_fits) (one_of_accepts semicolons n.0 tokens mid n.1 n.2)) p)

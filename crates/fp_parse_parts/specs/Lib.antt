@@ -1,2 +1,3 @@
 pub mod Members
+pub mod Files
 pub mod Units

@@ -1,7 +1,8 @@
 -- The grammar of the members of files and modules. FPP Language Specification, "Translation Units and Models", "Module Definitions",
 -- "Include Specifiers" and "Location Specifiers". This profile: components, state machines, instances and topologies aren't read yet.
-use Rattle.std.specs.Prelude.{ℕ, zero, suc, ltb, Bool, false, Option, Some, None, List, [], ◌∷◌, ◌++◌}
+use Rattle.std.specs.Prelude.{ℕ, zero, suc, ltb, Bool, false, Option, Some, None, List, [], ◌∷◌, ◌++◌, length}
 use Rattle.fp_base.specs.declared.place.Span.{Span}
+use Rattle.fp_lexer.specs.Words.{words, reserved, mark}
 use Rattle.fp_lexer.specs.declared.token.Word.{Word}
 use Rattle.fp_lexer.specs.declared.token.Word.TheVariants as word
 use Rattle.fp_lexer.specs.declared.token.Token.{Token}
@@ -23,20 +24,20 @@ use Rattle.fp_parse_defs.specs.Lists.{joined, some_of}
 use Rattle.fp_parse_defs.specs.Definitions.{definition, literal_string, or_none, expr_goes_on, k_array, k_arrow, k_constant, k_default, k_enum, k_format, k_port, k_size, k_struct, k_type}
 
 abbrev pub k_semicolon : ℕ
-k_semicolon = k_mark 14
+k_semicolon = k_mark (mark ";")
 
 -- the reserved words of members
 abbrev pub k_at : ℕ
-k_at = k_reserved 7
+k_at = k_reserved (reserved "at")
 
 abbrev pub k_include : ℕ
-k_include = k_reserved 51
+k_include = k_reserved (reserved "include")
 
 abbrev pub k_locate : ℕ
-k_locate = k_reserved 57
+k_locate = k_reserved (reserved "locate")
 
 abbrev pub k_module : ℕ
-k_module = k_reserved 61
+k_module = k_reserved (reserved "module")
 
 -- what separates members
 abbrev pub semicolons : List ℕ
@@ -68,7 +69,7 @@ words_below (suc n) = k_reserved n ∷ words_below n
 
 -- how many reserved words there are
 abbrev pub word_count : ℕ
-word_count = 113
+word_count = length words
 
 abbrev pub is_reserved : Word → Bool
 is_reserved (word.Reserved r) = ltb r word_count

@@ -7,12 +7,12 @@ ghost use Rattle.fp_parse_parts.specs.Members as M;
 
 use crate::bare::BareMember;
 use crate::build::{include_of, locate_of, module_of, with_member};
-use crate::words::{
-    AT, CLOSE_BRACE, INCLUDE, LOCATE, MODULE, OPEN_BRACE, locate_words, semicolon_at,
-};
+use crate::words::{locate_words, semicolon_at};
 use fp_base::{Row, Text};
 use fp_grammar::Halt;
 use fp_lexer::Token;
+use fp_lexer::mark::{CLOSE_BRACE, OPEN_BRACE};
+use fp_lexer::reserved::{AT, INCLUDE, LOCATE, MODULE};
 use fp_parse_defs::definition::definition;
 use fp_parse_defs::{
     after_lines, appended, before_lines, expect_mark, expect_name, expect_word, literal_string,

@@ -12,7 +12,7 @@ use std::alloc::Global;
 pub const LIMIT: u32 = 64;
 
 /// What a list of tokens stands in.
-#[derive(Clone, Copy, PartialEq, Eq)]
+#[derive(Clone, Copy)]
 pub enum Inside {
     /// A file.
     Unit,

@@ -1,15 +1,17 @@
 ghost use Rattle.std.specs.Prelude.{◌≡◌, ◌≤◌, ◌<◌, length, take, drop, slice_get, Some, IfOk, MatchBool};
 ghost use Rattle.fp_grammar.specs.Broken.{IsBroken};
 ghost use Rattle.fp_parse_defs.specs.Kinds.{kind};
-ghost use Rattle.fp_parse_defs.specs.Reading.{BeginsAt, left_out, limit};
-ghost use Rattle.fp_parse_parts.specs.Units.{BeginsLeftOut, BrokenRule, ReachesTo, StartsMember, StopsUnit, opens_left_out, unit};
+ghost use Rattle.fp_parse_defs.specs.Reading.{BeginsAt, limit};
+ghost use Rattle.fp_parse_parts.specs.Files.{BeginsLeftOut, BrokenRule, ReachesTo, StartsMember};
+ghost use Rattle.fp_parse_parts.specs.Units.{StopsUnit, opens_left_out, unit, unit_probe, unit_probes};
 
 use crate::members::members;
 use crate::parsing::LIMIT;
-use crate::words::INCLUDE;
 use fp_base::{NoMemory, Place, Refusal, Row, Rule, Span, Stop};
 use fp_grammar::Halt;
+use fp_lexer::reserved::{ACTIVE, INCLUDE, INSTANCE, PASSIVE, QUEUED, STATE, TOPOLOGY};
 use fp_lexer::{Token, Word};
+use fp_parse_defs::is_left_out;
 use fp_tree::Member;
 use std::alloc::Global;
 
@@ -43,7 +45,7 @@ fn place(tokens: &[Token], at: usize) -> Place
 
 // The rule that is broken by what stands at a position.
 fn broken_rule(alloc: Global, tokens: &[Token], at: usize) -> Result<Rule, NoMemory>
-    ensures { IfOk result (λ rule. BrokenRule (take at tokens.now) (drop at tokens.now) rule) }
+    ensures { IfOk result (λ rule. BrokenRule unit unit_probes (take at tokens.now) (drop at tokens.now) rule) }
 {
     match tokens.get(at) {
         Some(token) => rule_of_token(alloc, tokens, at, token),
@@ -58,7 +60,7 @@ fn rule_of_token(
     token: &Token,
 ) -> Result<Rule, NoMemory>
     requires { Some token.now ≡ slice_get tokens.now at }
-    ensures { IfOk result (λ rule. BrokenRule (take at tokens.now) (drop at tokens.now) rule) }
+    ensures { IfOk result (λ rule. BrokenRule unit unit_probes (take at tokens.now) (drop at tokens.now) rule) }
 {
     let (_, deeper) = read(alloc, tokens, LIMIT + 1)?;
     if at < deeper {
@@ -80,7 +82,7 @@ fn begins_left_out(
     token: &Token,
 ) -> Result<bool, NoMemory>
     requires { at ≤ length tokens.now }
-    ensures { IfOk result (λ begins. MatchBool begins (BeginsLeftOut (take at tokens.now) token.now) (BeginsLeftOut (take at tokens.now) token.now → ⊥)) }
+    ensures { IfOk result (λ begins. MatchBool begins (BeginsLeftOut unit unit_probes (take at tokens.now) token.now) (BeginsLeftOut unit unit_probes (take at tokens.now) token.now → ⊥)) }
 {
     let anywhere = is_left_out(&token.what);
     if anywhere {
@@ -100,7 +102,7 @@ fn read(
     tokens: &[Token],
     depth: u32,
 ) -> Result<(Option<Row<Member>>, usize), NoMemory>
-    ensures { IfOk result (λ p. ReachesTo depth tokens.now p.1) }
+    ensures { IfOk result (λ p. ReachesTo (unit depth) tokens.now p.1) }
 {
     match members(alloc, tokens, 0, depth, depth) {
         Ok((found, to)) => Ok((Some(found), to)),
@@ -112,7 +114,7 @@ fn read(
 // Whether an `include` could stand behind the tokens before a position.
 fn starts_member(alloc: Global, tokens: &[Token], at: usize, place: Span) -> Result<bool, NoMemory>
     requires { at ≤ length tokens.now }
-    ensures { IfOk result (λ starts. MatchBool starts (StartsMember (take at tokens.now) place) (StartsMember (take at tokens.now) place → ⊥)) }
+    ensures { IfOk result (λ starts. MatchBool starts (StartsMember unit unit_probe (take at tokens.now) place) (StartsMember unit unit_probe (take at tokens.now) place → ⊥)) }
 {
     let mut tried = copied(alloc, &tokens[..at])?;
     let what = Word::Reserved(INCLUDE);
@@ -148,23 +150,14 @@ fn copied_token(alloc: Global, token: &Token) -> Result<Token, NoMemory>
     Ok(Token { what, at: token.at })
 }
 
-fn is_left_out(word: &Word) -> bool
-    ensures { result ≡ left_out word.now }
-{
-    match word {
-        Word::Reserved(reserved) => matches!(
-            *reserved,
-            17 | 21 | 29 | 31 | 50 | 55 | 68 | 75 | 78 | 87
-        ),
-        _ => false,
-    }
-}
-
 fn opens_left_out(word: &Word) -> bool
     ensures { result ≡ opens_left_out word.now }
 {
     match word {
-        Word::Reserved(reserved) => matches!(*reserved, 1 | 70 | 77 | 93 | 54 | 101),
+        Word::Reserved(reserved) => matches!(
+            *reserved,
+            ACTIVE | PASSIVE | QUEUED | STATE | INSTANCE | TOPOLOGY
+        ),
         _ => false,
     }
 }

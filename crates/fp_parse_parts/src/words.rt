@@ -6,26 +6,10 @@ ghost use Rattle.fp_parse_parts.specs.Members.{word_count, words_below};
 
 use fp_base::Span;
 use fp_grammar::Halt;
+use fp_lexer::mark::SEMICOLON;
+use fp_lexer::reserved::{COUNT, LOCATE};
 use fp_lexer::{Token, Word};
 use fp_parse_defs::expect_word;
-
-// Places in the lexer's tables of marks and of reserved words.
-pub const OPEN_BRACE: u8 = 4;
-
-pub const CLOSE_BRACE: u8 = 5;
-
-const SEMICOLON: u8 = 14;
-
-pub const AT: u8 = 7;
-
-pub const INCLUDE: u8 = 51;
-
-pub const LOCATE: u8 = 57;
-
-pub const MODULE: u8 = 61;
-
-/// How many reserved words there are.
-const WORD_COUNT: u8 = 113;
 
 /// Whether what separates members is at a position.
 pub fn semicolon_at(tokens: &[Token], at: usize) -> bool
@@ -45,7 +29,7 @@ fn is_reserved(word: &Word) -> bool
     ensures { result ≡ M.is_reserved word.now }
 {
     match word {
-        Word::Reserved(found) => *found < WORD_COUNT,
+        Word::Reserved(found) => *found < COUNT,
         _ => false,
     }
 }

@@ -5,4 +5,4 @@ use Rattle.fp_parse_parts.proofs.MembersFit.{unit_fits}
 use Rattle.fp_parse_parts.proofs.laws.one_unit.Goals as goal
 
 pub returns : goal.returns
-returns c = (good_of (unit limit) (unit_fits limit).ll1 (unit_fits limit).refs).unique
+returns c = (good_of (unit limit) (unit_fits limit).predictive (unit_fits limit).refs).unique
