@@ -1,4 +1,3 @@
-mod Each
 mod Preserving
 mod Walks
 mod Lists
@@ -7,3 +6,4 @@ mod Expressions
 mod Definitions
 mod Members
 mod Standing
+mod Writing

@@ -7,7 +7,7 @@ use Rattle.fp_parse_defs.specs.Kinds.{kind}
 use Rattle.fp_parse_defs.specs.Lists.{Piece, annotated, gathered, separated_by, some_of}
 use Rattle.fp_parse_defs.specs.Lists.Piece.{element, separator}
 use Rattle.fp_parse_defs.specs.Definitions.{or_none}
-use Rattle.fp_sites.proofs.Each.{InOption}
+use Rattle.fp_base.proofs.Lists.{InOption}
 use Rattle.fp_sites.proofs.Preserving.{Gives, gives_anything, gives_seq, gives_map, gives_turns}
 
 -- of the element of a piece

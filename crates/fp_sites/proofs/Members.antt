@@ -1,4 +1,4 @@
--- What a member of a file names stands where tokens begin.
+-- What a member of a file gives and uses stands where tokens begin, and its names are names that tokens have.
 use Rattle.std.proofs.Common.{◌≡◌, ℕ, zero, suc, List, [], ◌∷◌, ◌++◌, subst, sym}
 use Rattle.std.specs.List.{AllByRecursion as Each}
 use Rattle.fp_base.specs.declared.place.Place.{Place}
@@ -22,115 +22,124 @@ use Rattle.fp_parse_defs.specs.Definitions.{definition, or_none}
 use Rattle.fp_parse_parts.specs.declared.bare.BareMember.{BareMember}
 use Rattle.fp_parse_parts.specs.declared.bare.BareMember.TheVariants as bare
 use Rattle.fp_parse_parts.specs.Members.{k_include, k_module, semicolons, definition_begins, definition_goes_on, definition_member, made_include, include, made_locate, locate, noted_definition, noted_member, with_member, member_of, members_of, made_module, modules, members}
+use Rattle.fp_sites.specs.Names.{names_within, names_in}
 use Rattle.fp_sites.specs.Includes.{includes_within, includes_in}
-use Rattle.fp_sites.proofs.Each.{each_push, each_flat, each_weaker}
+use Rattle.fp_base.proofs.Lists.{each_push, each_flat, each_weaker}
 use Rattle.fp_sites.proofs.Preserving.{LanguageGives, gives_anything, gives_map, gives_seq, gives_alt, gives_optional, gives_ref, gives_seal, gives_after}
 use Rattle.fp_sites.proofs.Lists.{each_or_none, gives_some_of}
-use Rattle.fp_sites.proofs.Walks.{in_module, in_definition, in_include, in_locate, module_includes, definition_includes, include_includes, locate_includes}
-use Rattle.fp_sites.proofs.Words.{Yields, at_yields, name_yields}
-use Rattle.fp_sites.proofs.Expressions.{Stand, same_stand}
+use Rattle.fp_sites.proofs.Walks.{in_module, in_definition, in_include, in_locate, module_includes, definition_includes, include_includes, locate_includes, module_names, definition_names, include_names, locate_names}
+use Rattle.fp_sites.proofs.Words.{IsTold, Yields, Found, FoundAll, at_yields, name_yields, qual_yields}
+use Rattle.fp_sites.proofs.Expressions.{Stand, same_stand, same_names}
 use Rattle.fp_sites.proofs.Definitions.{Sited, definition_yields}
 
-module _ (G : Place → Type 0) where
+module _ (G : Place → Type 0) (N : Name → Type 0) where
   -- each of these definitions, or includes, stands at such a place
-  abbrev Named : List Definition → Type 0
-  Named ds = Each (λ (d : Definition). G d.place) ds
+  abbrev Given : List Definition → Type 0
+  Given ds = Each (λ (d : Definition). G d.place) ds
 
   abbrev Included : List Include → Type 0
   Included is = Each (λ (i : Include). G i.at.first) is
 
-  -- what a member names stands at such places, in any scope
+  -- what a member gives and uses stands at such places, in any scope, and its names are such names
   pub record SitedMember (m : Member) : Type 0 where
-    pub names : (scope : Path) → Named (in_member definitions_in scope m)
-    pub uses : (scope : Path) → Stand G (in_member mentions_in scope m)
+    pub given : (scope : Path) → Given (in_member definitions_in scope m)
+    pub uses : (scope : Path) → Stand G N (in_member mentions_in scope m)
     pub includes : Included (includes_within m)
+    pub names : Each N (names_within m)
 
   -- the same of a member in any annotation
   abbrev pub SitedBare : BareMember → Type 0
   SitedBare m = (note : List ℕ) → SitedMember (noted_member m note)
 
-  pub names_of_all : (ms : List Member) → Each SitedMember ms → (scope : Path) → Named (in_members definitions_in scope ms)
-  names_of_all ms hs scope = each_flat _ (in_member definitions_in scope) ms (each_weaker SitedMember (λ m. Named (in_member definitions_in scope m)) (λ m h. h.names scope) ms hs)
+  pub given_of_all : (ms : List Member) → Each SitedMember ms → (scope : Path) → Given (in_members definitions_in scope ms)
+  given_of_all ms hs scope = each_flat _ (in_member definitions_in scope) ms (each_weaker SitedMember (λ m. Given (in_member definitions_in scope m)) (λ m h. h.given scope) ms hs)
 
-  pub uses_of_all : (ms : List Member) → Each SitedMember ms → (scope : Path) → Stand G (in_members mentions_in scope ms)
-  uses_of_all ms hs scope = each_flat _ (in_member mentions_in scope) ms (each_weaker SitedMember (λ m. Stand G (in_member mentions_in scope m)) (λ m h. h.uses scope) ms hs)
+  pub uses_of_all : (ms : List Member) → Each SitedMember ms → (scope : Path) → Stand G N (in_members mentions_in scope ms)
+  uses_of_all ms hs scope = each_flat _ (in_member mentions_in scope) ms (each_weaker SitedMember (λ m. Stand G N (in_member mentions_in scope m)) (λ m h. h.uses scope) ms hs)
 
   pub includes_of_all : (ms : List Member) → Each SitedMember ms → Included (includes_in ms)
   includes_of_all ms hs = each_flat _ includes_within ms (each_weaker SitedMember (λ m. Included (includes_within m)) (λ m h. h.includes) ms hs)
 
-  same_named : (ds es : List Definition) → ds ≡ es → Named es → Named ds
-  same_named ds es e h = subst Named (sym e) h
+  pub names_of_all : (ms : List Member) → Each SitedMember ms → Each N (names_in ms)
+  names_of_all ms hs = each_flat N names_within ms (each_weaker SitedMember (λ m. Each N (names_within m)) (λ m h. h.names) ms hs)
+
+  same_given : (ds es : List Definition) → ds ≡ es → Given es → Given ds
+  same_given ds es e h = subst Given (sym e) h
 
   same_included : (is js : List Include) → is ≡ js → Included js → Included is
   same_included is js e h = subst Included (sym e) h
 
-  module_sited : (m : Module) → Each SitedMember (out-Module m).members → SitedMember (node.Module m)
-  module_sited m hs = record {
-    names = λ scope. same_named _ _ (in_module definitions_in scope m) (names_of_all (out-Module m).members hs (scope ++ (out-Module m).name.text ∷ []));
-    uses = λ scope. same_stand G _ _ (in_module mentions_in scope m) (uses_of_all (out-Module m).members hs (scope ++ (out-Module m).name.text ∷ []));
+  module_sited : (m : Module) → N (out-Module m).name → Each SitedMember (out-Module m).members → SitedMember (node.Module m)
+  module_sited m name hs = record {
+    given = λ scope. same_given _ _ (in_module definitions_in scope m) (given_of_all (out-Module m).members hs (scope ++ (out-Module m).name.text ∷ []));
+    uses = λ scope. same_stand G N _ _ (in_module mentions_in scope m) (uses_of_all (out-Module m).members hs (scope ++ (out-Module m).name.text ∷ []));
     includes = same_included _ _ (module_includes m) (includes_of_all (out-Module m).members hs);
+    names = same_names G N _ _ (module_names m) (name, names_of_all (out-Module m).members hs);
   }
 
-  definition_sited : (d : Def) → Sited G d → SitedMember (node.Def d)
+  definition_sited : (d : Def) → Sited G N d → SitedMember (node.Def d)
   definition_sited d h = record {
-    names = λ scope. same_named _ _ (in_definition definitions_in scope d) (h.names scope);
-    uses = λ scope. same_stand G _ _ (in_definition mentions_in scope d) (h.uses scope);
+    given = λ scope. same_given _ _ (in_definition definitions_in scope d) (h.given scope);
+    uses = λ scope. same_stand G N _ _ (in_definition mentions_in scope d) (h.uses scope);
     includes = same_included _ _ (definition_includes d) tt;
+    names = same_names G N _ _ (definition_names d) h.names;
   }
 
   include_sited : (i : Include) → G i.at.first → SitedMember (node.Include i)
   include_sited i h = record {
-    names = λ scope. same_named _ _ (in_include definitions_in scope i) tt;
-    uses = λ scope. same_stand G _ _ (in_include mentions_in scope i) tt;
+    given = λ scope. same_given _ _ (in_include definitions_in scope i) tt;
+    uses = λ scope. same_stand G N _ _ (in_include mentions_in scope i) tt;
     includes = same_included _ _ (include_includes i) (h, tt);
+    names = same_names G N _ _ (include_names i) tt;
   }
 
-  -- a `locate` names nothing
-  locate_sited : (of : Qual) (file : Str) (at : Span) → SitedBare (bare.Locate of file at)
-  locate_sited of file at note = record {
-    names = λ scope. same_named _ _ (in_locate definitions_in scope _) tt;
-    uses = λ scope. same_stand G _ _ (in_locate mentions_in scope _) tt;
+  -- a `locate` gives and uses nothing
+  locate_sited : (of : Qual) (file : Str) (at : Span) → Each N of.names → SitedBare (bare.Locate of file at)
+  locate_sited of file at names note = record {
+    given = λ scope. same_given _ _ (in_locate definitions_in scope _) tt;
+    uses = λ scope. same_stand G N _ _ (in_locate mentions_in scope _) tt;
     includes = same_included _ _ (locate_includes _) tt;
+    names = same_names G N _ _ (locate_names _) names;
   }
 
   -- an annotation changes nothing of it
-  noted_sited : (d : Def) (note : List ℕ) → Sited G d → Sited G (noted_definition d note)
-  noted_sited (def.Constant d) note h = record { names = h.names; uses = h.uses }
-  noted_sited (def.Abstract d) note h = record { names = h.names; uses = h.uses }
-  noted_sited (def.Alias d) note h = record { names = h.names; uses = h.uses }
-  noted_sited (def.Array d) note h = record { names = h.names; uses = h.uses }
-  noted_sited (def.Struct d) note h = record { names = h.names; uses = h.uses }
-  noted_sited (def.Enum d) note h = record { names = h.names; uses = h.uses }
-  noted_sited (def.Port d) note h = record { names = h.names; uses = h.uses }
+  noted_sited : (d : Def) (note : List ℕ) → Sited G N d → Sited G N (noted_definition d note)
+  noted_sited (def.Constant d) note h = record { given = h.given; uses = h.uses; names = h.names }
+  noted_sited (def.Abstract d) note h = record { given = h.given; uses = h.uses; names = h.names }
+  noted_sited (def.Alias d) note h = record { given = h.given; uses = h.uses; names = h.names }
+  noted_sited (def.Array d) note h = record { given = h.given; uses = h.uses; names = h.names }
+  noted_sited (def.Struct d) note h = record { given = h.given; uses = h.uses; names = h.names }
+  noted_sited (def.Enum d) note h = record { given = h.given; uses = h.uses; names = h.names }
+  noted_sited (def.Port d) note h = record { given = h.given; uses = h.uses; names = h.names }
 
-  definition_member_yields : (expressions : ℕ) → Yields G (definition_member expressions) SitedBare
+  definition_member_yields : (expressions : ℕ) → Yields G N (definition_member expressions) SitedBare
   definition_member_yields expressions = gives_map SitedBare bare.Def (λ d h note. definition_sited (noted_definition d note) (noted_sited d note h))
-      (gives_seal {a = definition expressions} definition_begins definition_goes_on (definition_yields G expressions))
+      (gives_seal {a = definition expressions} definition_begins definition_goes_on (definition_yields G N expressions))
 
   included_sited : (p : Span × Str) → G p.0.first × Unit {0} → SitedBare (made_include p)
   included_sited (at, file) h note = include_sited _ h.0
 
-  include_yields : Yields G include SitedBare
-  include_yields = gives_map SitedBare made_include included_sited (gives_seq (at_yields G k_include) gives_anything)
+  include_yields : Yields G N include SitedBare
+  include_yields = gives_map SitedBare made_include included_sited (gives_seq (at_yields G N k_include) gives_anything)
 
-  located_sited : (p : Span × (Qual × (Span × Str))) → Unit {0} → SitedBare (made_locate p)
-  located_sited (at, (of, (before_file, file))) h = locate_sited of file _
+  located_sited : (p : Span × (Qual × (Span × Str))) → Unit {0} × (FoundAll G N p.1.0 × Unit {0}) → SitedBare (made_locate p)
+  located_sited (at, (of, (before_file, file))) h = locate_sited of file _ h.1.0.named
 
-  locate_yields : Yields G locate SitedBare
-  locate_yields = gives_map SitedBare made_locate located_sited gives_anything
+  locate_yields : Yields G N locate SitedBare
+  locate_yields = gives_map SitedBare made_locate located_sited (gives_seq gives_anything (gives_seq (qual_yields G N) gives_anything))
 
-  moduled_sited : (p : Span × (Name × (List Member × Span))) → G p.0.first × (G p.1.0.at.first × (Each SitedMember p.1.1.0 × G p.1.1.1.first)) → SitedBare (made_module p)
-  moduled_sited (at, (name, (inner, closing))) h note = module_sited _ h.1.1.0
+  moduled_sited : (p : Span × (Name × (List Member × Span))) → G p.0.first × (Found G N p.1.0 × (Each SitedMember p.1.1.0 × G p.1.1.1.first)) → SitedBare (made_module p)
+  moduled_sited (at, (name, (inner, closing))) h note = module_sited _ h.1.0.named h.1.1.0
 
   -- of what modules are
   abbrev StandsAll : Language Token BareMember → Type 0
-  StandsAll language = LanguageGives (λ (t : Token). G t.at.first) language SitedBare
+  StandsAll language = LanguageGives (IsTold G N) language SitedBare
 
   module _ (expressions : ℕ) where
-    member_yields : (inner : Language Token BareMember) → StandsAll inner → Yields G (member_of expressions inner) SitedBare
+    member_yields : (inner : Language Token BareMember) → StandsAll inner → Yields G N (member_of expressions inner) SitedBare
     member_yields inner given = gives_alt (gives_ref _ given) (gives_alt (definition_member_yields expressions) (gives_alt include_yields locate_yields))
 
-    members_yield : (inner : Language Token BareMember) → StandsAll inner → Yields G (members_of expressions inner) (Each SitedMember)
+    members_yield : (inner : Language Token BareMember) → StandsAll inner → Yields G N (members_of expressions inner) (Each SitedMember)
     members_yield inner given = gives_map (Each SitedMember) or_none (each_or_none SitedMember)
         (gives_optional (gives_some_of SitedBare (Each SitedMember) with_member (λ ms m lines h k. each_push SitedMember ms (noted_member m (joined lines)) h (k (joined lines))) semicolons [] tt (member_yields inner given)))
 
@@ -138,7 +147,7 @@ module _ (G : Place → Type 0) where
     modules_stand zero = λ w m s h. absurd s
     modules_stand (suc depth) =
         (gives_map SitedBare made_module moduled_sited
-        (gives_seq (at_yields G k_module) (gives_seq (name_yields G) (gives_after k_open_brace (gives_seq (members_yield (modules expressions depth) (modules_stand depth)) (at_yields G k_close_brace)))))).given
+        (gives_seq (at_yields G N k_module) (gives_seq (name_yields G N) (gives_after k_open_brace (gives_seq (members_yield (modules expressions depth) (modules_stand depth)) (at_yields G N k_close_brace)))))).given
 
-    pub all_yield : (depth : ℕ) → Yields G (members expressions depth) (Each SitedMember)
+    pub all_yield : (depth : ℕ) → Yields G N (members expressions depth) (Each SitedMember)
     all_yield depth = members_yield (modules expressions depth) (modules_stand depth)

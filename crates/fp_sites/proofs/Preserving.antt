@@ -4,7 +4,7 @@ use Rattle.std.specs.List.{AllByRecursion as Each}
 use Rattle.fp_grammar.specs.Grammar.{Grammar, Language, Nonterminal, Spells, SpellsMany, SpellsAlternating, built, after, before}
 use Rattle.fp_grammar.specs.Grammar.Grammar.{token, seq, map, alt, optional, alternating, chain, ref}
 use Rattle.fp_grammar.specs.Seal.{seal}
-use Rattle.fp_sites.proofs.Each.{InOption, each_before, each_behind}
+use Rattle.fp_base.proofs.Lists.{InOption, each_before, each_behind}
 
 -- each node has Q that a language gives to tokens that all have P
 abbrev pub LanguageGives : {T X : Type 0} → (T → Type 0) → Language T X → (X → Type 0) → Type 0
@@ -46,8 +46,8 @@ module _ {T : Type 0} {kind : T → ℕ} {P : T → Type 0} where
   pub gives_anything : {X : Type 0} {a : Grammar T X} → Gives kind P a (λ x. Unit {0})
   gives_anything = record { given = λ w x s h. tt }
 
-  pub gives_token : (k : ℕ) → Gives kind P (token k) P
-  gives_token k = record { given = λ w t s h. one_alone P w t s.0 h }
+  pub gives_token : (k : ℕ) → Gives kind P (token k) (λ t. P t × (kind t ≡ k))
+  gives_token k = record { given = λ w t s h. (one_alone P w t s.0 h, s.1) }
 
   pub gives_seq : {X Y : Type 0} {a : Grammar T X} {b : Grammar T Y} {Q : X → Type 0} {R : Y → Type 0}
       → Gives kind P a Q → Gives kind P b R → Gives kind P (seq a b) (λ p. Q p.0 × R p.1)

@@ -1,2 +1,4 @@
 pub mod Includes
+pub mod Names
 pub mod Sites
+pub mod Written

@@ -1,10 +1,18 @@
-ghost use Rattle.std.specs.Prelude.{List};
+ghost use Rattle.std.specs.Prelude.{ℕ, List};
+ghost use Rattle.fp_lexer.specs.Tokens.{Lexed};
 ghost use Rattle.fp_lexer.specs.declared.token.Token.{Token};
 ghost use Rattle.fp_tree.specs.declared.member.Member.{Member};
 ghost use Rattle.fp_parse_parts.specs.Units.{SpellsUnit};
 ghost use Rattle.fp_sites.specs.Sites.{StandAtTokens};
+ghost use Rattle.fp_sites.specs.Written.{NamesAreWritten};
 
 /// Where the tokens of a file spell members, each definition, use and include in these stands where one of the tokens begins.
 pub fn stand_at_tokens()
     ensures { (tokens : List Token) (ms : List Member) → SpellsUnit tokens ms → StandAtTokens tokens ms }
+{}
+
+/// Where the tokens of a text spell members, each name in these is a name of the language that the text has at its place, and no reserved
+/// word, or stands behind a `$`.
+pub fn names_are_written()
+    ensures { (file : ℕ) (text : List ℕ) (tokens : List Token) (ms : List Member) → Lexed file text tokens → SpellsUnit tokens ms → NamesAreWritten file text ms }
 {}

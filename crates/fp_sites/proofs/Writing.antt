@@ -1,0 +1,70 @@
+-- Each name in a tree is written: from the pieces of a text to its tokens, and from these to what the grammar of files yields.
+use Rattle.std.proofs.Common.{◌≡◌, ℕ, List, [], ◌∷◌, Bool, true, false, cond, drop, length, Option, Some, None, refl, sym, ap, ◌∙◌, subst, inl, inr}
+use Rattle.std.specs.Prelude.{◌||◌}
+use Rattle.std.specs.List.{AllByRecursion as Each}
+use Rattle.fp_base.proofs.Lists.{of_contained, each_weaker}
+use Rattle.fp_base.specs.declared.place.Place.{Place}
+use Rattle.fp_lexer.specs.declared.token.Word.{Word}
+use Rattle.fp_lexer.specs.declared.token.Word.TheVariants as word
+use Rattle.fp_lexer.specs.declared.token.Token.{Token}
+use Rattle.fp_lexer.specs.Bytes.{indent_at}
+use Rattle.fp_lexer.specs.Newlines.{Ground, ignores, ignored, after, after_newline, is_newline, ignored_by_rest, kept}
+use Rattle.fp_lexer.specs.Tokens.{Spells, Spelled, Piece, Cuts, Lexed, tokens_of, with_token, span_at, IsPiece}
+use Rattle.fp_tree.specs.declared.member.Member.{Member}
+use Rattle.fp_parse_defs.specs.Reading.{limit}
+use Rattle.fp_parse_parts.specs.Units.{SpellsUnit}
+use Rattle.fp_sites.specs.Written.{IsWritten, NamesAreWritten}
+use Rattle.fp_sites.proofs.Words.{IsTold}
+use Rattle.fp_sites.proofs.Members.{names_of_all, all_yield}
+
+-- newlines that don't count are left out
+either_each : {A : Type 0} (P : A → Type 0) (b : Bool) (xs ys : List A) → Each P xs → Each P ys → Each P (cond b xs ys)
+either_each P true xs ys h k = h
+either_each P false xs ys h k = k
+
+kept_each : (P : Token → Type 0) (here : Ground) (ts : List Token) → Each P ts → Each P (kept here ts)
+kept_each P here [] h = tt
+kept_each P here (t ∷ ts) h =
+    let newline = kept_each P (after_newline here) ts h.1 in
+    either_each P (is_newline t.what) _ _
+    (either_each P (ignores here || ignored_by_rest ts) (kept (after_newline here) ts) (t ∷ kept (after_newline here) ts) newline (h.0, newline))
+    (h.0, kept_each P (after here t.what) ts h.1)
+
+-- the name of such a token is written
+abbrev HasName : ℕ → List ℕ → Token → Type 0
+HasName file text t = (s : List ℕ) → t.what ≡ word.Name s → IsWritten file text (record { text = s; at = t.at })
+
+only_spelled : (indent : ℕ) (rest w s : List ℕ) → Spells indent rest w (Some (word.Name s)) → Spelled w (Some (word.Name s))
+only_spelled indent rest w s (inl h) = h
+only_spelled indent rest w s (inr h) = absurd h
+
+one_written : (file : ℕ) (text : List ℕ) (p : Piece) (v : Word) → p.what ≡ Some v → IsPiece text p → HasName file text (record { what = v; at = span_at file text p.from p.past })
+one_written file text p v e piece s f =
+    let named : p.what ≡ Some (word.Name s) = e ∙ ap (λ (u : Word). Some u) f in
+    record {
+      at = p.from;
+      w = piece.0;
+      more = piece.1.more;
+      stands = piece.1.splits;
+      spelled = only_spelled (indent_at text p.from) (drop p.from text) piece.0 s (subst (λ (o : Option Word). Spells (indent_at text p.from) (drop p.from text) piece.0 o) named piece.1.spelled);
+      place = refl;
+    }
+
+with_written : (file : ℕ) (text : List ℕ) (p : Piece) (o : Option Word) (ts : List Token) → p.what ≡ o → IsPiece text p → Each (HasName file text) ts → Each (HasName file text) (with_token o (span_at file text p.from p.past) ts)
+with_written file text p None ts e piece h = h
+with_written file text p (Some v) ts e piece h = (one_written file text p v e piece, h)
+
+all_written : (file : ℕ) (text : List ℕ) (from to : ℕ) (ps : List Piece) → Cuts text from ps to → Each (HasName file text) (tokens_of file text ps)
+all_written file text from to [] c = tt
+all_written file text from to (p ∷ ps) c = with_written file text p p.what _ refl c.1 (all_written file text p.past to ps c.2)
+
+-- nothing is said of a place
+abbrev Anywhere : Place → Type 0
+Anywhere place = Unit {0}
+
+pub written : (file : ℕ) (text : List ℕ) (tokens : List Token) (ms : List Member) → Lexed file text tokens → SpellsUnit tokens ms → NamesAreWritten file text ms
+written file text tokens ms (ps, c, e) spelled name there =
+    let has = subst (Each (HasName file text)) (sym e) (kept_each (HasName file text) ignored _ (all_written file text 0 (length text) ps c)) in
+    let told = each_weaker (HasName file text) (IsTold Anywhere (IsWritten file text)) (λ t h. record { begins = tt; named = h }) tokens has in
+    let all = (all_yield Anywhere (IsWritten file text) limit limit).given tokens ms spelled told in
+    of_contained (IsWritten file text) _ name (names_of_all Anywhere (IsWritten file text) ms all) there
