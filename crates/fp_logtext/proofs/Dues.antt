@@ -6,7 +6,7 @@ use Rattle.fp_base.specs.declared.value.Value.{Value}
 use Rattle.fp_tables.proofs.Alls.{both}
 use Rattle.fp_tables.specs.Lists.{some_and}
 use Rattle.fp_tables.specs.Lookup.{Described, wire_from}
-use Rattle.fp_tables.specs.Names.{is_name}
+use Rattle.fp_base.specs.Names.{is_name}
 use Rattle.fp_tables.specs.Positions.{port_of}
 use Rattle.fp_tables.specs.declared.component.Port.{Port as PortOf}
 use Rattle.fp_tables.specs.declared.component.Role.{Role}

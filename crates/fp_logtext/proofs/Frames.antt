@@ -7,7 +7,7 @@ use Rattle.fp_base.proofs.Sameness.{nat_same}
 use Rattle.fp_tables.proofs.Alls.{both}
 use Rattle.fp_tables.specs.Lists.{some_and}
 use Rattle.fp_tables.specs.Lookup.{Described}
-use Rattle.fp_tables.specs.Names.{is_name}
+use Rattle.fp_base.specs.Names.{is_name}
 use Rattle.fp_tables.specs.Positions.{port_of}
 use Rattle.fp_tables.specs.Acts.{has_role}
 use Rattle.fp_tables.specs.Programs.{is_general_output}

@@ -5,7 +5,7 @@ use Rattle.std.proofs.lemmas.List.Folds.{list_all-map}
 use Rattle.fp_base.specs.declared.value.Value.{Value}
 use Rattle.fp_tables.proofs.Alls.{both, all_get}
 use Rattle.fp_tables.specs.Lookup.{Described, component_of}
-use Rattle.fp_tables.specs.Names.{is_name}
+use Rattle.fp_base.specs.Names.{is_name}
 use Rattle.fp_tables.specs.Sound.{IsSound}
 use Rattle.fp_tables.specs.SoundPrograms.{IsSoundProgram}
 use Rattle.fp_tables.specs.declared.component.Channel.{Channel}

@@ -5,7 +5,7 @@ use Rattle.fp_tables.specs.Acts.{command_of, has_role, machine_at, result_at}
 use Rattle.fp_tables.specs.Arguments.{is_one_kind}
 use Rattle.fp_tables.specs.Lists.{some_and}
 use Rattle.fp_tables.specs.Lookup.{Described, component_of}
-use Rattle.fp_tables.specs.Names.{is_name}
+use Rattle.fp_base.specs.Names.{is_name}
 use Rattle.fp_tables.specs.Positions.{port_of}
 use Rattle.fp_tables.specs.Programs.{is_general_input, is_general_output, is_internal, returned_at}
 use Rattle.fp_tables.specs.Types.{has_kind}

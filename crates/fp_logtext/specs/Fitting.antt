@@ -6,7 +6,7 @@ use Rattle.fp_base.specs.declared.value.Value.{Value}
 use Rattle.fp_tables.specs.Acts.{result_at}
 use Rattle.fp_tables.specs.Lists.{if_some, some_and}
 use Rattle.fp_tables.specs.Lookup.{Described}
-use Rattle.fp_tables.specs.Names.{is_name}
+use Rattle.fp_base.specs.Names.{is_name}
 use Rattle.fp_tables.specs.Positions.{port_of}
 use Rattle.fp_tables.specs.Types.{has_kind, have_kinds}
 use Rattle.fp_tables.specs.declared.kind.Kind.{Kind}

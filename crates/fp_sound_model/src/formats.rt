@@ -1,5 +1,6 @@
 ghost use Rattle.std.specs.Prelude.{◌≡◌, ◌++◌, flat_map, false, true, OnOk, IfOk};
-ghost use Rattle.fp_tables.specs.Formats.{doubled, spelled, is_plain, are_whole};
+ghost use Rattle.fp_base.specs.Formats.{doubled, spelled, are_whole};
+ghost use Rattle.fp_tables.specs.Formats.{is_plain};
 ghost use Rattle.fp_tables.specs.Components.{reads_its_format};
 
 use fp_base::{NoMemory, Piece, Row};

@@ -1,7 +1,8 @@
 ghost use Rattle.std.specs.Prelude.{◌≡◌, ◌&&◌, ◌==◌, ℕ, map, IfOk};
 ghost use Rattle.std.specs.List.{list_all};
 ghost use Rattle.fp_tables.specs.Lists.{apart};
-ghost use Rattle.fp_tables.specs.Names.{is_name, texts_differ};
+ghost use Rattle.fp_base.specs.Names.{is_name};
+ghost use Rattle.fp_tables.specs.Names.{texts_differ};
 ghost use Rattle.fp_tables.specs.SoundPrograms.{same_place, same_guard};
 ghost use Rattle.fp_tables.specs.declared.program.Caller.{Caller as CallerOf};
 ghost use Rattle.fp_tables.specs.declared.program.Handler.{Handler};

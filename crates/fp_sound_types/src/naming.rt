@@ -1,34 +1,35 @@
 ghost use Rattle.std.specs.Prelude.{◌≡◌};
 ghost use Rattle.std.specs.List.{list_all};
-ghost use Rattle.fp_tables.specs.Names.{begins_name, continues_name, is_name, is_qualified};
+ghost use Rattle.fp_base.specs.Names.{is_letter, is_name_byte, is_name};
+ghost use Rattle.fp_tables.specs.Names.{is_qualified};
 ghost use Rattle.fp_tables.specs.Sound.{formals_have_names};
 
 use fp_base::Text;
 use fp_tables::Formal;
 
-fn begins_name(byte: u8) -> bool
-    ensures { result ≡ begins_name byte }
+fn is_letter(byte: u8) -> bool
+    ensures { result ≡ is_letter byte }
 {
     byte.is_ascii_alphabetic() || byte == b'_'
 }
 
-fn continues_name(byte: u8) -> bool
-    ensures { result ≡ continues_name byte }
+fn is_name_byte(byte: u8) -> bool
+    ensures { result ≡ is_name_byte byte }
 {
-    begins_name(byte) || byte.is_ascii_digit()
+    is_letter(byte) || byte.is_ascii_digit()
 }
 
 fn all_continue(bytes: &[u8]) -> bool
-    ensures { result ≡ list_all continues_name bytes.now }
+    ensures { result ≡ list_all is_name_byte bytes.now }
 {
-    bytes.iter().all(|byte| continues_name(*byte))
+    bytes.iter().all(|byte| is_name_byte(*byte))
 }
 
 pub fn is_name(text: &Text) -> bool
     ensures { result ≡ is_name text.now }
 {
     match text.as_bytes().split_first() {
-        Some((first, rest)) => begins_name(*first) && all_continue(rest),
+        Some((first, rest)) => is_letter(*first) && all_continue(rest),
         None => false,
     }
 }
@@ -41,9 +42,9 @@ pub fn is_qualified(text: &Text) -> bool
         let fits = if *byte == b'.' {
             begun
         } else if begun {
-            continues_name(*byte)
+            is_name_byte(*byte)
         } else {
-            begins_name(*byte)
+            is_letter(*byte)
         };
         if !fits {
             return false;

@@ -1,6 +1,7 @@
 ghost use Rattle.std.specs.Prelude.{◌≡◌, ◌&&◌};
 ghost use Rattle.std.specs.List.{list_all};
-ghost use Rattle.fp_tables.specs.Names.{is_name, is_qualified};
+ghost use Rattle.fp_base.specs.Names.{is_name};
+ghost use Rattle.fp_tables.specs.Names.{is_qualified};
 ghost use Rattle.fp_tables.specs.Sound.{formals_have_names, form_has_names, component_has_names, machine_has_names, own_names_are_names, qualified_names_are_names};
 ghost use Rattle.fp_tables.specs.declared.kind.TypeDef.{TypeDef};
 ghost use Rattle.fp_tables.specs.declared.kind.PortDef.{PortDef};

@@ -3,7 +3,8 @@ use Rattle.std.specs.Prelude.{◌≡◌, ℕ, Bool, true, false, cond, ◌+◌, 
 use Rattle.std.specs.List.{list_all, list_any}
 use Rattle.fp_base.specs.Same.{same_int}
 use Rattle.fp_tables.specs.Lists.{apart}
-use Rattle.fp_tables.specs.Names.{is_name, texts_differ}
+use Rattle.fp_base.specs.Names.{is_name}
+use Rattle.fp_tables.specs.Names.{texts_differ}
 use Rattle.fp_tables.specs.Components.{is_from_1_to}
 use Rattle.fp_tables.specs.Lookup.{Described, component_of, placed}
 use Rattle.fp_tables.specs.declared.component.Way.{Way}

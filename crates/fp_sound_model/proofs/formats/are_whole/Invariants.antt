@@ -1,5 +1,5 @@
 use Rattle.std.proofs.Common.{◌≡◌, false, drop}
-use Rattle.fp_tables.specs.Formats.{are_whole}
+use Rattle.fp_base.specs.Formats.{are_whole}
 use Rattle.fp_sound_model.proofs.formats.are_whole.Given as goal
 
 abbrev pub invariant-loop-piece : goal.invariant-loop-piece

@@ -1,6 +1,6 @@
 use Rattle.std.proofs.Common.{◌≡◌, ◌++◌, take}
 use Rattle.std.specs.Prelude.{flat_map}
-use Rattle.fp_tables.specs.Formats.{doubled}
+use Rattle.fp_base.specs.Formats.{doubled}
 use Rattle.fp_sound_model.proofs.formats.write_plain.Given as goal
 
 abbrev pub invariant-loop-byte : goal.invariant-loop-byte

@@ -1,6 +1,6 @@
 use Rattle.std.proofs.Common.{◌≡◌, true, take}
 use Rattle.std.specs.List.{list_all}
-use Rattle.fp_tables.specs.Names.{is_name}
+use Rattle.fp_base.specs.Names.{is_name}
 use Rattle.fp_sound_types.proofs.own_names.have_names.Given as goal
 
 abbrev pub invariant-loop-item : goal.invariant-loop-item

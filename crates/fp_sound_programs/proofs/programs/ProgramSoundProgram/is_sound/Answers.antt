@@ -1,7 +1,8 @@
 use Rattle.std.proofs.Common.{◌∙◌, List, ap, map, sym, length}
 use Rattle.std.specs.List.{list_all}
 use Rattle.fp_tables.specs.Lists.{apart}
-use Rattle.fp_tables.specs.Names.{is_name, texts_differ}
+use Rattle.fp_base.specs.Names.{is_name}
+use Rattle.fp_tables.specs.Names.{texts_differ}
 use Rattle.fp_tables.specs.Components.{is_from_1_to}
 use Rattle.fp_tables.specs.Programs.{caller_acts_suit, handler_suits, answers_suit}
 use Rattle.fp_tables.specs.SoundPrograms.{same_place, same_guard}
