@@ -1,19 +1,16 @@
 -- What a cell owes at each of its answers.
-use Rattle.std.proofs.Common.{◌≡◌, ◌≤◌, ◌<◌, ℕ, ℤ, suc, max, Bool, true, false, List, [], ◌∷◌, ◌++◌, Option, Some, None, is_some, not, refl, sym, ap, ap₂, ◌∙◌, subst, arith}
+use Rattle.std.proofs.Common.{◌≡◌, ◌≤◌, ◌<◌, ℕ, ℤ, suc, max, true, List, [], ◌∷◌, ◌++◌, Some, None, is_some, not, refl, sym, ap, ap₂, ◌∙◌, subst, arith}
 use Rattle.fp_tables.specs.Sound.{IsSound}
 use Rattle.fp_events.proofs.Waiting.{tells_or_waits}
-use Rattle.fp_events.specs.Fits.{actor_count, is_placed, what_fits, fits}
+use Rattle.fp_events.specs.Fits.{actor_count, fits, ask_fits}
 use Rattle.fp_events.specs.Instance.{Inside as Left, InstanceState}
 use Rattle.fp_system.specs.Run.{Kept}
-use Rattle.fp_events.specs.Leaves.{leaves}
 use Rattle.fp_events.specs.Step.{core, instance_part, stamped}
 use Rattle.fp_events.specs.Tells.{tells}
-use Rattle.fp_events.specs.Waits.{waits, is_there}
+use Rattle.fp_events.specs.Waits.{waits}
 use Rattle.fp_events.specs.declared.event.Ask.{Ask}
 use Rattle.fp_events.specs.declared.event.Entry.{Entry}
 use Rattle.fp_events.specs.declared.event.What.{What}
-use Rattle.fp_cell.specs.Askable.{is_askable}
-use Rattle.fp_cell.specs.Cells.{Standing}
 use Rattle.fp_cell.specs.Kept.{standing, IsKept}
 use Rattle.fp_cell.specs.Kinded.{IsKinded}
 use Rattle.fp_cell.specs.Ready.{IsReady}
@@ -24,7 +21,7 @@ use Rattle.fp_cell.specs.declared.cell.Cell.TheInside.{Inside}
 use Rattle.fp_cell.specs.declared.setting.Setting.{Setting}
 use Rattle.fp_cell.specs.declared.state.State.{State}
 use Rattle.fp_cell.proofs.Goes.{GoesOn, asked_there, goes_on_well}
-use Rattle.fp_cell.proofs.KindsOf.{some_of}
+use Rattle.fp_base.proofs.Options.{some_of}
 use Rattle.fp_cell.proofs.Machines.{machines_go_well}
 use Rattle.fp_cell.proofs.Parts.{good_parts}
 use Rattle.fp_cell.proofs.Stamped.{fits_of, part_of, goes_on}
@@ -34,20 +31,20 @@ module _ (s : Setting) (x : State) (ready : IsReady s x) where
   sound = ready.sound.0
 
   -- an ask with nothing against it is told something
-  pub told_some : (q : Ask) → is_askable s.tables.now s.program.now s.instance q ≡ true → waits s.tables.now s.instance (inside x) q ≡ None
+  pub told_some : (q : Ask) → ask_fits s.tables.now s.program.now s.instance q ≡ true → waits s.tables.now s.instance (inside x) q ≡ None
       → (w : What) × (tells s.tables.now s.program.now s.instance (inside x) q ≡ Some w)
   told_some q can free =
       let there = asked_there s.tables.now s.program.now s.instance 0 (inside x) (good_parts s.tables.now s.instance sound) (machines_go_well s.tables.now s.program.now s.instance sound) ready.kinded q can in
       some_of (tells s.tables.now s.program.now s.instance (inside x) q)
       (tells_or_waits s.tables.now s.program.now s.instance (inside x) q there ∙ ap (λ o. not (is_some o)) free)
 
-  pub well : (a : ℕ) (q : Ask) (w : What) → is_askable s.tables.now s.program.now s.instance q ≡ true → tells s.tables.now s.program.now s.instance (inside x) q ≡ Some w
+  pub well : (a : ℕ) (q : Ask) (w : What) → ask_fits s.tables.now s.program.now s.instance q ≡ true → tells s.tables.now s.program.now s.instance (inside x) q ≡ Some w
       → GoesOn s.tables.now s.program.now s.instance a (inside x) (good_parts s.tables.now s.instance sound) (machines_go_well s.tables.now s.program.now s.instance sound) ready.kinded w
   well a q w can told =
       goes_on_well s.tables.now s.program.now s.instance a (inside x) (good_parts s.tables.now s.instance sound) (machines_go_well s.tables.now s.program.now s.instance sound) ready.kinded q w can told
 
 module _ (c : Inside) (k : IsKept c) (actor seen : ℕ) (q : Ask) (few : actor < actor_count c.setting.tables.now c.setting.program.now)
-    (can : is_askable c.setting.tables.now c.setting.program.now c.setting.instance q ≡ true) where
+    (can : ask_fits c.setting.tables.now c.setting.program.now c.setting.instance q ≡ true) where
   fit : (w : What) → tells c.setting.tables.now c.setting.program.now c.setting.instance (inside c.state) q ≡ Some w → fits c.setting.tables.now c.setting.program.now actor c.setting.instance w ≡ true
   fit w told = fits_of c.setting.tables.now c.setting.program.now c.setting.instance actor w few k.placed (well c.setting c.state k.ready actor q w can told).fits
 

@@ -1,20 +1,21 @@
 -- What is known of an ask that may be asked and has nothing against it.
-use Rattle.std.proofs.Common.{◌≡◌, ◌≢◌, ◌<◌, ℕ, ℤ, nat_lt, subst, arith, Bool, true, false, List, [], ◌∷◌, map, Option, Some, None, option_map, option_and_then, unwrap_or, is_some, refl, sym, ap, ◌∙◌, slice_get}
+use Rattle.std.proofs.Common.{◌≡◌, ◌≢◌, ◌<◌, ℕ, ℤ, nat_lt, subst, arith, Bool, true, false, List, [], ◌∷◌, Option, Some, None, option_map, option_and_then, unwrap_or, is_some, refl, sym, ap, ◌∙◌, slice_get}
+use Rattle.fp_tables.specs.Specials.{component}
+use Rattle.fp_base.proofs.Options.{then_some, same_some, some_of}
+use Rattle.fp_base.proofs.Lists.{all_get}
 use Rattle.fp_base.specs.declared.value.Value.{Value}
-use Rattle.fp_tables.proofs.Alls.{both, all_get}
+use Rattle.fp_base.proofs.Bools.{both}
 use Rattle.fp_tables.specs.Components.{agrees_with_formals}
 use Rattle.fp_tables.specs.Lookup.{Described}
 use Rattle.fp_tables.specs.Sound.{IsSound}
 use Rattle.fp_tables.specs.Types.{have_kinds}
 use Rattle.fp_tables.specs.declared.component.Channel.{Channel}
 use Rattle.fp_tables.specs.declared.component.Event.{Event}
-use Rattle.fp_tables.specs.declared.kind.Kind.{Kind}
 use Rattle.fp_tables.specs.declared.machine.Machine.{Machine}
 use Rattle.fp_tables.specs.declared.program.Program.{Program}
-use Rattle.fp_events.proofs.StepLaws.{then_some, some_is}
-use Rattle.fp_events.specs.Fits.{place_kinds, point_fits, origin_fits, value_fits, signal_at}
-use Rattle.fp_events.specs.Instance.{Inside, Pending, Holding}
-use Rattle.fp_events.specs.Lookup.{component, machine}
+use Rattle.fp_events.specs.Fits.{place_kinds, point_fits, origin_fits, value_fits, signal_at, ask_fits, event_takes}
+use Rattle.fp_events.specs.Instance.{Inside, Pending}
+use Rattle.fp_events.specs.Lookup.{machine}
 use Rattle.fp_events.specs.Manners.{Manner, by, manner}
 use Rattle.fp_events.specs.declared.event.Point.{Point}
 use Rattle.fp_tables.specs.declared.component.Full.{Full}
@@ -28,12 +29,11 @@ use Rattle.fp_events.specs.declared.event.Arrival.{Arrival}
 use Rattle.fp_events.specs.declared.event.Ask.TheVariants as ask
 use Rattle.fp_events.specs.declared.event.Why.{Why}
 use Rattle.fp_formats.specs.Fits.{fits}
-use Rattle.fp_cell.specs.Askable.{is_askable, event_takes}
 use Rattle.fp_cell.specs.Kinded.{IsKinded}
 use Rattle.fp_cell.specs.Seen.{holder}
 use Rattle.fp_cell.specs.declared.guard.Holding.{Holding as Held}
 use Rattle.fp_cell.proofs.Formats.{values_fit}
-use Rattle.fp_cell.proofs.KindsOf.{some_of, mapped_test_of, there_at}
+use Rattle.fp_cell.proofs.KindsOf.{mapped_test_of, there_at}
 use Rattle.fp_cell.proofs.Parts.{good_parts}
 
 pub guard_free : (g : Option Held) → held_by (holder g) ≡ None → g ≡ None
@@ -56,27 +56,27 @@ module _ (t : Described) (program : Program) (i : ℕ) where
   unfolding waits
   free_manner s r m free how = ap (option_and_then (arrival_waits t i s)) (sym how) ∙ free
 
-  pub has_manner : (r : Arrival) → is_askable t program i (ask.Arrive r) ≡ true → manner t i r.point ≡ None → ⊥
-  unfolding is_askable
+  pub has_manner : (r : Arrival) → ask_fits t program i (ask.Arrive r) ≡ true → manner t i r.point ≡ None → ⊥
+  unfolding ask_fits
   has_manner r can how =
       let fit = (both (point_fits t program i r.point r.with) (origin_fits t program r.origin) can).0 in
       let there : is_some (manner t i r.point) ≡ true =
       (both (is_some (manner t i r.point)) (unwrap_or (option_map (λ ks. have_kinds t.model.types ks r.with) (place_kinds t program i r.point)) false) fit).0 in
       absurd (cc (rw how at there))
 
-  pub has_event : (event : ℕ) (with : List Value) → is_askable t program i (ask.Emit event with) ≡ true → slice_get (component t i).events event ≡ None → ⊥
-  unfolding is_askable
+  pub has_event : (event : ℕ) (with : List Value) → ask_fits t program i (ask.Emit event with) ≡ true → slice_get (component t i).events event ≡ None → ⊥
+  unfolding ask_fits
   has_event event with can none =
       let e : slice_get (component t i).events event ≡ Some (mapped_test_of (event_takes t program with) (slice_get (component t i).events event) can).0 =
       (mapped_test_of (event_takes t program with) (slice_get (component t i).events event) can).1 in
       absurd (cc)
 
-  pub event_filled : IsSound t.model → (event : ℕ) (with : List Value) (e : Event) → is_askable t program i (ask.Emit event with) ≡ true → slice_get (component t i).events event ≡ Some e
+  pub event_filled : IsSound t.model → (event : ℕ) (with : List Value) (e : Event) → ask_fits t program i (ask.Emit event with) ≡ true → slice_get (component t i).events event ≡ Some e
       → fits e.fields.parts with ≡ true
-  unfolding is_askable
+  unfolding ask_fits
   event_filled sound event with e can found =
       let x = mapped_test_of (event_takes t program with) (slice_get (component t i).events event) can in
-      let same : x.0 ≡ e = some_is x.0 e (sym x.1 ∙ found) in
+      let same : x.0 ≡ e = same_some (sym x.1 ∙ found) in
       values_fit t.model.types e.fields.parts e.formals with
       (all_get (agrees_with_formals t.model.types) (component t i).events event e (good_parts t i sound).formats found)
       (ap (event_takes t program with) (sym same) ∙ x.2)
@@ -85,16 +85,16 @@ module _ (t : Described) (program : Program) (i : ℕ) where
   no_kind None v h none = absurd (cc)
   no_kind (Some c) v h none = absurd (cc)
 
-  pub has_channel : (channel : ℕ) (v : Value) → is_askable t program i (ask.Write channel v) ≡ true → slice_get (component t i).channels channel ≡ None → ⊥
-  unfolding is_askable
+  pub has_channel : (channel : ℕ) (v : Value) → ask_fits t program i (ask.Write channel v) ≡ true → slice_get (component t i).channels channel ≡ None → ⊥
+  unfolding ask_fits
   has_channel channel v can none = no_kind (slice_get (component t i).channels channel) v can none
 
-  pub has_param : (s : Inside) (param : ℕ) → IsKinded t program i s → is_askable t program i (ask.Read param) ≡ true → is_some (slice_get s.params param) ≡ true
-  unfolding is_askable
+  pub has_param : (s : Inside) (param : ℕ) → IsKinded t program i s → ask_fits t program i (ask.Read param) ≡ true → is_some (slice_get s.params param) ≡ true
+  unfolding ask_fits
   has_param s param kinded can = sym (there_at t.model.types (component t i).params s.params param kinded.params) ∙ can
 
-  pub has_machine : (running signal : ℕ) (v : Option Value) → is_askable t program i (ask.Advance running signal v) ≡ true → is_some (machine t i running) ≡ true
-  unfolding is_askable
+  pub has_machine : (running signal : ℕ) (v : Option Value) → ask_fits t program i (ask.Advance running signal v) ≡ true → is_some (machine t i running) ≡ true
+  unfolding ask_fits
   has_machine running signal v can =
       let named = some_of (signal_at t program i running signal) can in
       ap is_some (then_some (λ (m : Machine). slice_get m.signals signal) (machine t i running) named.0 named.1).1

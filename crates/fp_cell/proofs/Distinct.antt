@@ -1,5 +1,5 @@
 -- The numbers of a set are its list's, each once.
-use Rattle.std.proofs.Common.{◌≡◌, ◌≢◌, ◌<◌, ℕ, ℤ, List, Ordering, Less, Equal, length, get_or}
+use Rattle.std.proofs.Common.{◌≡◌, ◌≢◌, ℤ, List, Less, Equal, get_or}
 use Rattle.std.specs.BTreeSet.{BTreeSet, IsFromIterResult}
 use Rattle.std.specs.Cmp.{int_cmp_is}
 use Rattle.std.specs.List.{AllPairs, Contains}

@@ -1,13 +1,14 @@
 -- The flat machines of an instance, by their numbers.
 use Rattle.std.proofs.Common.{◌≡◌, ℕ, zero, suc, List, [], ◌∷◌, map, Option, Some, None, option_map, option_and_then, unwrap_or, slice_get, refl, sym, ap, ◌∙◌}
+use Rattle.fp_tables.specs.Specials.{no_parts}
 use Rattle.fp_tables.specs.Lookup.{Described, component_of}
 use Rattle.fp_tables.specs.Sound.{IsSound}
 use Rattle.fp_tables.specs.declared.component.Component.{Component}
 use Rattle.fp_tables.specs.declared.component.Running.{Running}
 use Rattle.fp_tables.specs.declared.machine.Machine.{Machine}
 use Rattle.fp_tables.specs.declared.topology.Instance.{Instance}
-use Rattle.fp_events.proofs.StepLaws.{then_some}
-use Rattle.fp_events.specs.Lookup.{component, machine, no_parts}
+use Rattle.fp_base.proofs.Options.{then_some}
+use Rattle.fp_events.specs.Lookup.{machine}
 use Rattle.fp_machine_flat.specs.Flat.{Flat}
 use Rattle.fp_cell.specs.Settled.{IsRunnable}
 use Rattle.fp_cell.proofs.Machines.{runnable}

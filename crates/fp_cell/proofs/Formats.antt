@@ -1,16 +1,15 @@
 -- Values of the kinds of an event's formals fill its format.
-use Rattle.std.proofs.Common.{◌≡◌, ℕ, ℤ, Bool, true, false, ◌&&◌, List, [], ◌∷◌, map, refl, sym, ap, ◌∙◌}
+use Rattle.std.proofs.Common.{◌≡◌, ℤ, Bool, true, ◌&&◌, List, [], ◌∷◌, map, refl}
 use Rattle.fp_base.specs.declared.format.Piece.{Piece}
 use Rattle.fp_base.specs.declared.format.Piece.TheVariants as piece
-use Rattle.fp_base.specs.declared.value.Value.{Value, Int, Bool as Truth, Text, Enumerated, Array', Struct', Opaque}
-use Rattle.fp_tables.proofs.Alls.{both}
+use Rattle.fp_base.specs.declared.value.Value.{Value, Int}
+use Rattle.fp_base.proofs.Bools.{both, join}
 use Rattle.fp_tables.specs.Formats.{suits, agree}
 use Rattle.fp_tables.specs.Types.{Shape, integer, truth, words, array, struct, constants, opaque, nothing, shape, has, has_kind, have_kinds, is_integer}
 use Rattle.fp_tables.specs.declared.kind.Formal.{Formal}
 use Rattle.fp_tables.specs.declared.kind.Kind.{Kind}
 use Rattle.fp_tables.specs.declared.kind.TypeDef.{TypeDef}
 use Rattle.fp_formats.specs.Fits.{takes, fits, is_integer as is_number}
-use Rattle.fp_cell.proofs.KindsOf.{join_true}
 
 module _ (types : List TypeDef) where
   number_in : (low high : ℤ) (v : Value) → has types (integer low high) v ≡ true → is_number v ≡ true
@@ -44,7 +43,7 @@ module _ (types : List TypeDef) where
   one_field p f v rest fitting more then h k =
       let a = both (suits types p f) rest h in
       let b = both (has_kind types f.kind v) more k in
-      join_true (takes p v) fitting (taken p f v a.0 b.0) (then a.1 b.1)
+      join (takes p v) fitting (taken p f v a.0 b.0) (then a.1 b.1)
 
   pub values_fit : (ps : List Piece) (fs : List Formal) (vs : List Value) → agree types ps fs ≡ true → have_kinds types (map (λ (f : Formal). f.kind) fs) vs ≡ true → fits ps vs ≡ true
   values_fit [] [] [] h k = refl

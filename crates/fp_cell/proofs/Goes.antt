@@ -1,15 +1,16 @@
 -- What an instance tells for what may be asked fits, and what it leaves is kinded.
-use Rattle.std.proofs.Common.{◌≡◌, ℕ, suc, Bool, true, false, cond, ◌&&◌, nat_lt, length, List, [], ◌∷◌, ◌++◌, map, set, get_or, Option, Some, None, option_map, option_and_then, unwrap_or, is_some, refl, sym, ap, ◌∙◌, subst, slice_get, int_lt, ◌⊎◌, inl, inr, arith}
-use Rattle.std.proofs.lemmas.Bool.Decides.{nat_tests}
+use Rattle.std.proofs.Common.{◌≡◌, ℕ, suc, Bool, true, false, cond, nat_lt, length, List, [], ◌∷◌, ◌++◌, map, set, get_or, Option, Some, None, option_map, option_and_then, unwrap_or, is_some, refl, sym, ap, ◌∙◌, subst, slice_get, int_lt, ◌⊎◌, inl, inr}
 use Rattle.std.specs.List.{list_all}
-use Rattle.std.proofs.Common.{◌==◌, ◌<◌}
-use Rattle.std.proofs.lemmas.Option.{slice_get_within}
+use Rattle.std.proofs.Common.{◌==◌}
+use Rattle.fp_tables.specs.Specials.{component}
+use Rattle.fp_base.proofs.Options.{mapped_some, then_some, same_some, some_of}
+use Rattle.fp_base.proofs.Lists.{all_get, get_below}
 use Rattle.fp_tables.specs.declared.kind.Kind.{Kind}
 use Rattle.fp_base.specs.declared.value.Value.{Value}
-use Rattle.fp_tables.proofs.Alls.{both, all_get}
+use Rattle.fp_base.proofs.Bools.{both, join}
 use Rattle.fp_tables.specs.Components.{takes_its_value}
 use Rattle.fp_tables.specs.Lookup.{Described}
-use Rattle.fp_tables.specs.Types.{has_kind, have_kinds}
+use Rattle.fp_tables.specs.Types.{have_kinds}
 use Rattle.fp_tables.specs.declared.component.Channel.{Channel}
 use Rattle.fp_tables.specs.declared.component.Command.{Command}
 use Rattle.fp_tables.specs.declared.component.Event.{Event}
@@ -26,19 +27,17 @@ use Rattle.fp_tables.specs.declared.component.Way.{Way}
 use Rattle.fp_tables.specs.declared.component.Way.TheVariants.{Later, Sync, Guarded}
 use Rattle.fp_tables.specs.declared.machine.Machine.{Machine}
 use Rattle.fp_tables.specs.declared.machine.Named.{Named}
-use Rattle.fp_tables.specs.declared.machine.Vertex.{Vertex}
 use Rattle.fp_tables.specs.declared.program.Program.{Program}
-use Rattle.fp_events.proofs.StepLaws.{mapped_some, then_some, some_is}
-use Rattle.fp_events.specs.Fits.{kinds, place_kinds, point_fits, origin_fits, arrival_fits, value_fits, saved_kind, signal_at, actions_fit, going_fits, what_fits}
+use Rattle.fp_events.specs.Fits.{kinds, place_kinds, point_fits, origin_fits, arrival_fits, value_fits, saved_kind, signal_at, going_fits, what_fits, ask_fits, event_takes}
 use Rattle.fp_events.specs.Instance.{Inside, Pending, Holding}
 use Rattle.fp_events.specs.Leaves.{leaves, with_set, after_going, pending_call}
-use Rattle.fp_events.specs.Lookup.{component, machine, answers_of, queue_size}
-use Rattle.fp_events.specs.Machine.{Configuration, Walk, starts, moves, node}
+use Rattle.fp_events.specs.Lookup.{machine, answers_of, queue_size}
+use Rattle.fp_events.specs.Machine.{Configuration, Walk, starts, moves}
 use Rattle.fp_events.specs.Manners.{Manner, by, sets, saves, manner, input_manner, internal_manner, command_manner}
 use Rattle.fp_events.specs.Queue.{greater, next_call, without, overflows, takes}
 use Rattle.fp_events.specs.Waits.{is_there, manner_there}
 use Rattle.fp_tables.specs.Positions.{part_lies}
-use Rattle.fp_events.specs.Tells.{tells, arrives, guards, emits, emit_fate, writes, write_fate, advances, goes_on, machine_of}
+use Rattle.fp_events.specs.Tells.{tells, arrives, guards, emits, writes, advances, goes_on, configuration_of}
 use Rattle.fp_events.specs.declared.event.Arrival.{Arrival}
 use Rattle.fp_events.specs.declared.event.Ask.{Ask}
 use Rattle.fp_events.specs.declared.event.Ask.TheVariants as ask
@@ -46,10 +45,9 @@ use Rattle.fp_events.specs.declared.event.Point.{Point}
 use Rattle.fp_events.specs.declared.event.Point.TheVariants.{Port, Command as OfCommand, Post, Signal}
 use Rattle.fp_events.specs.declared.event.What.{What}
 use Rattle.fp_events.specs.declared.event.What.TheVariants as what
-use Rattle.fp_machine_flat.specs.Moving.{is_leaf, has_no_initial}
-use Rattle.fp_cell.specs.Askable.{is_askable, event_takes}
+use Rattle.fp_machine_flat.specs.Moving.{is_leaf}
 use Rattle.fp_cell.specs.Kinded.{IsKinded}
-use Rattle.fp_cell.proofs.KindsOf.{some_of, mapped_test_of, get_below, join_true, kind_at, there_at, kinds_set, Sets, set_value, set_read}
+use Rattle.fp_cell.proofs.KindsOf.{mapped_test_of, kind_at, there_at, kinds_set, Sets, set_value, set_read}
 use Rattle.fp_cell.proofs.Parts.{HasGoodParts}
 
 -- ---- the queue
@@ -59,11 +57,11 @@ next_passes test [] p h e = absurd (cc)
 next_passes test (q ∷ ps) p h e = go (next_call ps) (λ r f. next_passes test ps r (both (test q) (list_all test ps) h).1 f) refl e
   where
     chosen : (b : Bool) (r : Pending) → test r ≡ true → Some (cond b r q) ≡ Some p → test p ≡ true
-    chosen true r good f = ap test (sym (some_is r p f)) ∙ good
-    chosen false r good f = ap test (sym (some_is q p f)) ∙ (both (test q) (list_all test ps) h).0
+    chosen true r good f = ap test (sym (same_some f)) ∙ good
+    chosen false r good f = ap test (sym (same_some f)) ∙ (both (test q) (list_all test ps) h).0
 
     go : (o : Option Pending) → ((r : Pending) → next_call ps ≡ Some r → test r ≡ true) → next_call ps ≡ o → Some (greater q o) ≡ Some p → test p ≡ true
-    go None rest is f = ap test (sym (some_is q p f)) ∙ (both (test q) (list_all test ps) h).0
+    go None rest is f = ap test (sym (same_some f)) ∙ (both (test q) (list_all test ps) h).0
     go (Some r) rest is f = chosen (int_lt q.priority r.priority) r (rest r is) f
 
 without_passes : (test : Pending → Bool) (n : ℕ) (ps : List Pending) → list_all test ps ≡ true → list_all test (without n ps) ≡ true
@@ -72,12 +70,12 @@ without_passes test n (p ∷ ps) h = go (p.number == n) (without_passes test n p
   where
     go : (b : Bool) → list_all test (without n ps) ≡ true → list_all test (cond b ps (p ∷ without n ps)) ≡ true
     go true rest = (both (test p) (list_all test ps) h).1
-    go false rest = join_true (test p) (list_all test (without n ps)) (both (test p) (list_all test ps) h).0 rest
+    go false rest = join (test p) (list_all test (without n ps)) (both (test p) (list_all test ps) h).0 rest
 
 last_passes : (test : Pending → Bool) (ps : List Pending) (p : Pending) → list_all test ps ≡ true → test p ≡ true → list_all test (ps ++ p ∷ []) ≡ true
-last_passes test [] p h e = join_true (test p) true e refl
+last_passes test [] p h e = join (test p) true e refl
 last_passes test (q ∷ ps) p h e =
-    join_true (test q) (list_all test (ps ++ p ∷ [])) (both (test q) (list_all test ps) h).0 (last_passes test ps p (both (test q) (list_all test ps) h).1 e)
+    join (test q) (list_all test (ps ++ p ∷ [])) (both (test q) (list_all test ps) h).0 (last_passes test ps p (both (test q) (list_all test ps) h).1 e)
 
 -- ---- machines
 
@@ -121,14 +119,14 @@ module _ (t : Described) (program : Program) (i a : ℕ) (s : Inside) (good : Ha
 
   guarded : (r : Arrival) (g : Option Holding) (w : What) → arrival_fits t program i r ≡ true → guards r g ≡ Some w → GoesOn w
   unfolding what_fits leaves
-  guarded r None w fit h = subst GoesOn (some_is _ _ h) (record { fits = fit; left = unmoved _ refl refl refl })
+  guarded r None w fit h = subst GoesOn (same_some h) (record { fits = fit; left = unmoved _ refl refl refl })
   guarded r (Some held) w fit h = absurd (cc)
 
   overflowed : (r : Arrival) (policy : Full) (w : What) → arrival_fits t program i r ≡ true → overflows r policy ≡ Some w → GoesOn w
   unfolding what_fits leaves
-  overflowed r full.Dropped w fit h = subst GoesOn (some_is _ _ h) (record { fits = fit; left = is })
-  overflowed r full.Hook w fit h = subst GoesOn (some_is _ _ h) (record { fits = fit; left = is })
-  overflowed r full.Assert w fit h = subst GoesOn (some_is _ _ h) (record { fits = fit; left = is })
+  overflowed r full.Dropped w fit h = subst GoesOn (same_some h) (record { fits = fit; left = is })
+  overflowed r full.Hook w fit h = subst GoesOn (same_some h) (record { fits = fit; left = is })
+  overflowed r full.Assert w fit h = subst GoesOn (same_some h) (record { fits = fit; left = is })
   overflowed r full.Block w fit h = absurd (cc)
 
   point_of : (r : Arrival) → arrival_fits t program i r ≡ true → point_fits t program i r.point r.with ≡ true
@@ -148,7 +146,7 @@ module _ (t : Described) (program : Program) (i a : ℕ) (s : Inside) (good : Ha
 
   put_or_not : (room : Bool) (r : Arrival) (number : ℕ) (policy : Full) (w : What) → arrival_fits t program i r ≡ true
       → cond room (Some (what.Put number r)) (overflows r policy) ≡ Some w → GoesOn w
-  put_or_not true r number policy w fit h = subst GoesOn (some_is _ _ h) (put_last r number fit)
+  put_or_not true r number policy w fit h = subst GoesOn (same_some h) (put_last r number fit)
   put_or_not false r number policy w fit h = overflowed r policy w fit h
 
   -- ---- set and save
@@ -183,7 +181,7 @@ module _ (t : Described) (program : Program) (i a : ℕ) (s : Inside) (good : Ha
       let fitting = mapped_test_of (λ ks. have_kinds t.model.types ks vs) (place_kinds t program i (OfCommand n))
       (both (is_some (manner t i (OfCommand n))) (unwrap_or (option_map (λ ks. have_kinds t.model.types ks vs) (place_kinds t program i (OfCommand n))) false) fit).1 in
       let same : kinds t program c.0.formals ≡ fitting.0 =
-      some_is _ _ (sym (ap (option_map (λ (x : Command). kinds t program x.formals)) found) ∙ fitting.1) in
+      same_some (sym (ap (option_map (λ (x : Command). kinds t program x.formals)) found) ∙ fitting.1) in
       set_value t.model.types (component t i).params c.0 k vs
       (all_get (takes_its_value (component t i).params) (component t i).commands n c.0 good.commands found)
       (is_set c.0.way c.0.part k c.2)
@@ -203,16 +201,16 @@ module _ (t : Described) (program : Program) (i a : ℕ) (s : Inside) (good : Ha
   save_it r k v fit how found =
       let p = kind_at t.model.types (component t i).params s.params k v is.params found in
       record {
-        fits = join_true (arrival_fits t program i r) (value_fits t program (saved_kind t program i (manner t i r.point)) v) fit
+        fits = join (arrival_fits t program i r) (value_fits t program (saved_kind t program i (manner t i r.point)) v) fit
             (rw (how, p.1) p.2);
         left = unmoved _ refl refl refl;
       }
 
   arrived : (r : Arrival) (m : Manner) (w : What) → arrival_fits t program i r ≡ true → manner t i r.point ≡ Some m → arrives t i s r m ≡ Some w → GoesOn w
-  arrived r (by Sync) w fit how h = subst GoesOn (some_is _ _ h) (entered r fit)
+  arrived r (by Sync) w fit how h = subst GoesOn (same_some h) (entered r fit)
   arrived r (by Guarded) w fit how h = guarded r s.guard w fit h
   arrived r (by (Later priority policy)) w fit how h = put_or_not (nat_lt (length s.pending) (queue_size t i)) r (suc s.puts) policy w fit h
-  arrived r (sets k) w fit how h = subst GoesOn (some_is _ _ h) (set_it r k fit how)
+  arrived r (sets k) w fit how h = subst GoesOn (same_some h) (set_it r k fit how)
   arrived r (saves k) w fit how h =
       let v = mapped_some (λ v. what.Save r v) (slice_get s.params k) w h in
       subst GoesOn v.2 (save_it r k v.0 fit how v.1)
@@ -269,7 +267,7 @@ module _ (t : Described) (program : Program) (i a : ℕ) (s : Inside) (good : Ha
   taken : (turn : Option ℕ) (otherwise : Option What) (next : Option Pending) (w : What) → ((p : Pending) → next ≡ Some p → point_fits t program i p.point p.with ≡ true)
       → ((x : What) → otherwise ≡ Some x → GoesOn x) → takes turn otherwise next ≡ Some w → GoesOn w
   taken turn otherwise None w fit other h = other w h
-  taken None otherwise (Some p) w fit other h = subst GoesOn (some_is _ _ h) (take_it p (fit p refl))
+  taken None otherwise (Some p) w fit other h = subst GoesOn (same_some h) (take_it p (fit p refl))
   taken (Some holder) otherwise (Some p) w fit other h = absurd (cc)
 
   next_fits : (p : Pending) → next_call s.pending ≡ Some p → point_fits t program i p.point p.with ≡ true
@@ -284,7 +282,7 @@ module _ (t : Described) (program : Program) (i a : ℕ) (s : Inside) (good : Ha
       go : (get_or s.machines j None ≡ Some c) ⊎ ((j ≡ running) × (c ≡ w.reached)) → is_leaf n c.leaf ≡ true
       go (inl before) = is.leaves j n c of before
       go (inr now) =
-          let same : n ≡ m = some_is n m (sym of ∙ ap (machine t i) now.0 ∙ found) in
+          let same : n ≡ m = same_some (sym of ∙ ap (machine t i) now.0 ∙ found) in
           ap (λ (x : Configuration). is_leaf n x.leaf) now.1 ∙ ap (λ (x : Machine). is_leaf x w.reached.leaf) same ∙ leaf
 
   going : (k : Option Kind) (running : ℕ) (m : Machine) (w : Walk) → machine t i running ≡ Some m → EndsWell t program m k w
@@ -292,7 +290,7 @@ module _ (t : Described) (program : Program) (i a : ℕ) (s : Inside) (good : Ha
   going k running m w found ends =
       ap (λ (o : Option Machine). going_fits t program k o w.actions w.reached.leaf) found ∙ ends.fits
 
-  after_going_is : (running signal : ℕ) (m : Machine) (o : Option Configuration) → machine t i running ≡ Some m → machine_of s running ≡ o
+  after_going_is : (running signal : ℕ) (m : Machine) (o : Option Configuration) → machine t i running ≡ Some m → configuration_of s running ≡ o
       → after_going t program i s running signal ≡ set s.machines running (Some (goes_on t program i running signal o m).reached)
   after_going_is running signal m o found at = rw (found, at) refl
 
@@ -305,7 +303,7 @@ module _ (t : Described) (program : Program) (i a : ℕ) (s : Inside) (good : Ha
         leaves = λ j n c of started. after_leaf running signal m w found leaf j n c of (ap (λ (xs : List (Option Configuration)). get_or xs j None) (sym machines) ∙ started);
       }
 
-  start_it : (running : ℕ) (m : Machine) → machine t i running ≡ Some m → machine_of s running ≡ None
+  start_it : (running : ℕ) (m : Machine) → machine t i running ≡ Some m → configuration_of s running ≡ None
       → GoesOn (what.Start running (starts m (answers_of program i running)).actions (starts m (answers_of program i running)).reached.leaf)
   unfolding what_fits leaves
   start_it running m found at =
@@ -316,22 +314,22 @@ module _ (t : Described) (program : Program) (i a : ℕ) (s : Inside) (good : Ha
         left = moved _ running 0 m w found ends.leaf refl refl (after_going_is running 0 m None found at);
       }
 
-  move_it : (running signal : ℕ) (m : Machine) (c : Configuration) (named : Named) → machine t i running ≡ Some m → machine_of s running ≡ Some c → signal_at t program i running signal ≡ Some named
+  move_it : (running signal : ℕ) (m : Machine) (c : Configuration) (named : Named) → machine t i running ≡ Some m → configuration_of s running ≡ Some c → signal_at t program i running signal ≡ Some named
       → GoesOn (what.Move running signal (moves m (answers_of program i running) c signal).actions (moves m (answers_of program i running) c signal).reached.leaf)
   unfolding what_fits leaves
   move_it running signal m c named found at signalled =
       let w = moves m (answers_of program i running) c signal in
       let x = then_some (λ (m : Machine). slice_get m.signals signal) (machine t i running) named signalled in
-      let same : x.0 ≡ m = some_is x.0 m (sym x.1 ∙ found) in
+      let same : x.0 ≡ m = same_some (sym x.1 ∙ found) in
       let ends = goes.moving running signal m named c found (ap (λ (n : Machine). slice_get n.signals signal) (sym same) ∙ x.2) (is.leaves running m c found at) in
       record {
-        fits = join_true _ _ (ap is_some signalled)
+        fits = join _ _ (ap is_some signalled)
             (ap (λ (o : Option Named). going_fits t program (option_and_then (λ (n : Named). n.kind) o) (machine t i running) w.actions w.reached.leaf) signalled
             ∙ going named.kind running m w found ends);
         left = moved _ running signal m w found ends.leaf refl refl (after_going_is running signal m (Some c) found at);
       }
 
-  advanced : (running signal : ℕ) (m : Machine) (o : Option Configuration) (named : Named) → machine t i running ≡ Some m → machine_of s running ≡ o → signal_at t program i running signal ≡ Some named
+  advanced : (running signal : ℕ) (m : Machine) (o : Option Configuration) (named : Named) → machine t i running ≡ Some m → configuration_of s running ≡ o → signal_at t program i running signal ≡ Some named
       → GoesOn (advances running signal o (goes_on t program i running signal o m))
   advanced running signal m None named found at signalled = start_it running m found at
   advanced running signal m (Some c) named found at signalled = move_it running signal m c named found at signalled
@@ -371,8 +369,8 @@ module _ (t : Described) (program : Program) (i a : ℕ) (s : Inside) (good : Ha
   kind_there f (Some x) v h = refl
 
   -- what may be asked is there
-  pub asked_there : (q : Ask) → is_askable t program i q ≡ true → is_there t i s q ≡ true
-  unfolding is_askable is_there
+  pub asked_there : (q : Ask) → ask_fits t program i q ≡ true → is_there t i s q ≡ true
+  unfolding ask_fits is_there
   asked_there (ask.Arrive r) can =
       manner_known r (manner t i r.point) refl
       (both (is_some (manner t i r.point)) (unwrap_or (option_map (λ ks. have_kinds t.model.types ks r.with) (place_kinds t program i r.point)) false) (point_of r can)).0
@@ -387,15 +385,15 @@ module _ (t : Described) (program : Program) (i a : ℕ) (s : Inside) (good : Ha
       let named = some_of (signal_at t program i running signal) can in
       ap is_some (then_some (λ (m : Machine). slice_get m.signals signal) (machine t i running) named.0 named.1).1
 
-  pub goes_on_well : (q : Ask) (w : What) → is_askable t program i q ≡ true → tells t program i s q ≡ Some w → GoesOn w
-  unfolding tells is_askable
+  pub goes_on_well : (q : Ask) (w : What) → ask_fits t program i q ≡ true → tells t program i s q ≡ Some w → GoesOn w
+  unfolding tells ask_fits
   goes_on_well (ask.Arrive r) w can h =
       let m = then_some (arrives t i s r) (manner t i r.point) w h in
       arrived r m.0 w can m.1 m.2
-  goes_on_well (ask.Leave v) w can h = subst GoesOn (some_is _ _ h) (left_it v)
-  goes_on_well ask.Done w can h = subst GoesOn (some_is _ _ h) done_it
+  goes_on_well (ask.Leave v) w can h = subst GoesOn (same_some h) (left_it v)
+  goes_on_well ask.Done w can h = subst GoesOn (same_some h) done_it
   goes_on_well ask.Take w can h = taken s.turn None (next_call s.pending) w next_fits (λ x e. absurd (cc)) h
-  goes_on_well ask.Dispatch w can h = taken s.turn (Some what.Empty) (next_call s.pending) w next_fits (λ x e. subst GoesOn (some_is _ _ e) empty_it) h
+  goes_on_well ask.Dispatch w can h = taken s.turn (Some what.Empty) (next_call s.pending) w next_fits (λ x e. subst GoesOn (same_some e) empty_it) h
   goes_on_well (ask.Emit event with) w can h =
       let e = mapped_some (emits t i s event with) (slice_get (component t i).events event) w h in
       subst GoesOn e.2 (emitted event with e.0 e.1)
@@ -406,6 +404,6 @@ module _ (t : Described) (program : Program) (i a : ℕ) (s : Inside) (good : Ha
       let v = mapped_some (λ v. what.Read param v) (slice_get s.params param) w h in
       subst GoesOn v.2 (read_it param v.0 v.1)
   goes_on_well (ask.Advance running signal value) w can h =
-      let m = mapped_some (λ m. advances running signal (machine_of s running) (goes_on t program i running signal (machine_of s running) m)) (machine t i running) w h in
+      let m = mapped_some (λ m. advances running signal (configuration_of s running) (goes_on t program i running signal (configuration_of s running) m)) (machine t i running) w h in
       let named = some_of (signal_at t program i running signal) can in
-      subst GoesOn m.2 (advanced running signal m.0 (machine_of s running) named.0 m.1 refl named.1)
+      subst GoesOn m.2 (advanced running signal m.0 (configuration_of s running) named.0 m.1 refl named.1)

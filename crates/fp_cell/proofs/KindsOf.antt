@@ -1,11 +1,9 @@
 -- Values of given kinds: one of them, one replaced, and the one of a set command.
-use Rattle.std.proofs.Common.{◌≡◌, ℕ, zero, suc, Bool, true, false, cond, List, [], ◌∷◌, map, set, get_or, Option, Some, None, option_map, unwrap_or, is_some, refl, sym, ap, ◌∙◌, subst, slice_get, ◌⊎◌, inl, inr}
-use Rattle.std.proofs.Common.{◌&&◌, nat_lt, length, arith}
-use Rattle.std.proofs.lemmas.Bool.Decides.{nat_tests}
+use Rattle.std.proofs.Common.{◌≡◌, ℕ, zero, suc, Bool, true, false, List, [], ◌∷◌, map, set, get_or, Option, Some, None, option_map, unwrap_or, is_some, refl, sym, ap, ◌∙◌, slice_get, ◌⊎◌, inl, inr}
 use Rattle.std.proofs.lemmas.Bool.{false≢true}
 use Rattle.fp_base.proofs.Sameness.{nat_same}
 use Rattle.fp_base.specs.declared.value.Value.{Value}
-use Rattle.fp_tables.proofs.Alls.{both}
+use Rattle.fp_base.proofs.Bools.{both, join}
 use Rattle.fp_tables.specs.Components.{same_kind, takes_its_value}
 use Rattle.fp_tables.specs.Lists.{some_and}
 use Rattle.fp_tables.specs.Types.{has_kind, have_kinds}
@@ -17,10 +15,6 @@ use Rattle.fp_tables.specs.declared.kind.Kind.{Kind}
 use Rattle.fp_tables.specs.declared.kind.Kind.TheVariants as kind
 use Rattle.fp_tables.specs.declared.kind.TypeDef.{TypeDef}
 
-pub some_of : {X : Type 0} (o : Option X) → is_some o ≡ true → (x : X) × (o ≡ Some x)
-some_of None h = absurd (cc)
-some_of (Some x) h = (x, refl)
-
 pub some_and_of : {X : Type 0} (p : X → Bool) (o : Option X) → some_and p o ≡ true → (x : X) × (o ≡ Some x) × (p x ≡ true)
 some_and_of p None h = absurd (cc)
 some_and_of p (Some x) h = (x, refl, h)
@@ -28,14 +22,6 @@ some_and_of p (Some x) h = (x, refl, h)
 pub mapped_test_of : {X : Type 0} (p : X → Bool) (o : Option X) → unwrap_or (option_map p o) false ≡ true → (x : X) × (o ≡ Some x) × (p x ≡ true)
 mapped_test_of p None h = absurd (cc)
 mapped_test_of p (Some x) h = (x, refl, h)
-
-pub join_true : (a b : Bool) → a ≡ true → b ≡ true → (a && b) ≡ true
-join_true a b h k = rw h k
-
-pub get_below : {X : Type 0} (xs : List X) (k : ℕ) → nat_lt k (length xs) ≡ true → is_some (slice_get xs k) ≡ true
-get_below [] k h = absurd (grind (arith, nat_tests))
-get_below (x ∷ xs) zero h = refl
-get_below (x ∷ xs) (suc k) h = get_below xs k (grind (arith, nat_tests))
 
 same_kind_is : (j k : Kind) → same_kind j k ≡ true → j ≡ k
 same_kind_is kind.U8 kind.U8 h = refl
@@ -77,11 +63,11 @@ module _ (types : List TypeDef) where
   kinds_set (q ∷ ps) [] k v p h e f = absurd (cc)
   kinds_set (q ∷ ps) (w ∷ vs) zero v p h e f =
       let s : q ≡ p = cc in
-      join_true (has_kind types q.kind v) (have_kinds types (map (λ (p : Param). p.kind) ps) vs)
+      join (has_kind types q.kind v) (have_kinds types (map (λ (p : Param). p.kind) ps) vs)
       (ap (λ (x : Param). has_kind types x.kind v) s ∙ f) (both (has_kind types q.kind w) (have_kinds types (map (λ (p : Param). p.kind) ps) vs) h).1
   kinds_set (q ∷ ps) (w ∷ vs) (suc k) v p h e f =
       let b = both (has_kind types q.kind w) (have_kinds types (map (λ (p : Param). p.kind) ps) vs) h in
-      join_true (has_kind types q.kind w) (have_kinds types (map (λ (p : Param). p.kind) ps) (set vs k v)) b.0 (kinds_set ps vs k v p b.1 e f)
+      join (has_kind types q.kind w) (have_kinds types (map (λ (p : Param). p.kind) ps) (set vs k v)) b.0 (kinds_set ps vs k v p b.1 e f)
 
   -- what a set command takes: one value, of its parameter's kind
   pub record Sets (ps : List Param) (k : ℕ) (vs : List Value) : Type 0 where

@@ -2,7 +2,6 @@ pub mod Advanced
 pub mod Answering
 pub mod Asked
 pub mod Distinct
-pub mod Few
 pub mod FlatFound
 pub mod Formats
 pub mod Given

@@ -1,7 +1,6 @@
 -- The machines of an instance of a sound model.
 use Rattle.std.proofs.Common.{◌≡◌, ℕ, Bool, true, false, not, List, length, None, Some, slice_get, refl}
-use Rattle.std.specs.List.{list_all}
-use Rattle.fp_tables.proofs.Alls.{all_get}
+use Rattle.fp_base.proofs.Lists.{all_get}
 use Rattle.fp_tables.specs.Components.{runs_no_external}
 use Rattle.fp_tables.specs.Lists.{some_and}
 use Rattle.fp_tables.specs.Lookup.{Described}
@@ -48,7 +47,7 @@ has_body false h = refl
 -- each machine instance of a component of the model
 pub runnable : (model : Model) (n : ℕ) (c : Component) → IsSound model → slice_get model.components n ≡ Some c → (k : ℕ) (r : Running) → slice_get c.machines k ≡ Some r → IsRunnable model.machines r
 runnable model n c sound found k r at =
-    let each = all_get (runs_no_external model.machines) model.components n c sound.no_external_machine_runs found in
+    let each = all_get (runs_no_external model.machines) model.components n c sound.components.no_external_machine_runs found in
     let m = some_and_of (λ (m : Machine). not m.external) (slice_get model.machines r.machine)
     (all_get (λ (r : Running). some_and (λ (m : Machine). not m.external) (slice_get model.machines r.machine)) c.machines k r each at) in
     record { runs = m.0; found = m.1; sound = machine_is_sound model r.machine m.0 sound m.1 (has_body m.0.external m.2) }

@@ -1,17 +1,11 @@
 -- A cell at the opening.
 use Rattle.std.proofs.lemmas.List.{replicate-append-replicate}
-use Rattle.std.proofs.Common.{◌≡◌, ℕ, zero, suc, true, ◌+◌, ◌++◌, ◌∷◌, List, [], map, length, get_or, replicate, Option, Some, None, refl, sym, ap, ◌∙◌}
-use Rattle.fp_system.specs.Run.{Kept}
+use Rattle.std.proofs.Common.{◌≡◌, ℕ, zero, suc, ◌+◌, ◌++◌, ◌∷◌, [], length, get_or, replicate, Some, None, refl}
 use Rattle.fp_tables.specs.Lookup.{Described}
 use Rattle.fp_tables.specs.Sound.{IsSound}
-use Rattle.fp_tables.specs.declared.machine.Machine.{Machine}
 use Rattle.fp_tables.specs.declared.program.Program.{Program}
 use Rattle.fp_events.specs.Instance.{opened_instance}
-use Rattle.fp_events.specs.Lookup.{component, machine}
-use Rattle.fp_events.specs.Machine.{Configuration}
-use Rattle.fp_events.specs.Step.{core}
-use Rattle.fp_events.specs.Tells.{machine_of}
-use Rattle.fp_machine_flat.specs.Moving.{is_leaf}
+use Rattle.fp_tables.specs.Specials.{component}
 use Rattle.fp_cell.specs.Kinded.{IsKinded}
 use Rattle.fp_cell.proofs.Parts.{good_parts, defaults_have_kinds}
 

@@ -1,5 +1,5 @@
 -- What the fields of a cell keep at the opening.
-use Rattle.std.proofs.Common.{◌≡◌, ◌<◌, ℕ, ℤ, true, List, [], Option, Some, Result, Ok, Err, IfOk, refl, sym, ap, subst, ◌∙◌}
+use Rattle.std.proofs.Common.{◌≡◌, ◌<◌, ℕ, ℤ, true, List, [], Some, sym, ap, subst, ◌∙◌}
 use Rattle.fp_system.specs.Run.{Kept}
 use Rattle.fp_tables.specs.Lookup.{Described}
 use Rattle.fp_tables.specs.Sound.{IsSoundFor}
@@ -17,10 +17,6 @@ use Rattle.fp_cell.specs.Waiting.{Waiting}
 use Rattle.fp_cell.specs.declared.setting.Setting.{Setting}
 use Rattle.fp_cell.specs.declared.state.State.{State}
 use Rattle.fp_cell.proofs.Opened.{opened_kinded}
-
-pub if_ok_then : {A E : Type 0} (r : Result A E) (P Q : A → Type 0) → ((x : A) → P x → Q x) → IfOk r P → IfOk r Q
-if_ok_then (Ok x) P Q then h = then x h
-if_ok_then (Err e) P Q then h = tt
 
 pub known_opened : (t : Described) (i : ℕ) (calls : Waiting) (size : ℕ) (ps qs : List ℤ) → calls.size ≡ size → (0 < size → calls.priorities ≡ ps) → ps ≡ qs → AreKnown t i qs
     → (w : Waiting) → w ≡ calls → 0 < w.size → AreKnown t i w.priorities

@@ -1,24 +1,24 @@
 -- What a sound model says of the component of an instance.
-use Rattle.std.proofs.Common.{◌≡◌, ℕ, Bool, true, ◌&&◌, nat_lt, length, List, [], ◌∷◌, map, Option, Some, None, option_and_then, unwrap_or, refl, sym, ap, ◌∙◌, slice_get}
+use Rattle.std.proofs.Common.{◌≡◌, ℕ, true, ◌&&◌, nat_lt, length, List, [], ◌∷◌, map, Option, Some, None, unwrap_or, refl, slice_get}
 use Rattle.std.specs.List.{list_all}
-use Rattle.fp_tables.proofs.Alls.{both, all_get}
+use Rattle.fp_base.proofs.Options.{then_some}
+use Rattle.fp_base.proofs.Bools.{both}
 use Rattle.fp_tables.specs.Components as components
 use Rattle.fp_tables.specs.Lookup.{Described, component_of}
 use Rattle.fp_tables.specs.Positions.{formals_lie, part_lies, command_lies, component_lies, port_lies, event_lies, channel_lies, kind_lies, machine_lies, topology_lies, item_lies}
 use Rattle.fp_tables.specs.declared.component.Running.{Running}
-use Rattle.fp_tables.specs.Sound.{IsSound, each_component}
+use Rattle.fp_tables.specs.Sound.{IsSound}
 use Rattle.fp_tables.specs.Types.{has_kind, have_kinds}
 use Rattle.fp_tables.specs.declared.component.Channel.{Channel}
 use Rattle.fp_tables.specs.declared.component.Command.{Command}
 use Rattle.fp_tables.specs.declared.component.Component.{Component}
-use Rattle.fp_tables.specs.declared.component.Event.{Event}
 use Rattle.fp_tables.specs.declared.component.Limit.{Limit}
 use Rattle.fp_tables.specs.declared.component.Param.{Param}
 use Rattle.fp_tables.specs.declared.kind.TypeDef.{TypeDef}
 use Rattle.fp_tables.specs.declared.model.Model.{Model}
 use Rattle.fp_tables.specs.declared.topology.Instance.{Instance}
-use Rattle.fp_events.proofs.StepLaws.{then_some}
-use Rattle.fp_events.specs.Lookup.{component, no_parts}
+use Rattle.fp_base.proofs.Lists.{all_get}
+use Rattle.fp_tables.specs.Specials.{component, no_parts}
 
 -- what the steps of an instance take from soundness
 pub record HasGoodParts (types : List TypeDef) (c : Component) : Type 0 where
@@ -33,7 +33,7 @@ nothing types = record { commands = refl; defaults = refl; formats = refl; of_pa
 -- the positions of a component lie in their lists
 commands_lie : (m : Model) (c : Component) (k : ℕ) → IsSound m → slice_get m.components k ≡ Some c → list_all (command_lies (length m.types) (length c.params)) c.commands ≡ true
 commands_lie m c k sound found =
-    let order = both _ (list_all (item_lies m) m.order) sound.positions_lie in
+    let order = both _ (list_all (item_lies m) m.order) sound.lists.positions_lie in
     let topologies = both _ (list_all (topology_lies m) m.topologies) order.0 in
     let instances = both _ (list_all (λ (x : Instance). nat_lt x.component (length m.components)) m.instances) topologies.0 in
     let machines = both _ (list_all (machine_lies (length m.types)) m.machines) instances.0 in
@@ -55,12 +55,12 @@ parts_lie types params (x ∷ xs) h =
 some_component : (m : Model) (c : Component) (k : ℕ) → IsSound m → slice_get m.components k ≡ Some c → HasGoodParts m.types c
 some_component m c k sound found =
     record {
-      commands = all_get (λ (c : Component). list_all (components.takes_its_value c.params) c.commands) m.components k c sound.commands_take_their_values found;
+      commands = all_get (λ (c : Component). list_all (components.takes_its_value c.params) c.commands) m.components k c sound.components.commands_take_their_values found;
       defaults =
           (both (list_all (λ (x : Channel). list_all (λ (l : Limit). has_kind m.types x.kind l.value) x.limits) c.channels)
           (list_all (λ (p : Param). has_kind m.types p.kind p.default) c.params)
-          (all_get (components.component_has_values m.types) m.components k c sound.parts_have_their_values found)).1;
-      formats = all_get (λ (c : Component). list_all (components.agrees_with_formals m.types) c.events) m.components k c sound.fields_agree_with_formals found;
+          (all_get (components.component_has_values m.types) m.components k c sound.types.parts_have_their_values found)).1;
+      formats = all_get (λ (c : Component). list_all (components.agrees_with_formals m.types) c.events) m.components k c sound.components.fields_agree_with_formals found;
       of_params = parts_lie (length m.types) (length c.params) c.commands (commands_lie m c k sound found);
     }
 

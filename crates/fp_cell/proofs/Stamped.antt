@@ -1,29 +1,25 @@
 -- A step of an instance with its stamp, and the history that goes on by it.
-use Rattle.std.proofs.Common.{◌≡◌, ◌≤◌, ◌<◌, ℕ, suc, max, Bool, true, false, nat_lt, ◌&&◌, List, [], ◌∷◌, ◌++◌, Option, Some, None, is_some, not, refl, sym, ap, ◌∙◌, subst, arith}
+use Rattle.std.proofs.Common.{◌≡◌, ◌≤◌, ◌<◌, ℕ, suc, max, true, nat_lt, ◌&&◌, List, [], ◌∷◌, ◌++◌, Some, refl, arith}
 use Rattle.std.proofs.lemmas.Bool.Decides.{nat_tests}
 use Rattle.fp_system.specs.Run as system
 use Rattle.fp_system.proofs.Turns.{InTurn-more}
 use Rattle.fp_tables.specs.Lookup.{Described}
 use Rattle.fp_tables.specs.declared.program.Program.{Program}
-use Rattle.fp_events.proofs.Waiting.{tells_or_waits}
 use Rattle.fp_events.specs.Fits.{actor_count, is_placed, what_fits, fits}
-use Rattle.fp_events.specs.Instance.{Inside, InstanceState, opened_instance}
-use Rattle.fp_events.specs.Leaves.{leaves}
-use Rattle.fp_events.specs.Step.{core, instance_part, stamped, fitting}
+use Rattle.fp_events.specs.Instance.{InstanceState, opened_instance}
+use Rattle.fp_events.specs.Step.{core, instance_part, stamped}
 use Rattle.fp_events.specs.Tells.{tells}
-use Rattle.fp_events.specs.Waits.{waits}
 use Rattle.fp_events.specs.declared.event.Ask.{Ask}
 use Rattle.fp_events.specs.declared.event.Entry.{Entry}
 use Rattle.fp_events.specs.declared.event.What.{What}
-use Rattle.fp_cell.specs.Stepping.{Steps}
-use Rattle.fp_cell.proofs.KindsOf.{join_true}
+use Rattle.fp_base.proofs.Bools.{join}
 
 module _ (t : Described) (program : Program) (i : ℕ) where
   pub fits_of : (a : ℕ) (w : What) → a < actor_count t program → is_placed t program i ≡ true → what_fits t program i w ≡ true → fits t program a i w ≡ true
   unfolding fits
   fits_of a w actor placed fit =
       let below : nat_lt a (actor_count t program) ≡ true = grind (arith, nat_tests) in
-      join_true (nat_lt a (actor_count t program) && is_placed t program i) (what_fits t program i w) (join_true (nat_lt a (actor_count t program)) (is_placed t program i) below placed) fit
+      join (nat_lt a (actor_count t program) && is_placed t program i) (what_fits t program i w) (join (nat_lt a (actor_count t program)) (is_placed t program i) below placed) fit
 
   pub part_of : (s : InstanceState) (a seen : ℕ) (q : Ask) (w : What) → tells t program i s.inside q ≡ Some w → fits t program a i w ≡ true
       → instance_part t program i s a q seen ≡ Some (stamped t program (suc (max s.last seen)) a i s.inside w)

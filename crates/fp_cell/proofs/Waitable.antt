@@ -1,5 +1,5 @@
 -- The priorities of the places of a component whose calls wait.
-use Rattle.std.proofs.Common.{◌≡◌, ℕ, zero, suc, ℤ, ◌<◌, List, [], ◌∷◌, ◌++◌, length, Option, Some, None, slice_get, refl, sym, ap, subst, arith}
+use Rattle.std.proofs.Common.{◌≡◌, ℕ, zero, suc, ℤ, List, [], ◌∷◌, ◌++◌, Some, slice_get, refl, sym, subst, arith}
 use Rattle.std.specs.List.{Contains, flat_map}
 use Rattle.std.proofs.lemmas.List.Elements.{Contains-append_left, Contains-append_right}
 use Rattle.fp_tables.specs.Lookup.{Described}
@@ -15,9 +15,9 @@ use Rattle.fp_tables.specs.declared.component.Role.TheVariants as role
 use Rattle.fp_tables.specs.declared.component.Running.{Running}
 use Rattle.fp_tables.specs.declared.component.Way.{Way}
 use Rattle.fp_tables.specs.declared.component.Way.TheVariants.{Later}
-use Rattle.fp_events.proofs.StepLaws.{mapped_some, then_some}
-use Rattle.fp_events.specs.Lookup.{component}
-use Rattle.fp_events.specs.Manners.{Manner, by, manner, input_manner, internal_manner, command_manner}
+use Rattle.fp_base.proofs.Options.{mapped_some, then_some}
+use Rattle.fp_tables.specs.Specials.{component}
+use Rattle.fp_events.specs.Manners.{by, manner, input_manner, internal_manner, command_manner}
 use Rattle.fp_events.specs.declared.event.Point.{Point}
 use Rattle.fp_events.specs.declared.event.Point.TheVariants.{Port, Command as OfCommand, Post, Signal}
 

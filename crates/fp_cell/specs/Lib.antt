@@ -1,4 +1,3 @@
-pub mod Askable
 pub mod Cells
 pub mod Kept
 pub mod Kinded

@@ -1,11 +1,12 @@
 -- What a cell keeps of its tables at hand.
-use Rattle.std.specs.Prelude.{◌≡◌, ◌<◌, ℕ, ℤ, List, Some, option_map, is_some, slice_get}
+use Rattle.std.specs.Prelude.{◌≡◌, ℕ, ℤ, List, Some, option_map, is_some, slice_get}
 use Rattle.std.specs.List.{Contains}
+use Rattle.fp_tables.specs.Specials.{special_wire}
 use Rattle.fp_tables.specs.Lookup.{Described}
 use Rattle.fp_tables.specs.declared.component.Full.{Full}
 use Rattle.fp_tables.specs.declared.component.Special.TheVariants as special
 use Rattle.fp_tables.specs.declared.component.Way.TheVariants.{Later}
-use Rattle.fp_events.specs.Lookup.{machine, special_wire}
+use Rattle.fp_events.specs.Lookup.{machine}
 use Rattle.fp_events.specs.Manners.{by, manner}
 use Rattle.fp_events.specs.declared.event.Point.{Point}
 use Rattle.fp_tables.specs.declared.component.Running.{Running}

@@ -6,7 +6,7 @@ ghost use Rattle.fp_tables.specs.declared.program.Program.{Program};
 ghost use Rattle.fp_events.specs.declared.event.Ask.TheVariants as ask;
 ghost use Rattle.fp_events.specs.Lookup.{machine, answers_of};
 ghost use Rattle.fp_events.specs.Machine.{Configuration, starts, moves};
-ghost use Rattle.fp_events.specs.Tells.{machine_of};
+ghost use Rattle.fp_events.specs.Tells.{configuration_of};
 ghost use Rattle.fp_cell.specs.Stepping.{Steps, HasSameQueue, inside};
 
 use crate::records::put_at;
@@ -24,7 +24,7 @@ pub(crate) fn settle_start(
     running: u32,
     walked: Walked,
 ) -> Result<Told, NoMemory>
-    ensures ok { (t : Described) (program : Program) (i actor signal : ℕ) (value : Option Value) (m : Machine) → machine t i running ≡ Some m → machine_of (inside state.old) running ≡ None → walked ≡ starts m (answers_of program i running) → IfOk result (λ told. Steps t program i actor (ask.Advance running signal value) (inside state.old) told (inside state.new)) }
+    ensures ok { (t : Described) (program : Program) (i actor signal : ℕ) (value : Option Value) (m : Machine) → machine t i running ≡ Some m → configuration_of (inside state.old) running ≡ None → walked ≡ starts m (answers_of program i running) → IfOk result (λ told. Steps t program i actor (ask.Advance running signal value) (inside state.old) told (inside state.new)) }
     ensures queue { HasSameQueue state.old state.new }
     ensures err { OnErr result (state.new ≡ state.old) }
 {
@@ -50,7 +50,7 @@ pub(crate) fn settle_move(
     signal: u32,
     walked: Walked,
 ) -> Result<Told, NoMemory>
-    ensures ok { (t : Described) (program : Program) (i actor : ℕ) (value : Option Value) (m : Machine) (c : Configuration) → machine t i running ≡ Some m → machine_of (inside state.old) running ≡ Some c → walked ≡ moves m (answers_of program i running) c signal → IfOk result (λ told. Steps t program i actor (ask.Advance running signal value) (inside state.old) told (inside state.new)) }
+    ensures ok { (t : Described) (program : Program) (i actor : ℕ) (value : Option Value) (m : Machine) (c : Configuration) → machine t i running ≡ Some m → configuration_of (inside state.old) running ≡ Some c → walked ≡ moves m (answers_of program i running) c signal → IfOk result (λ told. Steps t program i actor (ask.Advance running signal value) (inside state.old) told (inside state.new)) }
     ensures queue { HasSameQueue state.old state.new }
     ensures err { OnErr result (state.new ≡ state.old) }
 {

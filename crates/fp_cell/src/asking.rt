@@ -9,7 +9,7 @@ ghost use Rattle.fp_events.specs.Queue.{next_call};
 ghost use Rattle.fp_events.specs.Waits.{arrival_waits, blocked, take_waits, waits};
 ghost use Rattle.fp_events.specs.declared.event.Ask.TheVariants as ask;
 ghost use Rattle.fp_events.specs.declared.event.Why.TheVariants as why;
-ghost use Rattle.fp_cell.specs.Askable.{is_askable};
+ghost use Rattle.fp_events.specs.Fits.{ask_fits};
 ghost use Rattle.fp_cell.specs.Ready.{IsReady};
 ghost use Rattle.fp_cell.specs.Stepping.{Steps, HasSameQueue, inside};
 
@@ -105,7 +105,7 @@ fn tell_arrival(
     arrival: &Arrival,
 ) -> Result<Told, NoMemory>
     requires ready { IsReady setting.now state.old }
-    requires askable { is_askable setting.now.tables.now setting.now.program.now setting.now.instance (ask.Arrive arrival.now) ≡ true }
+    requires askable { ask_fits setting.now.tables.now setting.now.program.now setting.now.instance (ask.Arrive arrival.now) ≡ true }
     requires free { waits setting.now.tables.now setting.now.instance (inside state.old) (ask.Arrive arrival.now) ≡ None }
     ensures ok { IfOk result (λ told. Steps setting.now.tables.now setting.now.program.now setting.now.instance actor (ask.Arrive arrival.now) (inside state.old) told (inside state.new)) }
     ensures queue { HasSameQueue state.old state.new }
@@ -153,7 +153,7 @@ fn tell_emit(
     with: &Row<Value>,
 ) -> Result<Told, NoMemory>
     requires ready { IsReady setting.now state.old }
-    requires askable { is_askable setting.now.tables.now setting.now.program.now setting.now.instance (ask.Emit event with.now) ≡ true }
+    requires askable { ask_fits setting.now.tables.now setting.now.program.now setting.now.instance (ask.Emit event with.now) ≡ true }
     ensures ok { (actor : ℕ) → IfOk result (λ told. Steps setting.now.tables.now setting.now.program.now setting.now.instance actor (ask.Emit event with.now) (inside state.old) told (inside state.new)) }
     ensures queue { HasSameQueue state.old state.new }
     ensures err { OnErr result (state.new ≡ state.old) }
@@ -181,7 +181,7 @@ fn tell_write(
     value: &Value,
 ) -> Result<Told, NoMemory>
     requires ready { IsReady setting.now state.old }
-    requires askable { is_askable setting.now.tables.now setting.now.program.now setting.now.instance (ask.Write channel value.now) ≡ true }
+    requires askable { ask_fits setting.now.tables.now setting.now.program.now setting.now.instance (ask.Write channel value.now) ≡ true }
     ensures ok { (actor : ℕ) → IfOk result (λ told. Steps setting.now.tables.now setting.now.program.now setting.now.instance actor (ask.Write channel value.now) (inside state.old) told (inside state.new)) }
     ensures queue { HasSameQueue state.old state.new }
     ensures err { OnErr result (state.new ≡ state.old) }
@@ -203,7 +203,7 @@ fn tell_write(
 
 fn tell_read(alloc: Global, setting: &Setting, state: &State, param: u32) -> Result<Told, NoMemory>
     requires ready { IsReady setting.now state.now }
-    requires askable { is_askable setting.now.tables.now setting.now.program.now setting.now.instance (ask.Read param) ≡ true }
+    requires askable { ask_fits setting.now.tables.now setting.now.program.now setting.now.instance (ask.Read param) ≡ true }
     ensures { (actor : ℕ) → IfOk result (λ told. Steps setting.now.tables.now setting.now.program.now setting.now.instance actor (ask.Read param) (inside state.now) told (inside state.now)) }
 {
     let _ = setting;
@@ -263,7 +263,7 @@ pub(crate) fn tell(
     ask: &Ask,
 ) -> Result<Told, NoMemory>
     requires ready { IsReady setting.now state.old }
-    requires askable { is_askable setting.now.tables.now setting.now.program.now setting.now.instance ask.now ≡ true }
+    requires askable { ask_fits setting.now.tables.now setting.now.program.now setting.now.instance ask.now ≡ true }
     requires free { waits setting.now.tables.now setting.now.instance (inside state.old) ask.now ≡ None }
     ensures ok { IfOk result (λ told. Steps setting.now.tables.now setting.now.program.now setting.now.instance actor ask.now (inside state.old) told (inside state.new)) }
     ensures queue { HasSameQueue state.old state.new }

@@ -1,8 +1,7 @@
 ghost use Rattle.std.specs.Prelude.{◌≡◌, ◌≤◌, ◌<◌, ◌++◌, ◌∷◌, [], None, Some, true, IfOk, OnErr};
 ghost use Rattle.fp_tables.specs.Sound.{IsSoundFor};
-ghost use Rattle.fp_events.specs.Fits.{actor_count, is_placed};
+ghost use Rattle.fp_events.specs.Fits.{actor_count, is_placed, ask_fits};
 ghost use Rattle.fp_events.specs.Waits.{waits};
-ghost use Rattle.fp_cell.specs.Askable.{is_askable};
 ghost use Rattle.fp_cell.specs.Cells.{opened, IsKeptOf};
 ghost use Rattle.fp_cell.specs.Ready.{IsReady};
 ghost use Rattle.fp_cell.specs.Replies.{Answered};
@@ -85,7 +84,7 @@ impl<'a> Cell<'a> {
         ask: &Ask,
     ) -> Result<Reply, NoMemory>
         requires actor { actor < actor_count self.old.seat.tables self.old.seat.program }
-        requires askable { is_askable self.old.seat.tables self.old.seat.program self.old.seat.instance ask.now ≡ true }
+        requires askable { ask_fits self.old.seat.tables self.old.seat.program self.old.seat.instance ask.now ≡ true }
         ensures answered { IfOk result (λ reply. Answered self.old actor ask.now seen reply self.new) }
         ensures unchanged { OnErr result (self.new ≡ self.old) }
     {
@@ -129,7 +128,7 @@ fn append(
     ask: &Ask,
 ) -> Result<Entry, NoMemory>
     requires ready { IsReady setting.now state.old }
-    requires askable { is_askable setting.now.tables.now setting.now.program.now setting.now.instance ask.now ≡ true }
+    requires askable { ask_fits setting.now.tables.now setting.now.program.now setting.now.instance ask.now ≡ true }
     requires free { waits setting.now.tables.now setting.now.instance (inside state.old) ask.now ≡ None }
     ensures entry { IfOk result (λ e. e ≡ record { stamp = stamp; actor = actor; instance = setting.now.instance; what = e.what }) }
     ensures step { IfOk result (λ e. Steps setting.now.tables.now setting.now.program.now setting.now.instance actor ask.now (inside state.old) e.what (inside state.new)) }
@@ -154,7 +153,7 @@ fn push_told(
     ask: &Ask,
 ) -> Result<Entry, NoMemory>
     requires ready { IsReady setting.now state.old }
-    requires askable { is_askable setting.now.tables.now setting.now.program.now setting.now.instance ask.now ≡ true }
+    requires askable { ask_fits setting.now.tables.now setting.now.program.now setting.now.instance ask.now ≡ true }
     requires free { waits setting.now.tables.now setting.now.instance (inside state.old) ask.now ≡ None }
     ensures entry { IfOk result (λ e. e ≡ record { stamp = stamp; actor = actor; instance = setting.now.instance; what = e.what }) }
     ensures step { IfOk result (λ e. Steps setting.now.tables.now setting.now.program.now setting.now.instance actor ask.now (inside state.old) e.what (inside state.new)) }

@@ -11,7 +11,7 @@ ghost use Rattle.fp_cell.specs.Stepping.{inside};
 ghost use Rattle.fp_cell.specs.Waiting.{Waiting};
 
 use crate::calls::Calls;
-use crate::places::{component_at, queue_size_of};
+use crate::places::queue_size_of;
 use crate::priorities::priorities_at;
 use crate::setting::Setting;
 use crate::state::State;
@@ -50,7 +50,7 @@ fn flats_at(alloc: Global, tables: &Tables, instance: u32) -> Result<Vec<FlatMac
     requires { IsSoundFor tables.now.model (Some tables.now.topology) }
     ensures { IfOk result (λ flats. (running : ℕ) → machine tables.now instance running ≡ option_map (λ (f : Flat). f.machine) (slice_get flats.items running)) }
 {
-    match component_at(tables, instance) {
+    match tables.component(instance) {
         Some(component) => flats_of(
             alloc,
             tables.model().machines.as_slice(),
@@ -162,7 +162,7 @@ pub(crate) fn opening_state(
         queue_size_of(tables, instance),
         priorities.as_slice(),
     )?;
-    match component_at(tables, instance) {
+    match tables.component(instance) {
         Some(component) => state_of(
             alloc,
             calls,

@@ -1,14 +1,12 @@
 ghost use Rattle.std.specs.Prelude.{◌≡◌, option_map, slice_get, is_some, cond};
 ghost use Rattle.std.specs.Option.{option_copied};
-ghost use Rattle.fp_tables.specs.Lookup.{component_of};
+ghost use Rattle.fp_tables.specs.Specials.{component, special_wire};
 ghost use Rattle.fp_cell.specs.Seen.{treated};
-ghost use Rattle.fp_events.specs.Lookup.{component, queue_size, machine, special_wire};
+ghost use Rattle.fp_events.specs.Lookup.{queue_size, machine};
 ghost use Rattle.fp_events.specs.Manners.{manner, input_manner, internal_manner, command_manner};
 
 use fp_events::Point;
-use fp_tables::{
-    Channel, Command, Component, Event, Machine, Part, Port, Role, Running, Tables, Way,
-};
+use fp_tables::{Channel, Command, Event, Machine, Part, Port, Role, Running, Tables, Way};
 
 /// How an instance treats what arrives at a place: by the place's way, or as the implied set or save command of a parameter.
 #[derive(Clone, Copy)]
@@ -16,14 +14,6 @@ pub(crate) enum Manner {
     By(Way),
     Sets(u32),
     Saves(u32),
-}
-
-pub(crate) fn component_at(tables: &Tables, instance: u32) -> Option<&Component>
-    ensures { option_copied result ≡ component_of tables.now.model instance }
-{
-    let model = tables.model();
-    let instance = model.instances.get(instance as usize)?;
-    model.components.get(instance.component as usize)
 }
 
 pub(crate) fn queue_size_of(tables: &Tables, instance: u32) -> u32
@@ -38,37 +28,31 @@ pub(crate) fn queue_size_of(tables: &Tables, instance: u32) -> u32
 fn port_at(tables: &Tables, instance: u32, port: u32) -> Option<&Port>
     ensures { option_copied result ≡ slice_get (component tables.now instance).ports port }
 {
-    component_at(tables, instance)?.ports.get(port as usize)
+    tables.component(instance)?.ports.get(port as usize)
 }
 
 fn command_at(tables: &Tables, instance: u32, command: u32) -> Option<&Command>
     ensures { option_copied result ≡ slice_get (component tables.now instance).commands command }
 {
-    component_at(tables, instance)?
-        .commands
-        .get(command as usize)
+    tables.component(instance)?.commands.get(command as usize)
 }
 
 fn running_at(tables: &Tables, instance: u32, running: u32) -> Option<&Running>
     ensures { option_copied result ≡ slice_get (component tables.now instance).machines running }
 {
-    component_at(tables, instance)?
-        .machines
-        .get(running as usize)
+    tables.component(instance)?.machines.get(running as usize)
 }
 
 pub(crate) fn event_at(tables: &Tables, instance: u32, event: u32) -> Option<&Event>
     ensures { option_copied result ≡ slice_get (component tables.now instance).events event }
 {
-    component_at(tables, instance)?.events.get(event as usize)
+    tables.component(instance)?.events.get(event as usize)
 }
 
 pub(crate) fn channel_at(tables: &Tables, instance: u32, channel: u32) -> Option<&Channel>
     ensures { option_copied result ≡ slice_get (component tables.now instance).channels channel }
 {
-    component_at(tables, instance)?
-        .channels
-        .get(channel as usize)
+    tables.component(instance)?.channels.get(channel as usize)
 }
 
 pub(crate) fn machine_at(tables: &Tables, instance: u32, running: u32) -> Option<&Machine>

@@ -1,81 +1,13 @@
-ghost use Rattle.std.specs.Prelude.{◌≡◌, ◌≢◌, ◌++◌, ℤ, flat_map, IfOk, OnOk};
-ghost use Rattle.std.specs.BTreeSet.{IsFromIterResult};
+ghost use Rattle.std.specs.Prelude.{◌≡◌, ◌≢◌, ℤ, IfOk};
 ghost use Rattle.std.specs.List.{AllPairs, Contains};
-ghost use Rattle.fp_events.specs.Lookup.{component};
-ghost use Rattle.fp_tables.specs.SoundPrograms.{priority_of, port_priority, priorities};
-ghost use Rattle.fp_tables.specs.declared.component.Port.{Port as PortOf};
-ghost use Rattle.fp_tables.specs.declared.component.Command.{Command as CommandOf};
-ghost use Rattle.fp_tables.specs.declared.component.Running.{Running as RunningOf};
+ghost use Rattle.fp_tables.specs.Specials.{component};
+ghost use Rattle.fp_tables.specs.SoundPrograms.{priorities};
 ghost use Rattle.fp_cell.specs.Settled.{AreKnown};
 
-use crate::places::component_at;
 use fp_base::NoMemory;
-use fp_tables::{Command, Component, Port, Role, Running, Tables, Way};
+use fp_tables::{Tables, priorities, set_of};
 use std::alloc::Global;
 use std::collections::BTreeSet;
-
-fn push_priority(priorities: &mut Vec<i32>, way: &Way) -> Result<(), NoMemory>
-    ensures { OnOk result (priorities.new.items ≡ priorities.old.items ++ priority_of way.now) }
-{
-    if let Way::Later { priority, .. } = way {
-        priorities.push(*priority)?;
-    }
-    Ok(())
-}
-
-fn push_port_priority(priorities: &mut Vec<i32>, role: &Role) -> Result<(), NoMemory>
-    ensures { OnOk result (priorities.new.items ≡ priorities.old.items ++ port_priority role.now) }
-{
-    match role {
-        Role::Input(way) | Role::Internal(way) => push_priority(priorities, way),
-        _ => Ok(()),
-    }
-}
-
-fn push_ports(priorities: &mut Vec<i32>, ports: &[Port]) -> Result<(), NoMemory>
-    ensures { OnOk result (priorities.new.items ≡ priorities.old.items ++ flat_map (λ (port : PortOf). port_priority port.role) ports.now) }
-{
-    for port in ports {
-        push_port_priority(priorities, &port.role)?;
-    }
-    Ok(())
-}
-
-fn push_commands(priorities: &mut Vec<i32>, commands: &[Command]) -> Result<(), NoMemory>
-    ensures { OnOk result (priorities.new.items ≡ priorities.old.items ++ flat_map (λ (command : CommandOf). priority_of command.way) commands.now) }
-{
-    for command in commands {
-        push_priority(priorities, &command.way)?;
-    }
-    Ok(())
-}
-
-fn push_machines(priorities: &mut Vec<i32>, machines: &[Running]) -> Result<(), NoMemory>
-    ensures { OnOk result (priorities.new.items ≡ priorities.old.items ++ flat_map (λ (running : RunningOf). priority_of running.way) machines.now) }
-{
-    for running in machines {
-        push_priority(priorities, &running.way)?;
-    }
-    Ok(())
-}
-
-/// The priorities of the places whose calls wait.
-fn priorities(alloc: Global, component: &Component) -> Result<Vec<i32>, NoMemory>
-    ensures { IfOk result (λ found. found.items ≡ priorities component.now) }
-{
-    let mut found = Vec::new(alloc);
-    push_ports(&mut found, component.ports.as_slice())?;
-    push_commands(&mut found, component.commands.as_slice())?;
-    push_machines(&mut found, component.machines.as_slice())?;
-    Ok(found)
-}
-
-fn set_of<K: Ord + Drop>(alloc: Global, keys: Vec<K>) -> Result<BTreeSet<K>, NoMemory>
-    ensures { IfOk result (IsFromIterResult K.cmp keys.items) }
-{
-    let set = keys.into_iter().collect(alloc)?;
-    Ok(set)
-}
 
 fn keys_of(alloc: Global, set: BTreeSet<i32>) -> Result<Vec<i32>, NoMemory>
     ensures { IfOk result (λ keys. keys.items ≡ set.keys) }
@@ -96,7 +28,7 @@ fn distinct(alloc: Global, numbers: Vec<i32>) -> Result<Vec<i32>, NoMemory>
 fn found_at(alloc: Global, tables: &Tables, instance: u32) -> Result<Vec<i32>, NoMemory>
     ensures { IfOk result (λ found. found.items ≡ priorities (component tables.now instance)) }
 {
-    match component_at(tables, instance) {
+    match tables.component(instance) {
         Some(component) => priorities(alloc, component),
         None => Ok(Vec::new(alloc)),
     }

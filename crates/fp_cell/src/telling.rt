@@ -6,7 +6,7 @@ ghost use Rattle.fp_tables.specs.Lookup.{Described};
 ghost use Rattle.fp_tables.specs.declared.component.Special.TheVariants as special;
 ghost use Rattle.fp_tables.specs.declared.program.Program.{Program as Scenario};
 ghost use Rattle.fp_events.specs.declared.event.Ask.TheVariants as ask;
-ghost use Rattle.fp_events.specs.Lookup.{component, special_wire};
+ghost use Rattle.fp_tables.specs.Specials.{component, special_wire};
 ghost use Rattle.fp_formats.specs.Fits.{fits};
 ghost use Rattle.fp_cell.specs.Stepping.{Steps, HasSameQueue, inside};
 

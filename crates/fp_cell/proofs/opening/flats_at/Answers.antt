@@ -4,7 +4,7 @@ use Rattle.fp_tables.specs.declared.component.Running.{Running}
 use Rattle.fp_tables.specs.declared.model.Model.{Model}
 use Rattle.fp_cell.specs.Settled.{IsRunnable}
 use Rattle.fp_cell.proofs.FlatFound.{found_at, runnable_at}
-use Rattle.fp_cell.proofs.Openings.{if_ok_then}
+use Rattle.fp_base.proofs.Options.{if_ok_then}
 use Rattle.fp_cell.proofs.opening.flats_at.Goals as goal
 
 pub flats_of-requires : goal.flats_of-requires

@@ -1,4 +1,5 @@
-use Rattle.fp_cell.proofs.Openings.{if_ok_then, known_opened}
+use Rattle.fp_base.proofs.Options.{if_ok_then}
+use Rattle.fp_cell.proofs.Openings.{known_opened}
 use Rattle.fp_cell.proofs.opening.opening_state.Goals as goal
 
 pub returns-in-Some-clause-known : goal.returns-in-Some-clause-known

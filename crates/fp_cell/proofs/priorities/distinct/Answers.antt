@@ -1,7 +1,7 @@
 use Rattle.std.proofs.Common.{ℤ, List, ◌≢◌, sym, subst}
 use Rattle.std.specs.List.{AllPairs, Contains}
 use Rattle.fp_cell.proofs.Distinct.{numbers_differ, kept_all}
-use Rattle.fp_cell.proofs.Openings.{if_ok_then}
+use Rattle.fp_base.proofs.Options.{if_ok_then}
 use Rattle.fp_cell.proofs.priorities.distinct.Goals as goal
 
 pub returns-clause-differ : goal.returns-clause-differ

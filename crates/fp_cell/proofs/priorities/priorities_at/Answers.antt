@@ -1,6 +1,6 @@
 use Rattle.std.proofs.Common.{ℤ, List, sym, subst}
 use Rattle.std.specs.List.{Contains}
-use Rattle.fp_cell.proofs.Openings.{if_ok_then}
+use Rattle.fp_base.proofs.Options.{if_ok_then}
 use Rattle.fp_cell.proofs.Waitable.{known}
 use Rattle.fp_cell.proofs.priorities.priorities_at.Goals as goal
 
