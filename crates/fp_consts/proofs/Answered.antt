@@ -1,7 +1,8 @@
 -- The values of all expressions, Opaque in the place of those that have none.
-use Rattle.std.proofs.Common.{◌≡◌, List, map, length, slice_get, Option, Some, None, option_map, inl, inr, refl, sym, ap, subst, ◌∙◌}
+use Rattle.std.proofs.Common.{◌≡◌, List, map, length, slice_get, Option, Some, None, inl, inr, refl, sym, ap, subst, ◌∙◌}
 use Rattle.std.proofs.lemmas.List.{length-map}
 use Rattle.std.proofs.lemmas.Option.{slice_get-map}
+use Rattle.fp_base.proofs.Options.{mapped_some}
 use Rattle.fp_base.specs.declared.value.Value.{Value}
 use Rattle.fp_tree.specs.declared.source.Source.{Source}
 use Rattle.fp_meaning.specs.Origins.{Placed}
@@ -12,23 +13,15 @@ use Rattle.fp_consts.specs.Marked.{AreValues}
 not_some : {A : Type 0} {x : A} → None ≡ Some x → ⊥
 not_some e = cc
 
-same_some : {A : Type 0} {x y : A} → Some x ≡ Some y → x ≡ y
-same_some e = cc
-
 one_stands : (source : Source) (p : Placed) (o : Option Value) (v : Value) → IsValue source p.scope (opened p.expression) o → or_opaque o ≡ v → StandsFor source p v
 one_stands source p None v is e = inr (sym e, λ w h. not_some (is.only w h))
 one_stands source p (Some u) v is e = inl (subst (λ (x : Value). Val source p.scope (opened p.expression) x) e (is.holds u refl))
-
--- at a place of the one list there is something in the other
-mapped_there : (o : Option (Option Value)) (v : Value) → option_map or_opaque o ≡ Some v → (u : Option Value) × (o ≡ Some u) × (or_opaque u ≡ v)
-mapped_there None v e = absurd (not_some e)
-mapped_there (Some u) v e = (u, refl, same_some e)
 
 pub all_stand : (source : Source) (ps : List Placed) (os : List (Option Value)) (vs : List Value) → AreValues source ps os → vs ≡ map or_opaque os → StandFor source ps vs
 all_stand source ps os vs are same = record {
   each = ap (λ (xs : List Value). length xs) same ∙ length-map os or_opaque ∙ are.each;
   exact = λ k p v here there.
       let found : (u : Option Value) × (slice_get os k ≡ Some u) × (or_opaque u ≡ v) =
-      mapped_there (slice_get os k) v (sym (slice_get-map or_opaque os k) ∙ ap (λ (xs : List Value). slice_get xs k) (sym same) ∙ there) in
+      mapped_some or_opaque (slice_get os k) v (sym (slice_get-map or_opaque os k) ∙ ap (λ (xs : List Value). slice_get xs k) (sym same) ∙ there) in
       one_stands source p found.0 v (are.exact k p found.0 here found.1) found.2;
 }

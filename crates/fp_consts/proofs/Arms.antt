@@ -1,6 +1,5 @@
 -- What is found of an expression, by the form that stands in the tree.
 use Rattle.std.proofs.Common.{◌≡◌, ℕ, ◌+◌, ℤ, Bool, List, [], ◌∷◌, ◌++◌, length, flat_map, slice_get, take, Option, Some, None, option_map, true, ◌≤◌, sym, ap, subst, ◌∙◌}
-use Rattle.std.specs.Prelude.{Result, Ok, Err, IfOk}
 use Rattle.std.proofs.lemmas.List.{take_all}
 use Rattle.std.proofs.lemmas.Option.{slice_get-map}
 use Rattle.fp_base.specs.declared.rule.Rule.TheVariants.{FloatUsed}
@@ -29,10 +28,6 @@ use Rattle.fp_consts.proofs.Given.{given_split}
 use Rattle.fp_consts.proofs.Produced.{number_found, text_found, truth_found, float_found, use_found, minus_found, parentheses_found, binary_found}
 use Rattle.fp_consts.proofs.Gathering.{gathered_none, gathered_step}
 use Rattle.fp_consts.proofs.Sized.{array_whole, struct_whole, whole_found}
-
-pub if_ok_then : {A E : Type 0} (r : Result A E) (P Q : A → Type 0) → ((x : A) → P x → Q x) → IfOk r P → IfOk r Q
-if_ok_then (Ok x) P Q then h = then x h
-if_ok_then (Err e) P Q then h = tt
 
 opened_by : (e : Expr) (f : Form) (s : Opened) → e.form ≡ f → f ≡ roll-Form s → opened e ≡ s
 opened_by e f s is rolls = ap out-Form (is ∙ rolls) ∙ out-roll-Form s

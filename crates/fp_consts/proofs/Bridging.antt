@@ -14,7 +14,7 @@ use Rattle.fp_base.proofs.Elements.{least_in_one}
 use Rattle.fp_consts.specs.declared.stretch.Stretch.{Stretch}
 use Rattle.fp_consts.specs.Graph.{Leads, IsCyclic, Line, alone, longer, one, more, IsSorted, AreHeads}
 use Rattle.fp_consts.specs.Chains.{SameUses, name_places, Marked, MarkedAt}
-use Rattle.fp_consts.proofs.Places.{get_below}
+use Rattle.fp_consts.proofs.Places.{item_below}
 
 module _ (source : Source) (stretches : List Stretch) (targets : List ℕ) (same : SameUses source stretches targets) where
   leads_from : (n from to : ℕ) → Reaches source from to (suc n) → Leads stretches targets from to
@@ -49,7 +49,7 @@ module _ (source : Source) (stretches : List Stretch) (targets : List ℕ) (same
 
     flag_true : (flags : List Bool) (v : ℕ) (Q : Type 0) → length flags ≡ length stretches → v < length stretches
         → ((b : Bool) → slice_get flags v ≡ Some b → MatchBool b Q (Q → ⊥)) → Q → slice_get flags v ≡ Some true
-    flag_true flags v Q each lt told q = let t = get_below flags v (omega arith) in go t.0 t.1 (told t.0 t.1)
+    flag_true flags v Q each lt told q = let t = item_below flags v (omega arith) in go t.0 t.1 (told t.0 t.1)
       where
         go : (b : Bool) → slice_get flags v ≡ Some b → MatchBool b Q (Q → ⊥) → slice_get flags v ≡ Some true
         go true e m = e

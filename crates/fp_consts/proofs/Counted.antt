@@ -1,8 +1,9 @@
 -- Counting the uses in expressions, and what stands where.
 use Rattle.std.proofs.Common.{◌≡◌, ℕ, suc, ◌+◌, ◌≤◌, min, max, List, [], ◌∷◌, ◌++◌, length, flat_map, slice_get, take, drop, drop-cons, Some, refl, sym, ap, subst, ◌∙◌, arith, length-append, append_assoc}
-use Rattle.std.proofs.lemmas.List.{append-nil, take_all, take_more}
+use Rattle.std.proofs.lemmas.List.{append-nil, take_all}
 use Rattle.std.proofs.lemmas.Grind.{flat_map-append}
 use Rattle.std.proofs.lemmas.Option.{slice_get_within, get_or_from_slice_get}
+use Rattle.fp_base.proofs.Lists.{take_next}
 use Rattle.fp_base.specs.declared.place.Place.{Place}
 use Rattle.fp_tree.specs.declared.name.Qual.{Qual}
 use Rattle.fp_tree.specs.declared.expression.Operator.{Operator}
@@ -68,9 +69,6 @@ module _ (e : Expr) (limit next reached : ℕ) where
   pub past_struct : (members : List Assignment) → e.form ≡ Struct members → PastAll (values_in members) limit next reached → PastOne e limit next reached
   past_struct members is h scope =
       past_same limit next reached (uses_by scope e (Struct members) (flat_map (in_expression scope) (values_in members)) is (struct_uses scope members)) (h scope)
-
-take_next : {A : Type 0} (xs : List A) (k : ℕ) (x : A) → slice_get xs k ≡ Some x → take (k + 1) xs ≡ take k xs ++ x ∷ []
-take_next xs k x at = take_more xs k x (slice_get_within xs k x at) ∙ ap (λ (y : _). take k xs ++ y ∷ []) (get_or_from_slice_get xs k x x at)
 
 module _ (es : List Expr) (limit next : ℕ) where
   pub past_first : (reached : ℕ) → reached ≡ next → PastAll (take 0 es) limit next reached

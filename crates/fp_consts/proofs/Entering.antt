@@ -1,13 +1,14 @@
 -- A definition is opened.
 use Rattle.std.proofs.Common.{◌≡◌, ◌≢◌, ℕ, suc, ◌<◌, ◌≤◌, ◌⊎◌, Bool, List, [], ◌∷◌, ◌++◌, length, set, Option, Some, None, slice_get, refl, sym, ap, ◌∙◌, subst, inl, inr, arith, length-set}
 use Rattle.std.proofs.lemmas.Option.{slice_get_within}
+use Rattle.fp_base.proofs.Lists.{get_front}
 use Rattle.fp_consts.specs.declared.stretch.Stretch.{Stretch}
 use Rattle.fp_consts.specs.declared.visit.Mark.{Mark}
 use Rattle.fp_consts.specs.declared.visit.Mark.TheVariants.{Unseen, Open, Done}
 use Rattle.fp_consts.specs.declared.visit.Frame.{Frame}
 use Rattle.fp_consts.specs.Graph.{Leads}
 use Rattle.fp_consts.specs.Visits.{Among, places, State, Waits, IsDone, IsMet, TargetIs, IsFrame, Stage, entered}
-use Rattle.fp_consts.proofs.Places.{get_set_same, get_set_other, same_or_other, get_push, get_left, get_end}
+use Rattle.fp_consts.proofs.Places.{get_set_same, get_set_other, same_or_other, get_push, get_end}
 use Rattle.fp_consts.proofs.Stages.{place_within, head_within}
 
 module _ (stretches : List Stretch) (targets : List ℕ) (s : State) (v : ℕ) (stretch : Stretch) (stage : Stage stretches targets (Some v) s)
@@ -69,7 +70,7 @@ module _ (stretches : List Stretch) (targets : List ℕ) (s : State) (v : ℕ) (
   frames g (inl e) = subst (λ (x : Frame). IsFrame stretches (s.opened ++ v ∷ []) x) e top_frame
   frames g (inr h) =
       let old = stage.of_frames g h in
-      record { here = get_left s.opened (v ∷ []) g.vertex g.at old.here; stretch = old.stretch; of_stretch = old.of_stretch; since = old.since; end_is = old.end_is }
+      record { here = get_front s.opened (v ∷ []) g.at g.vertex old.here; stretch = old.stretch; of_stretch = old.of_stretch; since = old.since; end_is = old.end_is }
 
   open_here : (place u : ℕ) → (slice_get s.opened place ≡ Some u) ⊎ ((place ≡ n) × (v ≡ u)) → slice_get after u ≡ Some (Open place)
   open_here place u (inl h) = stays_open u place (stage.open_here place u h)
@@ -82,7 +83,7 @@ module _ (stretches : List Stretch) (targets : List ℕ) (s : State) (v : ℕ) (
       let now = here in
       let p : n ≡ place = cc in
       subst (λ (x : ℕ). slice_get (s.opened ++ v ∷ []) x ≡ Some u) p (get_end s.opened v ∙ ap Some (sym same))
-  open_at u place e (inr ne) = get_left s.opened (v ∷ []) u place (stage.open_at u place (sym (elsewhere u ne) ∙ e))
+  open_at u place e (inr ne) = get_front s.opened (v ∷ []) place u (stage.open_at u place (sym (elsewhere u ne) ∙ e))
 
   heads_in : (head : ℕ) → Among (n ∷ s.heads) head → Among (places (top ∷ s.frames)) head
   heads_in head (inl e) = inl e

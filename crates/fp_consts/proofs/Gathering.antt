@@ -1,9 +1,8 @@
 -- What is found of some expressions, one after another.
 use Rattle.std.proofs.Common.{◌≡◌, ℕ, zero, suc, ◌+◌, ◌-◌, ◌^◌, ◌≤◌, ◌⊎◌, min, max, true, false, List, [], ◌∷◌, ◌++◌, length, map, flat_map, sum, slice_get, take, Option, Some, None, refl, inl, inr, sym, ap, subst, ◌∙◌, arith, length-append}
 use Rattle.std.specs.List.{sum_by}
-use Rattle.std.proofs.lemmas.List.{take_more}
 use Rattle.std.proofs.lemmas.List.Sums.{sum-map, sum_by-append}
-use Rattle.std.proofs.lemmas.Option.{slice_get_within, get_or_from_slice_get}
+use Rattle.fp_base.proofs.Lists.{take_next}
 use Rattle.fp_base.specs.declared.refusal.Refusal.{Refusal}
 use Rattle.fp_base.specs.declared.value.Value.{Value}
 use Rattle.fp_tree.specs.declared.source.Source.{Source}
@@ -157,9 +156,6 @@ module _ (source : Source) (scope : Path) where
       let long = length-append (in_expression scope x) (flat_map (in_expression scope) (take k es)) in
       let same : from + length (in_expression scope x) + length (flat_map (in_expression scope) (take k es)) ≡ from + length (in_expression scope x ++ flat_map (in_expression scope) (take k es)) = omega arith in
       subst (λ (n : ℕ). AreGiven source table numbers (in_expression scope e) n) same rest
-
-  take_next : {A : Type 0} (xs : List A) (k : ℕ) (x : A) → slice_get xs k ≡ Some x → take (k + 1) xs ≡ take k xs ++ x ∷ []
-  take_next xs k x at = take_more xs k x (slice_get_within xs k x at) ∙ ap (λ (y : _). take k xs ++ y ∷ []) (get_or_from_slice_get xs k x x at)
 
   -- one step of a loop over some expressions
   pub gathered_step : (table : List (Option Measured)) (numbers : List ℕ) (es : List Expr) (k : ℕ) (e : Expr) (from : ℕ) (g : Gathered) (found : Found) (h : Gathered)

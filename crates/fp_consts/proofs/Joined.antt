@@ -31,7 +31,7 @@ use Rattle.fp_consts.specs.Settled.{basis_of}
 use Rattle.fp_consts.specs.Tabled.{AreExact}
 use Rattle.fp_consts.proofs.Grouped.{value_names}
 use Rattle.fp_consts.proofs.Parted.{source_uses, source_bases, source_places}
-use Rattle.fp_consts.proofs.Places.{get_below}
+use Rattle.fp_consts.proofs.Places.{item_below}
 use Rattle.fp_consts.proofs.Tabled.{IsSpot, spot_of, flat_at, given_each}
 
 index_of : {A : Type 0} (xs : List A) (y : A) → Contains xs y → (k : ℕ) × (slice_get xs k ≡ Some y)
@@ -95,7 +95,7 @@ module _ (source : Source) (pieces : List Piece) (meanings : List ℕ) (parts : 
       let there : slice_get (mentions source) i ≡ Some m = subst (λ (ms : List Mention). slice_get ms i ≡ Some m) the_uses at in
       let each = meant.each in
       let low : i < length (mentions source) = slice_get_within (mentions source) i m there in
-      let u = get_below meanings i (omega arith) in
+      let u = item_below meanings i (omega arith) in
       let means = meant.meant i m u.0 there u.1 in
       let index : i ≡ 0 + i = omega arith in (
         u.0,
@@ -136,7 +136,7 @@ module _ (source : Source) (pieces : List Piece) (meanings : List ℕ) (parts : 
         let at = meaning_at user u.origin s t.0 u.mention here in
         let each = meant.each in
         let below : s.first + t.0 < length (mentions source) = slice_get_within (mentions source) (s.first + t.0) u.mention at in
-        let n = get_below meanings (s.first + t.0) (omega arith) in
+        let n = item_below meanings (s.first + t.0) (omega arith) in
         let means = meant.meant (s.first + t.0) u.mention n.0 at n.1 in
         let grouped : u.mention.group ≡ group.Value = value_names u.where_.expression u.where_.scope t.0 u.mention t.1 in
         let meant_so : Means (definitions source) u.mention.scope u.mention.name group.Value n.0 =
@@ -159,7 +159,7 @@ module _ (source : Source) (pieces : List Piece) (meanings : List ℕ) (parts : 
     back user used e =
         let count = origins_count in
         let low : user < length spans = slice_get_within spans user e.stretch e.here in
-        let o = get_below (origins source) user (omega arith) in
+        let o = item_below (origins source) user (omega arith) in
         let s = the_spot user o.0 o.1 in
         let spanned_so : slice_get spans user ≡ Some (record { first = s.first; end = s.end }) = ap (λ (xs : List Stretch). slice_get xs user) spanned ∙ s.span in
         let same : e.stretch ≡ record { first = s.first; end = s.end } = some_same (sym e.here ∙ spanned_so) in
@@ -168,7 +168,7 @@ module _ (source : Source) (pieces : List Piece) (meanings : List ℕ) (parts : 
         let since = e.since in let before = e.before in let last = s.is_end in
         let i : ℕ = e.at - s.first in
         let index : s.first + i ≡ e.at = omega arith in
-        let m = get_below (uses_in_basis (basis_of o.0)) i (omega arith) in
+        let m = item_below (uses_in_basis (basis_of o.0)) i (omega arith) in
         let at = meaning_at user o.0 s i m.0 m.1 in
         let target : slice_get meanings (s.first + i) ≡ Some used = subst (λ (n : ℕ). slice_get meanings n ≡ Some used) (sym index) e.target in
         let means = meant.meant (s.first + i) m.0 used at target in

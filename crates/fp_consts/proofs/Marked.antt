@@ -1,8 +1,9 @@
 -- The values of expressions, one after another, and the least of what is broken in them.
 use Rattle.std.proofs.Common.{◌≡◌, ℕ, zero, suc, ◌+◌, ◌≤◌, ◌⊎◌, List, [], ◌∷◌, ◌++◌, length, flat_map, slice_get, take, Option, Some, None, refl, inl, inr, sym, ap, subst, ◌∙◌, arith, length-append}
-use Rattle.std.proofs.lemmas.List.{append-nil, take_all, take_more}
+use Rattle.std.proofs.lemmas.List.{append-nil, take_all}
 use Rattle.std.proofs.lemmas.Grind.{flat_map-append}
-use Rattle.std.proofs.lemmas.Option.{slice_get_within, get_or_from_slice_get}
+use Rattle.std.proofs.lemmas.Option.{slice_get_within}
+use Rattle.fp_base.proofs.Lists.{take_next}
 use Rattle.fp_base.specs.declared.value.Value.{Value}
 use Rattle.fp_base.specs.declared.refusal.Refusal.{Refusal}
 use Rattle.fp_tree.specs.declared.source.Source.{Source}
@@ -128,9 +129,6 @@ module _ (source : Source) where
 -- so many of the parts
 abbrev pub MarksFirst : List (Option Measured) → List ℕ → List Piece → ℕ → Marking → Type 0
 MarksFirst table numbers pieces k marking = (source : Source) → AreGiven source table numbers (flat_map uses_in pieces) 0 → IsMarked source (take k pieces) marking
-
-take_next : {A : Type 0} (xs : List A) (k : ℕ) (x : A) → slice_get xs k ≡ Some x → take (k + 1) xs ≡ take k xs ++ x ∷ []
-take_next xs k x at = take_more xs k x (slice_get_within xs k x at) ∙ ap (λ (y : _). take k xs ++ y ∷ []) (get_or_from_slice_get xs k x x at)
 
 module _ (table : List (Option Measured)) (numbers : List ℕ) (pieces : List Piece) where
   pub marks_none : (m : Marking) → m ≡ record { at = []; first = None; next = 0 } → MarksFirst table numbers pieces 0 m

@@ -1,6 +1,7 @@
 -- The value and the faults of a negation and of an operator, from those of the operands.
 use Rattle.std.proofs.Common.{◌≡◌, ℤ, neg_ℤ, pos, FitsSigned, Option, Some, None, option_map, refl, inl, inr, sym, ap, subst, ◌∙◌}
 use Rattle.std.specs.Int.{w128}
+use Rattle.fp_base.proofs.Options.{same_some}
 use Rattle.fp_base.specs.declared.place.Place.{Place}
 use Rattle.fp_base.specs.declared.refusal.Refusal.{Refusal}
 use Rattle.fp_base.specs.declared.value.Value.{Value, Int}
@@ -42,9 +43,6 @@ as_other e i = ap operand_of e ∙ ap operand_with i
 
 same_number : {x y : ℤ} → Number x ≡ Number y → x ≡ y
 same_number e = cc
-
-same_some : {A : Type 0} {x y : A} → Some x ≡ Some y → x ≡ y
-same_some e = cc
 
 -- what an operator breaks
 abbrev pub BinaryHere : Place → Operator → Expr → Expr → Option Value → Option Value → Refusal → Type 0

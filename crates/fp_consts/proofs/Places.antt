@@ -1,5 +1,5 @@
 -- Lists by their places.
-use Rattle.std.proofs.Common.{◌≡◌, ◌≢◌, ℕ, zero, suc, ◌+◌, ◌<◌, ◌≤◌, ◌⊎◌, Bool, List, [], ◌∷◌, ◌++◌, length, map, set, take, drop, reverse, Option, Some, slice_get, refl, sym, ap, ◌∙◌, subst, inl, inr, arith, length-set}
+use Rattle.std.proofs.Common.{◌≡◌, ◌≢◌, ℕ, zero, suc, ◌+◌, ◌<◌, ◌≤◌, ◌⊎◌, Bool, List, [], ◌∷◌, ◌++◌, length, map, set, take, drop, reverse, Some, slice_get, refl, sym, ap, ◌∙◌, subst, inl, inr, arith, length-set}
 use Rattle.std.proofs.lemmas.List.{reverse-append}
 use Rattle.std.proofs.lemmas.Option.{slice_get_within}
 use Rattle.fp_consts.specs.declared.visit.Mark.{Mark}
@@ -24,10 +24,10 @@ same_or_other i j = grind arith
 pub before_or_not : (i j : ℕ) → (i < j) ⊎ (j ≤ i)
 before_or_not i j = grind arith
 
-pub get_below : {A : Type 0} (xs : List A) (i : ℕ) → i < length xs → (x : A) × (slice_get xs i ≡ Some x)
-get_below [] i h = absurd (omega arith)
-get_below (x ∷ xs) zero h = (x, refl)
-get_below (x ∷ xs) (suc i) h = get_below xs i (omega arith)
+pub item_below : {A : Type 0} (xs : List A) (i : ℕ) → i < length xs → (x : A) × (slice_get xs i ≡ Some x)
+item_below [] i h = absurd (omega arith)
+item_below (x ∷ xs) zero h = (x, refl)
+item_below (x ∷ xs) (suc i) h = item_below xs i (omega arith)
 
 pub get_push : {A : Type 0} (xs : List A) (x y : A) (k : ℕ) → slice_get (xs ++ x ∷ []) k ≡ Some y → (slice_get xs k ≡ Some y) ⊎ ((k ≡ length xs) × (x ≡ y))
 get_push [] x y zero e = inr (refl, cc)
@@ -38,11 +38,6 @@ get_push (z ∷ xs) x y (suc k) e = go (get_push xs x y k e)
     go : (slice_get xs k ≡ Some y) ⊎ ((k ≡ length xs) × (x ≡ y)) → (slice_get xs k ≡ Some y) ⊎ ((suc k ≡ suc (length xs)) × (x ≡ y))
     go (inl h) = inl h
     go (inr t) = inr (omega arith, t.1)
-
-pub get_left : {A : Type 0} (xs ys : List A) (y : A) (k : ℕ) → slice_get xs k ≡ Some y → slice_get (xs ++ ys) k ≡ Some y
-get_left [] ys y k e = cc
-get_left (x ∷ xs) ys y zero e = e
-get_left (x ∷ xs) ys y (suc k) e = get_left xs ys y k e
 
 pub get_right : {A : Type 0} (xs ys : List A) (y : A) (j k : ℕ) → j ≡ length xs + k → slice_get ys k ≡ Some y → slice_get (xs ++ ys) j ≡ Some y
 get_right [] ys y j k s e = let same : k ≡ j = omega arith in subst (λ (i : ℕ). slice_get ys i ≡ Some y) same e
@@ -90,9 +85,6 @@ reverse_push xs x = reverse-append xs (x ∷ [])
 
 pub reverse_push_as : {A : Type 0} (xs ys : List A) (x : A) → ys ≡ xs ++ x ∷ [] → reverse ys ≡ x ∷ reverse xs
 reverse_push_as xs ys x e = ap reverse e ∙ reverse_push xs x
-
-pub same_some : {A : Type 0} (o : Option A) (x y : A) → o ≡ Some x → o ≡ Some y → x ≡ y
-same_some o x y e f = cc
 
 pub among_map : {A B : Type 0} (f : A → B) (xs : List A) (y : B) → Among (map f xs) y → (x : A) × Among xs x × (f x ≡ y)
 among_map f [] y h = absurd h

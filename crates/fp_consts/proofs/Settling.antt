@@ -1,6 +1,7 @@
 -- The last part is done.
 use Rattle.std.proofs.Common.{◌≡◌, ◌≢◌, ℕ, suc, ◌+◌, ◌-◌, ◌<◌, ◌≤◌, ◌⊎◌, Bool, true, false, MatchBool, List, [], ◌∷◌, ◌++◌, length, take, drop, Option, Some, None, slice_get, refl, sym, ap, ◌∙◌, subst, inl, inr, arith, length-take}
 use Rattle.std.proofs.lemmas.Option.{slice_get_within}
+use Rattle.fp_base.proofs.Lists.{get_front}
 use Rattle.fp_consts.specs.declared.stretch.Stretch.{Stretch}
 use Rattle.fp_consts.specs.declared.visit.Mark.{Mark}
 use Rattle.fp_consts.specs.declared.visit.Mark.TheVariants.{Unseen, Open, Done}
@@ -8,7 +9,7 @@ use Rattle.fp_consts.specs.declared.visit.Frame.{Frame}
 use Rattle.fp_consts.specs.Graph.{Edge, IsCyclic, one}
 use Rattle.fp_consts.specs.Visits.{Among, places, State, Waits, IsDone, IsMet, IsFrame, Stage, under, with_heads, settled, marked, IsRing}
 use Rattle.fp_consts.proofs.Reaching.{Reaches, leads_reaches, first_edge, kept_or_same}
-use Rattle.fp_consts.proofs.Places.{get_below, get_drop, get_take, take_below, get_left, get_right, get_joined, same_or_other, before_or_not, marked_length, marked_other, marked_same}
+use Rattle.fp_consts.proofs.Places.{item_below, get_drop, get_take, take_below, get_right, get_joined, same_or_other, before_or_not, marked_length, marked_other, marked_same}
 use Rattle.fp_consts.proofs.Stages.{downs, ups, top_frame}
 use Rattle.fp_consts.proofs.Joining.{no_wait}
 
@@ -129,7 +130,7 @@ module _ (stretches : List Stretch) (targets : List ℕ) (s : State) (f : Frame)
     long_ring : (i v : ℕ) → f.at ≤ i → slice_get s.opened i ≡ Some v → suc f.at < length s.opened → IsCyclic stretches targets v
     long_ring i v le h long =
         let t = other_place i le long in
-        let u = get_below s.opened t.0 t.2 in
+        let u = item_below s.opened t.0 t.2 in
         go t.0 u.0 t.1 u.1 t.3 (part_reaches i t.0 v u.0 le t.1 h u.1)
       where
         go : (j u : ℕ) → f.at ≤ j → slice_get s.opened j ≡ Some u → (j ≢ i) → Reaches stretches targets v u → IsCyclic stretches targets v
@@ -203,7 +204,7 @@ module _ (stretches : List Stretch) (targets : List ℕ) (s : State) (f : Frame)
             → (k : ℕ) × (slice_get (s.order ++ part) k ≡ Some v)
         go (inl (i, h, le, e)) =
             (length s.order + (i - f.at), get_right s.order part v (length s.order + (i - f.at)) (i - f.at) refl (get_drop s.opened f.at (i - f.at) i (omega arith) ∙ h))
-        go (inr (out, e)) = let t = stage.in_order v (c, e) in (t.0, get_left s.order part v t.0 t.1)
+        go (inr (out, e)) = let t = stage.in_order v (c, e) in (t.0, get_front s.order part t.0 v t.1)
 
     abbrev Joined : ℕ → ℕ → Type 0
     Joined k v = (slice_get s.order k ≡ Some v) ⊎ ((i : ℕ) × (k ≡ length s.order + i) × (slice_get part i ≡ Some v))
@@ -228,14 +229,14 @@ module _ (stretches : List Stretch) (targets : List ℕ) (s : State) (f : Frame)
         omega arith
 
     behind : (k v w : ℕ) → Joined k v → ¬ IsCyclic stretches targets v → Edge stretches targets v w → (j : ℕ) × (j < k) × (slice_get (s.order ++ part) j ≡ Some w)
-    behind k v w (inl a) out e = let t = stage.behind k v w a out e in (t.0, t.1, get_left s.order part w t.0 t.2)
+    behind k v w (inl a) out e = let t = stage.behind k v w a out e in (t.0, t.1, get_front s.order part t.0 w t.2)
     behind k v w (inr (i, same, a)) out e = go (uses_of_part (f.at + i) v w (omega arith) (part_at i v a) e)
       where
         go : IsDone s.marks w ⊎ ((j : ℕ) × (slice_get s.opened j ≡ Some w) × (f.at ≤ j)) → (j : ℕ) × (j < k) × (slice_get (s.order ++ part) j ≡ Some w)
         go (inl d) =
             let t = stage.in_order w d in
             let lt = slice_get_within s.order t.0 w t.1 in
-            (t.0, omega arith, get_left s.order part w t.0 t.1)
+            (t.0, omega arith, get_front s.order part t.0 w t.1)
         go (inr (j, h, le)) = absurd (out (edge_within (f.at + i) j v w (omega arith) le (part_at i v a) h e))
 
     -- ---- what is still open

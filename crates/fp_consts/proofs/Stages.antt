@@ -7,7 +7,7 @@ use Rattle.fp_consts.specs.declared.visit.Frame.{Frame}
 use Rattle.fp_consts.specs.Graph.{Edge}
 use Rattle.fp_consts.specs.Visits.{Among, Falls, places, State, Waits, IsDone, IsMet, TargetIs, IsFrame, Stage, under, moved}
 use Rattle.fp_consts.proofs.Reaching.{Reaches, reaches_leads, leads_reaches}
-use Rattle.fp_consts.proofs.Places.{get_below, among_map, same_or_other}
+use Rattle.fp_consts.proofs.Places.{item_below, among_map, same_or_other}
 
 pub top_most : (x : ℕ) (xs : List ℕ) → Falls (x ∷ xs) → (y : ℕ) → Among (x ∷ xs) y → y ≤ x
 top_most x xs h y (inl e) = omega arith
@@ -34,7 +34,7 @@ module _ (stretches : List Stretch) (targets : List ℕ) where
     downs (suc d) i zero v w e h k = absurd (omega arith)
     downs (suc d) i (suc j) v w e h k =
         let below = slice_get_within s.opened (suc j) w k in
-        let t = get_below s.opened j (omega arith) in
+        let t = item_below s.opened j (omega arith) in
         inr (reaches_leads stretches targets (downs d i j v t.0 (omega arith) h t.1) (stage.down j t.0 w t.1 k))
 
     -- from a later place to an earlier one of the same part
@@ -47,7 +47,7 @@ module _ (stretches : List Stretch) (targets : List ℕ) where
     ups (suc d) i zero v w e h k none = absurd (omega arith)
     ups (suc d) i (suc j) v w e h k none =
         let below = slice_get_within s.opened (suc j) w k in
-        let t = get_below s.opened j (omega arith) in
+        let t = item_below s.opened j (omega arith) in
         inr (leads_reaches stretches targets (stage.up j t.0 w t.1 k (λ a. none (suc j) a (omega arith) (omega arith)))
         (ups d i j v t.0 (omega arith) h t.1 (λ head a lt le. none head a lt (omega arith))))
 

@@ -10,7 +10,7 @@ use Rattle.fp_consts.specs.declared.visit.Frame.{Frame}
 use Rattle.fp_consts.specs.Graph.{Leads, IsCyclic, IsSorted}
 use Rattle.fp_consts.specs.Visits.{Among, Falls, places, State, IsDone, Stage, Seen, Progress, under, moved, entered, with_heads, settled, marked, IsRing, IsStep, IsResting, begun, is_cyclic, waiting}
 use Rattle.fp_consts.proofs.Reaching.{reaches_edge}
-use Rattle.fp_consts.proofs.Places.{get_set_same, get_set_other, same_or_other, get_below, reverse_push_as}
+use Rattle.fp_consts.proofs.Places.{get_set_same, get_set_other, same_or_other, item_below, reverse_push_as}
 use Rattle.fp_consts.proofs.Stages.{ups, top_edge, top_frame, head_below_top, moved_on, met_then, any_pending}
 use Rattle.fp_consts.proofs.Entering.{entered_stage}
 use Rattle.fp_consts.proofs.Joining.{joined_stage, all_heads, left_stage}
@@ -268,7 +268,7 @@ module _ (stretches : List Stretch) (targets : List ℕ) where
     all_done : (v : ℕ) → v < length stretches → IsDone s.marks v
     all_done v lt =
         let each = rest.stage.each in
-        let t = get_below s.marks v (omega arith) in
+        let t = item_below s.marks v (omega arith) in
         go t.0 t.1
       where
         go : (m : Mark) → slice_get s.marks v ≡ Some m → IsDone s.marks v

@@ -3,6 +3,7 @@ use Rattle.std.proofs.Common.{◌≡◌, ℕ, zero, suc, ◌+◌, ◌<◌, ◌�
 use Rattle.std.proofs.lemmas.List.{length-map}
 use Rattle.std.proofs.lemmas.List.Concat.{flat_map_single}
 use Rattle.std.proofs.lemmas.Option.{slice_get_within, slice_get-map}
+use Rattle.fp_base.proofs.Lists.{get_front}
 use Rattle.fp_base.specs.declared.place.Place.{Place}
 use Rattle.fp_tree.specs.declared.source.Source.{Source}
 use Rattle.fp_meaning.specs.declared.names.Mention.{Mention}
@@ -25,7 +26,7 @@ use Rattle.fp_consts.proofs.Bridging.{on_cycle_from}
 use Rattle.fp_consts.proofs.Grounded.{none_on_cycle}
 use Rattle.fp_consts.proofs.Measures.{none_measured}
 use Rattle.fp_consts.proofs.Parted.{source_uses, source_bases}
-use Rattle.fp_consts.proofs.Places.{get_left, get_right, get_below, get_set_same, get_set_other, same_or_other, before_or_not}
+use Rattle.fp_consts.proofs.Places.{get_right, item_below, get_set_same, get_set_other, same_or_other, before_or_not}
 
 -- what an element gives stands in what all give
 pub flat_at : {A B : Type 0} (f : A → List B) (xs : List A) (k : ℕ) (x : A) (i : ℕ) (y : B) → slice_get xs k ≡ Some x → slice_get (f x) i ≡ Some y
@@ -35,7 +36,7 @@ flat_at {B = B} f (z ∷ xs) zero x i y at there =
     let same : x ≡ z = cc in
     let here : slice_get (f z) i ≡ Some y = subst (λ (w : _). slice_get (f w) i ≡ Some y) same there in
     let index : i ≡ 0 + i = omega arith in
-    subst (λ (n : ℕ). slice_get (f z ++ flat_map f xs) n ≡ Some y) index (get_left (f z) (flat_map f xs) y i here)
+    subst (λ (n : ℕ). slice_get (f z ++ flat_map f xs) n ≡ Some y) index (get_front (f z) (flat_map f xs) i y here)
 flat_at f (z ∷ xs) (suc k) x i y at there =
     let long = length-append (f z) (flat_map f (take k xs)) in
     let index : length (f z ++ flat_map f (take k xs)) + i ≡ length (f z) + (length (flat_map f (take k xs)) + i) = omega arith in
@@ -175,7 +176,7 @@ module _ (source : Source) (pieces : List Piece) (spans : List Stretch) (spots m
       subst (λ (ms : List Mention). slice_get ms (s.first + i) ≡ Some m) all_uses (subst (λ (n : ℕ). slice_get (flat_map uses_in pieces) n ≡ Some m) index whole) in
       let each = out.meant.each in
       let below : s.first + i < length (mentions source) = slice_get_within (mentions source) (s.first + i) m mentioned in
-      let u = get_below meanings (s.first + i) (omega arith) in
+      let u = item_below meanings (s.first + i) (omega arith) in
       let means = out.meant.meant (s.first + i) m u.0 mentioned u.1 in
       let count = out.uses.count in
       let defined : u.0 < length (definitions source) = slice_get_within (definitions source) u.0 means.meant.named.definition means.meant.named.here in
@@ -233,8 +234,8 @@ module _ (source : Source) (pieces : List Piece) (spans : List Stretch) (spots m
       let low = sorted.within k number at in
       let same = origins_length in
       let count = sorted.each in
-      let origin = get_below (origins source) number (omega arith) in
-      let flag = get_below cyclic number (omega arith) in
+      let origin = item_below (origins source) number (omega arith) in
+      let flag = item_below cyclic number (omega arith) in
       exact_here table k number o origin.0 origin.1 at exact is flag.0 flag.1
 
   pub exact_next : (table : List (Option Measured)) (k number : ℕ) (o : Option Measured) → slice_get order k ≡ Some number → number < length table

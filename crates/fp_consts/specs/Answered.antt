@@ -9,7 +9,7 @@ use Rattle.fp_base.specs.Least.{IsLeast}
 use Rattle.fp_meaning.specs.Origins.{Placed}
 use Rattle.fp_meaning.specs.Values.{opened, Val}
 
--- the expression's value; where it has none, the value of an abstract type, which no production makes
+-- the expression's value; where it has none, `Opaque`, which no production makes: a later phase reads it as missing
 abbrev pub StandsFor : Source → Placed → Value → Type 0
 StandsFor source p v =
     Val source p.scope (opened p.expression) v ⊎ ((v ≡ Opaque) × ((w : Value) → Val source p.scope (opened p.expression) w → ⊥))

@@ -47,8 +47,9 @@ pub fn evaluate_all(alloc: Global, source: &Source, uses: &Uses) -> Result<Marks
     })
 }
 
-/// The value of each expression of a source, in source order, or the least rule that its constants break. Where an expression has no
-/// value though they break none, as a constant of an enumeration that is written in part, `Opaque` stands.
+/// The value of each expression of a source, in source order, or the least rule that its constants break. `Opaque` stands for "no value,
+/// though no rule of constants is broken", as at a constant of an enumeration that is written in part; no expression has it as its
+/// value, and a later phase reads it as a value that is missing.
 pub fn evaluate(alloc: Global, source: &Source, uses: &Uses) -> Result<Values, Stop>
     requires { AreMeanings (definitions source.now) (mentions source.now) uses.now.meanings }
     ensures values { IfOk result (λ values. StandFor source.now (expressions source.now) values.at) }

@@ -10,7 +10,7 @@ use fp_base::{Place, Refusal, Rule, Value, refusal_at};
 use fp_tree::Operator;
 
 /// What an operator takes of an operand.
-#[derive(Clone, Copy, PartialEq, Eq)]
+#[derive(Clone, Copy)]
 pub enum Operand {
     /// It has no value.
     Missing,

@@ -1,5 +1,5 @@
 /// Where the uses of a definition stand among the targets: from `first` on and before `end`.
-#[derive(Clone, Copy, PartialEq, Eq)]
+#[derive(Clone, Copy)]
 pub struct Stretch {
     pub first: usize,
     pub end: usize,

@@ -6,7 +6,7 @@ use crate::stretch::Stretch;
 use fp_base::NoMemory;
 
 /// How far a definition is known.
-#[derive(Clone, Copy, PartialEq, Eq)]
+#[derive(Clone, Copy)]
 pub enum Mark {
     Unseen,
     /// It was reached, and stands at this place among those that are open.

@@ -1,10 +1,11 @@
 use Rattle.std.proofs.Common.{rules, ◌≡◌, List, Some, length, slice_get, refl, sym, ap, ◌∙◌}
 use Rattle.std.proofs.lemmas.Option.{slice_get_read}
+use Rattle.fp_base.proofs.Options.{if_ok_then}
 use Rattle.fp_tree.specs.declared.expression.Expr.{Expr}
 use Rattle.fp_tree.specs.declared.expression.Form.TheVariants.{Minus, Parentheses, Binary, Array, Struct}
 use Rattle.fp_tree.specs.declared.expression.Assignment.{Assignment}
 use Rattle.fp_meaning.specs.Values.{values_in}
-use Rattle.fp_consts.proofs.Arms.{if_ok_then, number_arm, float_arm, text_arm, truth_arm, use_arm, minus_arm, parentheses_arm, binary_arm, list_made, struct_made, gathers_none, gathers_next, gathers_all, member_at}
+use Rattle.fp_consts.proofs.Arms.{number_arm, float_arm, text_arm, truth_arm, use_arm, minus_arm, parentheses_arm, binary_arm, list_made, struct_made, gathers_none, gathers_next, gathers_all, member_at}
 use Rattle.fp_consts.proofs.Counted.{values_past}
 use Rattle.fp_consts.proofs.examining.+examine.Goals as goal
 

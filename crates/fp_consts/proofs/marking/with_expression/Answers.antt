@@ -1,6 +1,6 @@
-use Rattle.fp_consts.proofs.Arms.{if_ok_then}
 use Rattle.fp_consts.proofs.Marked.{one_expression}
 use Rattle.fp_consts.proofs.marking.with_expression.Goals as goal
+use Rattle.fp_base.proofs.Options.{if_ok_then}
 
 pub returns : goal.returns
 returns c =

@@ -1,6 +1,6 @@
 use Rattle.std.proofs.Common.{sym, subst}
 use Rattle.std.specs.Prelude.{IfOk}
-use Rattle.fp_consts.proofs.Arms.{if_ok_then}
+use Rattle.fp_base.proofs.Options.{if_ok_then}
 use Rattle.fp_tree.specs.declared.expression.Expr.{Expr}
 use Rattle.fp_consts.specs.declared.pieces.Numbered.{Numbered}
 use Rattle.fp_consts.specs.Marked.{MarksExpression, MarksNumber}
