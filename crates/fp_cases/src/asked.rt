@@ -73,6 +73,14 @@ fn of_call<R: Threads + Wait + Sync + Files>(
     }
 }
 
+fn told(alloc: Global, answer: Result<Text, Stop>) -> Result<Text, NoMemory> {
+    match answer {
+        Ok(text) => Ok(text),
+        Err(Stop::Broken(refusal)) => refused(alloc, refusal),
+        Err(Stop::NoMemory) => Err(NoMemory),
+    }
+}
+
 /// What comes of a question: an answer, or the rule that is broken, and where.
 pub fn answer<R: Threads + Wait + Sync + Files>(
     rt: &R,
@@ -80,12 +88,11 @@ pub fn answer<R: Threads + Wait + Sync + Files>(
     case: &Case,
     question: &str,
 ) -> Result<Text, NoMemory> {
-    let of_source = of_source(alloc, case, question);
-    let of_any = of_source.or_else(|| of_constants(alloc, case, question));
-    match of_any {
-        Some(Ok(text)) => Ok(text),
-        Some(Err(Stop::Broken(refusal))) => refused(alloc, refusal),
-        Some(Err(Stop::NoMemory)) => Err(NoMemory),
-        None => of_call(rt, alloc, case, question),
+    if let Some(answer) = of_source(alloc, case, question) {
+        return told(alloc, answer);
     }
+    if let Some(answer) = of_constants(alloc, case, question) {
+        return told(alloc, answer);
+    }
+    of_call(rt, alloc, case, question)
 }

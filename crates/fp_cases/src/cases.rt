@@ -20,8 +20,12 @@ pub struct Case<'a> {
 impl<'a> Case<'a> {
     /// What stands under a label, where there is such a part.
     fn given(&self, label: &str) -> Option<&[u8]> {
-        let part = self.parts.iter().find(|part| part.label == label)?;
-        Some(part.body.as_slice())
+        for part in self.parts.iter() {
+            if part.label == label {
+                return Some(part.body.as_slice());
+            }
+        }
+        None
     }
 
     /// The first file of the source: what stands under its label, or else the name of the case.

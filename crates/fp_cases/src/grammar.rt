@@ -2,6 +2,7 @@ use crate::cases::Case;
 use crate::definitions::add_definition;
 use crate::expressions::add_expression;
 use crate::tree::Tree;
+use crate::words::{numeral, push_all};
 use fp_base::{NoMemory, Row, Stop, Text};
 use fp_lexer::{Token, lex};
 use fp_parse_defs::{parse_def, parse_expr};
@@ -24,14 +25,14 @@ fn may_begin(tokens: &Row<Token>, from: u32) -> bool {
     tokens.len() > 0 && tokens.len() <= MOST_TOKENS && from as usize <= tokens.len()
 }
 
-fn viewed(alloc: Global, tree: Tree, to: u32, view: View) -> Result<Text, Stop> {
+fn viewed(alloc: Global, tree: Tree, to: u32, view: View) -> Result<Text, NoMemory> {
     match view {
         View::Places => Ok(tree.places),
         View::Shape => {
-            let text = format!(in alloc; "to token {to}\n{}", tree.shape.as_str()).map_err(
-                |_| NoMemory,
-            )?;
-            Ok(Text::from_str(alloc, text.as_str())?)
+            let mut text = Text::from_str(alloc, "to token ")?;
+            let number = numeral(alloc, to as u64)?;
+            push_all(&mut text, &[number.as_str(), "\n", tree.shape.as_str()])?;
+            Ok(text)
         }
     }
 }
@@ -51,7 +52,7 @@ pub fn expression(alloc: Global, case: &Case, view: View) -> Result<Text, Stop> 
     let mut tree = Tree::new(alloc);
     let (expression, to) = parsed_expression(alloc, case)?;
     add_expression(alloc, &expression, &mut tree)?;
-    viewed(alloc, tree, to, view)
+    Ok(viewed(alloc, tree, to, view)?)
 }
 
 /// What a definition spells.
@@ -64,5 +65,5 @@ pub fn definition(alloc: Global, case: &Case, view: View) -> Result<Text, Stop> 
     }
     let (definition, to) = parse_def(alloc, &tokens, from)?;
     add_definition(alloc, &definition, &mut tree)?;
-    viewed(alloc, tree, to, view)
+    Ok(viewed(alloc, tree, to, view)?)
 }

@@ -52,7 +52,10 @@ fn add_differences<R: Threads + Wait + Sync + Files>(
     out: &mut Text,
 ) -> Result<(), NoMemory> {
     let mut asks = false;
-    for part in case.parts.iter().filter(|part| !is_given(part.label)) {
+    for part in case.parts.iter() {
+        if is_given(part.label) {
+            continue;
+        }
         asks = true;
         let came = answer(rt, alloc, case, part.label)?;
         if came.as_bytes() != part.body.as_slice() {
@@ -67,15 +70,16 @@ fn add_differences<R: Threads + Wait + Sync + Files>(
 }
 
 /// How many cases a file has, and the lines of what differs in it.
-fn run_file<R: Threads + Wait + Sync + Files + AllocGlobal>(
+fn run<R: Threads + Wait + Sync + Files>(
     rt: &R,
+    alloc: Global,
     name: &str,
-) -> io::Result<(usize, Text)> {
-    let text = fs::read_to_string(rt, name)?;
-    let cases = cases_of(rt.alloc(), text.as_str()).map_err(|_| AllocError)?;
-    let mut out = Text::new(rt.alloc());
+    text: &str,
+) -> Result<(usize, Text), NoMemory> {
+    let cases = cases_of(alloc, text)?;
+    let mut out = Text::new(alloc);
     for case in cases.iter() {
-        add_differences(rt, rt.alloc(), name, case, &mut out).map_err(|_| AllocError)?;
+        add_differences(rt, alloc, name, case, &mut out)?;
     }
     Ok((cases.len(), out))
 }
@@ -84,7 +88,10 @@ fn main(rt: HostRuntime) -> io::Result<ExitCode> {
     let mut count = 0_usize;
     let mut differs = false;
     for name in env::args(&rt)?.skip(1) {
-        let (cases, lines) = run_file(&rt, name.as_str())?;
+        let text = fs::read_to_string(&rt, name.as_str())?;
+        let Ok((cases, lines)) = run(&rt, rt.alloc(), name.as_str(), text.as_str()) else {
+            return Err(io::Error::from(AllocError));
+        };
         print!(rt; "{}", lines.as_str())?;
         count = count.saturating_add(cases);
         differs = differs | (lines.len() > 0);

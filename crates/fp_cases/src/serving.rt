@@ -1,6 +1,7 @@
 ghost use Rattle.std.specs.Prelude.{◌≢◌};
 
 use crate::cases::Case;
+use crate::words::numeral;
 use fp_base::{NoMemory, Text};
 use fp_main::{Status, serve};
 use fp_outside::{Files, HostFiles, MemFiles, MemSink, OpenGate};
@@ -101,6 +102,5 @@ pub fn written(alloc: Global, sink: &MemSink) -> Result<Text, NoMemory> {
 
 /// The exit status.
 pub fn code(alloc: Global, status: Status) -> Result<Text, NoMemory> {
-    let text = format!(in alloc; "{}", status.code())?;
-    Text::from_str(alloc, text.as_str())
+    numeral(alloc, status.code() as u64)
 }

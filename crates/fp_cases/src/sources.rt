@@ -1,7 +1,7 @@
 use crate::cases::Case;
 use crate::grammar::parsed_expression;
 use crate::members::add_members;
-use crate::words::{first_broken, printed, push_line};
+use crate::words::{first_broken, numeral, printed, push_all, push_line};
 use fp_base::{NoMemory, Row, Stop, Text, Value};
 use fp_consts::{evaluate, evaluate_all, examine};
 use fp_lexer::lex;
@@ -63,8 +63,8 @@ pub fn meanings(alloc: Global, case: &Case) -> Result<Text, Stop> {
     let mut out = Text::new(alloc);
     for number in meant.meanings.as_slice() {
         let space = if out.len() == 0 { "" } else { " " };
-        let number = format!(in alloc; "{space}{number}").map_err(|_| NoMemory)?;
-        out.push_str(number.as_str())?;
+        let number = numeral(alloc, *number as u64)?;
+        push_all(&mut out, &[space, number.as_str()])?;
     }
     Ok(out)
 }
@@ -92,12 +92,10 @@ pub fn found(alloc: Global, case: &Case, group: Group) -> Result<Text, Stop> {
     let names = collect(alloc, &source(alloc, case)?)?;
     let scope = path(alloc, case.text("scope"))?;
     let name = path(alloc, case.text("use"))?;
-    let text = match names.find(&scope, &name, group) {
-        Some(number) => format!(in alloc; "{number}"),
-        None => String::from_str(alloc, "nothing"),
-    };
-    let text = text.map_err(|_| NoMemory)?;
-    Ok(Text::from_str(alloc, text.as_str())?)
+    match names.find(&scope, &name, group) {
+        Some(number) => Ok(numeral(alloc, number as u64)?),
+        None => Ok(Text::from_str(alloc, "nothing")?),
+    }
 }
 
 fn marks(alloc: Global, case: &Case) -> Result<Marks, Stop> {
@@ -126,15 +124,13 @@ pub fn values(alloc: Global, case: &Case) -> Result<Text, Stop> {
 
 /// How many of its expressions have a value.
 pub fn count(alloc: Global, case: &Case) -> Result<Text, Stop> {
-    let marks = marks(alloc, case)?;
-    let count = marks
-        .at
-        .as_slice()
-        .iter()
-        .filter(|value| value.is_some())
-        .count();
-    let text = format!(in alloc; "{count}").map_err(|_| NoMemory)?;
-    Ok(Text::from_str(alloc, text.as_str())?)
+    let mut count = 0_u64;
+    for value in marks(alloc, case)?.at.as_slice() {
+        if value.is_some() {
+            count = count.saturating_add(1);
+        }
+    }
+    Ok(numeral(alloc, count)?)
 }
 
 /// What of its constants is broken first.

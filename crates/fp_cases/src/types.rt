@@ -1,4 +1,5 @@
 use crate::sources::evaluated_values;
+use crate::words::push_all;
 use fp_base::{NoMemory, Row, Stop, Text, Value};
 use fp_tables::{Constant, Field, Form, Kind, Model, TypeDef};
 use std::alloc::Global;
@@ -49,8 +50,8 @@ const ENUMERATIONS: &str =
 
 /// The value of an expression over the enumerations.
 pub fn value_of(alloc: Global, expression: &str) -> Result<Value, Stop> {
-    let text = format!(in alloc; "{ENUMERATIONS}constant value = {expression}");
-    let text = text.map_err(|_| NoMemory)?;
+    let mut text = Text::from_str(alloc, ENUMERATIONS)?;
+    push_all(&mut text, &["constant value = ", expression])?;
     let mut values = evaluated_values(alloc, text.as_bytes())?;
     Ok(values.at.pop().unwrap_or(Value::Opaque))
 }
@@ -72,7 +73,8 @@ fn fields(alloc: Global, members: &[(&str, Option<u32>, Kind)]) -> Result<Row<Fi
 fn constants(alloc: Global, of: &str, names: &[&str]) -> Result<Row<Constant>, Stop> {
     let mut constants = Row::new(alloc);
     for name in names {
-        let value = format!(in alloc; "{of}.${name}").map_err(|_| NoMemory)?;
+        let mut value = Text::from_str(alloc, of)?;
+        push_all(&mut value, &[".$", name])?;
         constants.push(Constant {
             name: Text::from_str(alloc, name)?,
             value: value_of(alloc, value.as_str())?,
@@ -122,22 +124,33 @@ pub fn model(alloc: Global) -> Result<Model, Stop> {
     })
 }
 
+fn primitive(name: &str) -> Option<Kind> {
+    match name {
+        "U8" => Some(Kind::U8),
+        "U16" => Some(Kind::U16),
+        "U32" => Some(Kind::U32),
+        "U64" => Some(Kind::U64),
+        "I8" => Some(Kind::I8),
+        "I16" => Some(Kind::I16),
+        "I32" => Some(Kind::I32),
+        "I64" => Some(Kind::I64),
+        "bool" => Some(Kind::Bool),
+        "string size 2" => Some(Kind::Str { size: 2 }),
+        _ => None,
+    }
+}
+
 /// A type by its name; one that is none where nothing has the name.
 pub fn kind_named(name: &str) -> Kind {
-    match name {
-        "U8" => Kind::U8,
-        "U16" => Kind::U16,
-        "U32" => Kind::U32,
-        "U64" => Kind::U64,
-        "I8" => Kind::I8,
-        "I16" => Kind::I16,
-        "I32" => Kind::I32,
-        "I64" => Kind::I64,
-        "bool" => Kind::Bool,
-        "string size 2" => Kind::Str { size: 2 },
-        _ => {
-            let place = TYPES.iter().position(|of| of.0 == name);
-            Kind::Named(place.unwrap_or(TYPES.len()) as u32)
-        }
+    if let Some(kind) = primitive(name) {
+        return kind;
     }
+    let mut number = 0_u32;
+    for (known, _, _) in TYPES.iter() {
+        if *known == name {
+            return Kind::Named(number);
+        }
+        number = number.saturating_add(1);
+    }
+    Kind::Named(number)
 }

@@ -45,6 +45,12 @@ pub fn printed(alloc: Global, value: &Value) -> Result<Text, NoMemory> {
     Ok(text.unwrap_or(Text::new(alloc)))
 }
 
+/// A number as text.
+pub fn numeral(alloc: Global, number: u64) -> Result<Text, NoMemory> {
+    let text = format!(in alloc; "{number}")?;
+    Text::from_str(alloc, text.as_str())
+}
+
 /// Adds a line behind those that are there.
 pub fn push_line(out: &mut Text, line: &str) -> Result<(), NoMemory> {
     if out.len() > 0 {

@@ -1,4 +1,4 @@
-use Rattle.fp_cases.proofs.Types.{types_of_sound}
+use Rattle.fp_cases.proofs.Sound.{types_of_sound}
 use Rattle.fp_cases.proofs.conversion.converted.Goals as goal
 
 pub convert-requires : goal.convert-requires
