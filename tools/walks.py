@@ -25,6 +25,30 @@ Each function of definitions, elements and names of types has a file of its own;
 """
 
 import pathlib
+import re
+
+
+def stands(name, text):
+    """Whether a file's text uses what is imported under this name."""
+    core = name.replace("◌", "")
+    if core == "[]":
+        return "[]" in text
+    around = (r"(?<=[\s(])", r"(?=[\s)])") if core != name else (r"(?<![\w-])", r"(?![\w-])")
+    return re.search(around[0] + re.escape(core) + around[1], text) is not None
+
+
+def imports(head, text):
+    """The imports of a head that a file's text uses."""
+    lines = []
+    for line in head.splitlines():
+        listed = re.fullmatch(r"use (\S+?)\.\{(.*)\}", line)
+        if listed:
+            used = [name for name in listed[2].split(", ") if stands(name, text)]
+            lines += [f"use {listed[1]}.{{{', '.join(used)}}}"] if used else []
+        elif stands(re.split(r" as |\.", line)[-1], text):
+            lines.append(line)
+    return "\n".join(lines) + "\n"
+
 
 HEAD = """\
 use Rattle.std.proofs.Common.{rules, ◌≡◌, ◌<◌, ◌≤◌, ◌-◌, suc, arith, refl, sym, ap, subst, ◌∙◌, ◌∷◌, []}
@@ -197,7 +221,8 @@ PRODUCTIONS = [
 ]
 
 FILE = pathlib.Path("crates/fp_parse_defs/proofs/expression/+expression/Answers.antt")
-FILE.write_text("\n".join([HEAD] + [one for production in PRODUCTIONS for one in production]))
+BODY = "\n".join(one for production in PRODUCTIONS for one in production)
+FILE.write_text(imports(HEAD, BODY) + "\n" + BODY)
 
 DEFINITIONS_HEAD = """\
 use Rattle.std.proofs.Common.{rules, arith, refl, sym, ap, ◌∙◌, ◌++◌, ◌∷◌, []}
@@ -408,4 +433,5 @@ for module, functions in DEFINITIONS.items():
     for function, form in functions.items():
         file = pathlib.Path(f"crates/fp_parse_defs/proofs/{module}/{function}/Answers.antt")
         head = DEFINITIONS_HEAD + f"use Rattle.fp_parse_defs.proofs.{module}.{function}.Goals as goal\n"
-        file.write_text("\n".join([head] + [answer(name, term, "c") for name, term in form(function)]))
+        body = "\n".join(answer(name, term, "c") for name, term in form(function))
+        file.write_text(imports(head, body) + "\n" + body)

@@ -14,7 +14,7 @@ use Rattle.fp_parse_defs.specs.Definitions
 use Rattle.fp_parse_defs.specs.Language
 use Rattle.fp_parse_defs.specs.Definitions.{k_default, k_format, k_colon, k_arrow, type_begins, expr_goes_on, k_size, type_body, type_name}
 use Rattle.fp_parse_defs.proofs.WordsFit.{each_kind}
-use Rattle.fp_parse_defs.proofs.Levels.{Kept, kept}
+use Rattle.fp_parse_defs.proofs.Levels.{kept}
 
 pub type_good : (depth : ℕ) → RefsGood kind (type_name depth)
 type_good depth = let e = (kept depth).exprs in sealed_good (type_body depth) type_begins (k_size ∷ expr_goes_on) refl refl refl refl (assumption (each_kind, e))

@@ -1,6 +1,6 @@
 -- The grammar of definitions. FPP Language Specification, "Definitions", "Type Names" and "Formal Parameter Lists". This profile: no
 -- annotation but at elements of lists; `type` begins an abstract type or an alias, which what follows the name tells apart.
-use Rattle.std.specs.Prelude.{ℕ, Bool, true, false, is_some, ◌==◌, cond, Option, Some, None, List, [], ◌∷◌, ◌++◌}
+use Rattle.std.specs.Prelude.{ℕ, Bool, true, false, ◌==◌, cond, Option, Some, None, List, [], ◌∷◌, ◌++◌}
 use Rattle.fp_base.specs.declared.place.Span.{Span}
 use Rattle.fp_lexer.specs.Words.{reserved, mark}
 use Rattle.fp_lexer.specs.declared.token.Word.{Word}
