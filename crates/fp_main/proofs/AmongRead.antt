@@ -21,7 +21,7 @@ use Rattle.fp_parse_defs.specs.Reading.{BeginsAt}
 use Rattle.fp_parse_parts.specs.Units.{SpellsUnit}
 use Rattle.fp_sites.specs.Includes.{includes_in}
 use Rattle.fp_sites.specs.Sites.{BeginsToken, StandAtTokens}
-use Rattle.fp_main.proofs.AllItems.{all_both, all_contained, all_left, all_right, all_weaker, of_contained, of_item}
+use Rattle.fp_base.proofs.Lists.{each_append, each_before, each_behind, each_contained, each_weaker, of_contained, of_item}
 use Rattle.fp_main.proofs.PartsHold.{Hold}
 use Rattle.fp_main.proofs.StandBelow.{IncludesBelow, IsNumbered, StandBelow, files_below, none_below}
 use Rattle.fp_main.specs.gathering.Gathered.{InFiles, SourceBroken, StandsAmong, file_of, names_read, source_of}
@@ -53,10 +53,10 @@ begins_inside file tokens place inside (t, there, is) = ap (λ (p : Place). p.fi
 
 -- where tokens break the grammar, one begins or ends
 begins_at : (file : ℕ) (before rest : List Token) (place : Place) → AllByRecursion (Inside file) (before ++ rest) → BeginsAt before rest place → place.file ≡ file
-begins_at file before (t ∷ rest) place inside is = ap (λ (p : Place). p.file) is ∙ (all_right (Inside file) before (t ∷ rest) inside).0.0
+begins_at file before (t ∷ rest) place inside is = ap (λ (p : Place). p.file) is ∙ (each_behind (Inside file) before (t ∷ rest) inside).0.0
 begins_at file before [] place inside (front, t, cut, is) =
-    let all : AllByRecursion (Inside file) (front ++ t ∷ []) = subst (λ (ts : List Token). AllByRecursion (Inside file) ts) cut (all_left (Inside file) before [] inside) in
-    ap (λ (p : Place). p.file) is ∙ (all_right (Inside file) front (t ∷ []) all).0.1
+    let all : AllByRecursion (Inside file) (front ++ t ∷ []) = subst (λ (ts : List Token). AllByRecursion (Inside file) ts) cut (each_before (Inside file) before [] inside) in
+    ap (λ (p : Place). p.file) is ∙ (each_behind (Inside file) front (t ∷ []) all).0.1
 
 -- ---- one file
 
@@ -68,12 +68,12 @@ sites_below : (r : Reading) (tokens : List Token) (ms : List Member) → AllByRe
     → StandBelow (suc r.number) ms × IncludesBelow (suc r.number) ms
 sites_below r tokens ms inside sites = (
   record {
-    definitions = λ scope. all_contained (λ (d : Definition). d.place.file < suc r.number) (in_members definitions_in scope ms)
+    definitions = λ scope. each_contained (λ (d : Definition). d.place.file < suc r.number) (in_members definitions_in scope ms)
         (λ d h. below_next d.place.file r.number (begins_inside r.number tokens d.place inside (sites.definitions scope d h)));
-    mentions = λ scope. all_contained (λ (m : Mention). m.place.file < suc r.number) (in_members mentions_in scope ms)
+    mentions = λ scope. each_contained (λ (m : Mention). m.place.file < suc r.number) (in_members mentions_in scope ms)
         (λ m h. below_next m.place.file r.number (begins_inside r.number tokens m.place inside (sites.mentions scope m h)));
   },
-  all_contained (λ (i : Include). i.at.first.file < suc r.number) (includes_in ms)
+  each_contained (λ (i : Include). i.at.first.file < suc r.number) (includes_in ms)
       (λ i h. below_next i.at.first.file r.number (begins_inside r.number tokens i.at.first inside (sites.includes i h))),
 )
 
@@ -98,18 +98,18 @@ units_hold : {A : Type 0} (given : Path → Def → List A) (P : A → Type 0) (
     → AllByRecursion P (flat_map (λ (u : File). in_members given [] u.members) (map file_of units))
 units_hold given P [] h = tt
 units_hold given P (ms ∷ units) h =
-    all_both P (in_members given [] ms) (flat_map (λ (u : File). in_members given [] u.members) (map file_of units)) (h.0 []) (units_hold given P units h.1)
+    each_append P (in_members given [] ms) (flat_map (λ (u : File). in_members given [] u.members) (map file_of units)) (h.0 []) (units_hold given P units h.1)
 
 module _ (n : ℕ) (walked : Walked) (units : List (List Member)) (below : AllByRecursion (StandBelow n) units) where
   definitions_below : AllByRecursion (λ (d : Definition). d.place.file < n) (definitions (source_of walked units))
   definitions_below =
       units_hold definitions_in (λ (d : Definition). d.place.file < n) units
-      (all_weaker (StandBelow n) (Hold definitions_in (λ (d : Definition). d.place.file < n)) (λ ms q. q.definitions) units below)
+      (each_weaker (StandBelow n) (Hold definitions_in (λ (d : Definition). d.place.file < n)) (λ ms q. q.definitions) units below)
 
   mentions_below : AllByRecursion (λ (m : Mention). m.place.file < n) (mentions (source_of walked units))
   mentions_below =
       units_hold mentions_in (λ (m : Mention). m.place.file < n) units
-      (all_weaker (StandBelow n) (Hold mentions_in (λ (m : Mention). m.place.file < n)) (λ ms q. q.mentions) units below)
+      (each_weaker (StandBelow n) (Hold mentions_in (λ (m : Mention). m.place.file < n)) (λ ms q. q.mentions) units below)
 
   below_as : (f : Refusal) (place : Place) → f.place ≡ place → place.file < n → f.place.file < n
   below_as f place e lt = subst (λ (p : Place). p.file < n) (sym e) lt
@@ -144,9 +144,10 @@ source_below : (walked : Walked) (units : List (List Member)) (f : Refusal) → 
     → SourceBroken walked (source_of walked units) f → f.place.file < length walked.readings
 source_below walked units f num below (inl b) = in_files_below BreaksTokens broken_tokens walked f num b
 source_below walked units f num below (inr (inl b, none)) = in_files_below BreaksGrammar broken_grammar walked f num b
-source_below walked units f num below (inr (inr (inl there, quiet), none)) =
+source_below walked units f num below (inr (inr (inl (inl there), quiet), none)) =
     of_contained (λ (g : Refusal). g.place.file < length walked.readings) walked.refused f num.refused there
-source_below walked units f num below (inr (inr (inr b, quiet), none)) = broken_names (length walked.readings) walked units below f b
+source_below walked units f num below (inr (inr (inl (inr b), quiet), none)) = broken_names (length walked.readings) walked units below f b
+source_below walked units f num below (inr (inr (inr (b, calm), quiet), none)) = absurd b
 
 pub among_read : ((tokens : List Token) (ms : List Member) → SpellsUnit tokens ms → StandAtTokens tokens ms) → InFilesRead
 among_read sites told names walked units f walks broken =

@@ -1,5 +1,6 @@
 -- When each status comes, from what a call writes.
-use Rattle.std.proofs.Common.{◌≡◌, ◌<◌, ◌⊎◌, ℕ, List, ◌∷◌, Option, Some, codes, inl, inr, refl, sym, ◌∙◌, subst, arith, drop, take-append-drop}
+use Rattle.std.proofs.Common.{map, Ok, ◌≡◌, ◌<◌, ◌⊎◌, ℕ, List, ◌∷◌, Option, Some, codes, inl, inr, refl, sym, ◌∙◌, subst, arith, drop, take-append-drop}
+use Rattle.std.specs.String.{string_bytes}
 use Rattle.fp_tree.specs.declared.member.Member.{Member}
 use Rattle.fp_tree.specs.declared.source.Source.{Source}
 use Rattle.fp_base.specs.Least.{IsUnbroken}
@@ -10,23 +11,28 @@ use Rattle.fp_main.specs.Causes.{EndsAs, Asked, Sound, SoundSink, UsageComes, Re
 use Rattle.fp_main.specs.Delivery.{SinkRun, Delivered}
 use Rattle.fp_main.specs.FilesRun.{FilesRun}
 use Rattle.fp_main.specs.Output.{IsDue, DueListing, DueRefused, DueUsage, DueReadFault, DueNoFile, IsRead, Output}
-use Rattle.fp_main.specs.Words.{IsCheck, IsForm, IsWrong}
+use Rattle.fp_main.specs.Words.{AsksFor, IsForm, IsWrong, ReadsWords}
 use Rattle.fp_main.specs.gathering.Gathered.{SourceBroken, source_of}
 use Rattle.fp_main.specs.gathering.Walks.{NoFile as IsMissing, NoReadFault, Outcome, Stops, Walked, WalksFiles, Went, nothing_read}
+use Rattle.fp_main.specs.declared.words.Command.{Command}
+use Rattle.fp_main.specs.declared.words.Command.TheVariants.{Check}
 use Rattle.fp_main.specs.declared.status.Status.{Status}
 use Rattle.fp_main.specs.declared.status.Status.TheVariants.{Done, Refused, Usage, ReadFault, WriteFault, NoFile, Stuck, Spent, Asserted, NoMemory, NoTopology}
 
 -- ---- what excludes what
 
--- the words `check FILE..` are not wrong
-check_not_wrong : (words names : List (List ℕ)) (word : ℕ) → IsCheck words names → IsWrong words word → ⊥
-check_not_wrong words names word asked wrong =
+-- words that ask for files are not wrong
+pub asked_not_wrong : (words names : List (List ℕ)) (word : ℕ) → AsksFor words names → IsWrong words word → ⊥
+asked_not_wrong words names word asked wrong =
     elim wrong.ends [
       | inl e ↦ e.1 (drop word words, subst IsForm (sym (take-append-drop word words)) (names, asked))
       | inr e ↦ e.1 (names, asked)
     ]
 
-same_names : (words a b : List (List ℕ)) → IsCheck words a → IsCheck words b → a ≡ b
+pub read_not_wrong : (words : List (List ℕ)) (command : Command) (word : ℕ) → ReadsWords words (Ok command) → IsWrong words word → ⊥
+read_not_wrong words (Check files) word asked wrong = asked_not_wrong words (map string_bytes files.now) word asked wrong
+
+same_names : (words a b : List (List ℕ)) → AsksFor words a → AsksFor words b → a ≡ b
 same_names words a b x y = names a b (sym x.words_are ∙ y.words_are)
   where
     names : (xs ys : List (List ℕ)) → codes "check" ∷ xs ≡ codes "check" ∷ ys → xs ≡ ys
@@ -48,10 +54,10 @@ ReadOneWay =
 
 -- what the words ask for ends as the files tell
 module _ (one_way : ReadOneWay) (words : List (List ℕ)) (files : FilesRun) (o : Outcome (List (List Member))) (asked : Asked words files o) where
-  agrees : (names : List (List ℕ)) (p : Outcome (List (List Member))) → IsCheck words names → WalksFiles files.told names nothing_read p → NoReadFault o → NoReadFault p → o ≡ p
-  agrees names p check walks =
+  agrees : (names : List (List ℕ)) (p : Outcome (List (List Member))) → AsksFor words names → WalksFiles files.told names nothing_read p → NoReadFault o → NoReadFault p → o ≡ p
+  agrees names p asks walks =
       one_way (Some asked.held) asked.held asked.names nothing_read o p refl asked.walks
-      (subst (λ (ns : List (List ℕ)). WalksFiles (Some asked.held) ns nothing_read p) (same_names words names asked.names check asked.asked)
+      (subst (λ (ns : List (List ℕ)). WalksFiles (Some asked.held) ns nothing_read p) (same_names words names asked.names asks asked.asked)
       (subst (λ (told : Option (List HeldFile)). WalksFiles told names nothing_read p) asked.told walks))
 
 -- what holds of what was read and of its source
@@ -100,11 +106,11 @@ module _ (one_way : ReadOneWay) (words : List (List ℕ)) (files : FilesRun) (ou
   pub usage_comes : UsageComes words status
   usage_comes word wrong =
       ends Usage
-      (λ d. absurd (check_not_wrong words d.read.names word d.read.asked wrong))
-      (λ d. absurd (check_not_wrong words d.read.names word d.read.asked wrong))
+      (λ d. absurd (asked_not_wrong words d.read.names word d.read.asked wrong))
+      (λ d. absurd (asked_not_wrong words d.read.names word d.read.asked wrong))
       (λ d. inl refl)
-      (λ d. absurd (check_not_wrong words d.names word d.asked wrong))
-      (λ d. absurd (check_not_wrong words d.names word d.asked wrong))
+      (λ d. absurd (asked_not_wrong words d.names word d.asked wrong))
+      (λ d. absurd (asked_not_wrong words d.names word d.asked wrong))
 
   pub read_fault_comes : ReadFaultComes files status
   read_fault_comes rose =
@@ -136,7 +142,7 @@ module _ (one_way : ReadOneWay) (words : List (List ℕ)) (files : FilesRun) (ou
       ends NoFile
       (λ d. absurd (gone_not_stopped _ _ (IsMissing name) (sym (read_as (Stops (IsMissing name)) d.walked d.source asked tt d.read))))
       (λ d. absurd (gone_not_stopped _ _ (IsMissing name) (sym (read_as (Stops (IsMissing name)) d.walked d.source asked tt d.read))))
-      (λ d. absurd (check_not_wrong words asked.names d.word asked.asked d.wrong))
+      (λ d. absurd (asked_not_wrong words asked.names d.word asked.asked d.wrong))
       (λ d. absurd (stayed _ _ sound.0 sound.1 d.unread.fault))
       (λ d. inl refl)
 
@@ -153,7 +159,7 @@ module _ (one_way : ReadOneWay) (words : List (List ℕ)) (files : FilesRun) (ou
       ends Refused
       (λ d. absurd (d.unbroken f (holds_as (λ w s. SourceBroken w s f) (Went walked units) d.walked d.source asked tt d.read broken)))
       (λ d. inl refl)
-      (λ d. absurd (check_not_wrong words asked.names d.word asked.asked d.wrong))
+      (λ d. absurd (asked_not_wrong words asked.names d.word asked.asked d.wrong))
       (λ d. absurd (stayed _ _ sound.0 sound.1 d.unread.fault))
       (λ d. absurd (not_absent walked units o.output o.line asked d))
 
@@ -162,7 +168,7 @@ module _ (one_way : ReadOneWay) (words : List (List ℕ)) (files : FilesRun) (ou
       ends Done
       (λ d. inl refl)
       (λ d. absurd (holds_as (λ w s. IsUnbroken (SourceBroken w s)) (Went walked units) d.walked d.source asked tt d.read unbroken d.says.refusal (d.says.first.holds d.says.refusal refl)))
-      (λ d. absurd (check_not_wrong words asked.names d.word asked.asked d.wrong))
+      (λ d. absurd (asked_not_wrong words asked.names d.word asked.asked d.wrong))
       (λ d. absurd (stayed _ _ sound.0 sound.1 d.unread.fault))
       (λ d. absurd (not_absent walked units o.output o.line asked d))
 

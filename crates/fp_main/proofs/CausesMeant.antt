@@ -68,7 +68,7 @@ module _ (words : List (List ℕ)) (files : FilesRun) (out diag : SinkRun) (stat
   pub done_means : DoneMeans words files out diag status
   done_means e =
       let c = called_as Done (λ f. cc) e in
-      (c.0.walked, c.0.source, c.0.read, c.0.unbroken, adds_as _ _ out c.1.written c.0.listed, adds_as _ _ diag c.1.said c.0.silent)
+      (c.0.walked, c.0.source, c.0.read, c.0.check, c.0.unbroken, adds_as _ _ out c.1.written c.0.listed, adds_as _ _ diag c.1.said c.0.silent)
 
   pub no_memory_means : NoMemoryMeans out diag status
   no_memory_means e =

@@ -1,6 +1,6 @@
 -- What is found in the text of a file, and what stands behind the files that were read.
 use Rattle.std.proofs.Common.{◌≡◌, ℕ, List, [], ◌∷◌, ◌++◌, Bool, true, false, cond, MatchBool, Option, Some, None, refl, inl, inr, sym, ap, subst, ◌∙◌}
-use Rattle.std.specs.Prelude.{Contains, Result, Ok, Err, IfOk}
+use Rattle.std.specs.Prelude.{Contains}
 use Rattle.std.proofs.lemmas.List.Elements.{Contains-append_left, Contains-push, Contains-push_cases}
 use Rattle.fp_base.specs.Places.{place_at}
 use Rattle.fp_base.specs.declared.place.Place.{Place}
@@ -19,8 +19,6 @@ use Rattle.fp_main.specs.gathering.Answers.{IsFound}
 use Rattle.fp_main.specs.gathering.Gathered.{InFiles}
 use Rattle.fp_main.specs.gathering.Reading.{Reading, BreaksText, BreaksTokens, HasTokens, Passes}
 use Rattle.fp_main.specs.gathering.Walks.{Walked, with_reading}
-use Rattle.fp_main.specs.declared.gathering.reading.Found.{Found}
-use Rattle.fp_base.specs.declared.memory.NoMemory.{NoMemory}
 
 no_later_of : (number : ℕ) (text : List ℕ) (f g : Refusal) → IsBroken number text f.rule f.place → IsBroken number text g.rule g.place → NotBehind f.rule f.place g.rule g.place → NoLater f g
 no_later_of number text f g p q n =
@@ -107,7 +105,7 @@ module _ (r : Reading) (number : ℕ) (text : List ℕ) (en : r.number ≡ numbe
     unbroken = none_broken (tokens_least r false None p (text_none r (whole_at whole)));
   }
 
-same_tokens : (r : Reading) (a b : List Token) → HasTokens r a → HasTokens r b → a ≡ b
+pub same_tokens : (r : Reading) (a b : List Token) → HasTokens r a → HasTokens r b → a ≡ b
 same_tokens r a b x y = one_lexing r.number r.text a b x.lexed y.lexed
 
 same_refusal : (f g : Refusal) → f.rule ≡ g.rule → f.place ≡ g.place → f.other ≡ g.other → f ≡ g
@@ -137,11 +135,6 @@ found_refused one r tokens f has o broken = record {
       same_refusal g f (sym same.0) (sym same.1) (q.2 ∙ sym o));
   gives = inr ((f, inr (tokens, has, o, broken)), refl);
 }
-
--- what is found, from what is found in tokens
-pub found_carried : (r : Result Found NoMemory) (P Q : Found → Type 0) → ((x : Found) → P x → Q x) → IfOk r P → IfOk r Q
-found_carried (Ok x) P Q then h = then x h
-found_carried (Err e) P Q then h = tt
 
 -- the least over the files, with one more
 pub in_files_least : {P : Reading → Refusal → Type 0} (walked : Walked) (r : Reading) (a b : Option Refusal) → IsLeast (InFiles P walked) a → IsLeast (P r) b

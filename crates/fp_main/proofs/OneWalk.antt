@@ -2,7 +2,6 @@
 use Rattle.std.proofs.Common.{◌≡◌, ℕ, zero, suc, List, [], ◌∷◌, Option, Some, None, inl, inr, sym, ap, subst, ◌∙◌}
 use Rattle.std.specs.Prelude.{◌⊎◌}
 use Rattle.fp_lexer.specs.declared.token.Token.{Token}
-use Rattle.fp_lexer.proofs.Unique.{one_lexing}
 use Rattle.fp_base.specs.declared.place.Place.{Place}
 use Rattle.fp_base.specs.declared.refusal.Refusal.{Refusal}
 use Rattle.fp_base.specs.declared.rule.Rule.{Rule}
@@ -12,6 +11,8 @@ use Rattle.fp_parse_parts.specs.Units.{SpellsUnit, BreaksUnit}
 use Rattle.fp_tree.specs.declared.member.Include.{Include}
 use Rattle.fp_tree.specs.declared.member.Member.{Member}
 use Rattle.fp_sites.specs.Includes.{includes_in}
+use Rattle.fp_main.proofs.Absent.{gone_not_stopped}
+use Rattle.fp_main.proofs.FoundInFiles.{same_tokens}
 use Rattle.fp_main.specs.gathering.Includes.{included_name, replaced}
 use Rattle.fp_main.specs.gathering.Reading.{Reading, BreaksTokens, BreaksGrammar, Gives, HasTokens}
 use Rattle.fp_main.specs.gathering.Walks.{Walked, Walk, Outcome, Went, Stops, Stopped, NoFile, ReadFault, Each, NoReadFault, Reads, WalksFile, WalksInclude, WalksFiles, most_levels, next_reading, with_reading}
@@ -31,13 +32,6 @@ given_of other (Stops s) = other
 abbrev stopped_of : {A : Type 0} → Stopped → Outcome A → Stopped
 stopped_of other (Went w x) = other
 stopped_of other (Stops s) = s
-
-abbrev IsWent : {A : Type 0} → Outcome A → Type 0
-IsWent (Went w x) = Unit {0}
-IsWent (Stops s) = ⊥
-
-not_both : {A : Type 0} (w : Walked) (x : A) (s : Stopped) → ◌≡◌ {A = Outcome A} (Went w x) (Stops s) → ⊥
-not_both w x s e = subst IsWent e tt
 
 pub same_walked : {A : Type 0} {w v : Walked} {x y : A} → Went w x ≡ Went v y → w ≡ v
 same_walked {w = w} e = ap (walked_of w) e
@@ -61,25 +55,22 @@ one_each {A = A} P one (z ∷ zs) b (Went w xs) (Went v ys) (m, x, us, h, hs, d)
     let first = one z b (Went m x) (Went n y) h k tt tt in
     let rest = one_each P one zs n (Went w us) (Went v vs) (subst (λ (u : Walked). Each P zs u (Went w us)) (same_walked first) hs) ks tt tt in
     same_went (same_walked rest) (d ∙ ap (λ (u : A). u ∷ us) (same_given first) ∙ ap (λ (us' : List A). y ∷ us') (same_given rest) ∙ sym e)
-one_each P one (z ∷ zs) b (Went w xs) (Stops t) (m, x, us, h, hs, d) (inl k) f g = absurd (not_both m x t (one z b (Went m x) (Stops t) h k tt g))
+one_each P one (z ∷ zs) b (Went w xs) (Stops t) (m, x, us, h, hs, d) (inl k) f g = absurd (gone_not_stopped m x t (one z b (Went m x) (Stops t) h k tt g))
 one_each P one (z ∷ zs) b (Went w xs) (Stops t) (m, x, us, h, hs, d) (inr (n, y, k, ks)) f g =
     let first = one z b (Went m x) (Went n y) h k tt tt in
-    absurd (not_both w us t (one_each P one zs n (Went w us) (Stops t) (subst (λ (u : Walked). Each P zs u (Went w us)) (same_walked first) hs) ks tt g))
-one_each P one (z ∷ zs) b (Stops s) (Went v ys) (inl h) (n, y, vs, k, ks, e) f g = absurd (not_both n y s (one z b (Went n y) (Stops s) k h tt f))
+    absurd (gone_not_stopped w us t (one_each P one zs n (Went w us) (Stops t) (subst (λ (u : Walked). Each P zs u (Went w us)) (same_walked first) hs) ks tt g))
+one_each P one (z ∷ zs) b (Stops s) (Went v ys) (inl h) (n, y, vs, k, ks, e) f g = absurd (gone_not_stopped n y s (one z b (Went n y) (Stops s) k h tt f))
 one_each P one (z ∷ zs) b (Stops s) (Went v ys) (inr (m, x, h, hs)) (n, y, vs, k, ks, e) f g =
     let first = one z b (Went n y) (Went m x) k h tt tt in
-    absurd (not_both v vs s (one_each P one zs m (Went v vs) (Stops s) (subst (λ (u : Walked). Each P zs u (Went v vs)) (same_walked first) ks) hs tt f))
+    absurd (gone_not_stopped v vs s (one_each P one zs m (Went v vs) (Stops s) (subst (λ (u : Walked). Each P zs u (Went v vs)) (same_walked first) ks) hs tt f))
 one_each P one (z ∷ zs) b (Stops s) (Stops t) (inl h) (inl k) f g = ap Stops (same_stopped (one z b (Stops s) (Stops t) h k f g))
-one_each P one (z ∷ zs) b (Stops s) (Stops t) (inl h) (inr (n, y, k, ks)) f g = absurd (not_both n y s (one z b (Went n y) (Stops s) k h tt f))
-one_each P one (z ∷ zs) b (Stops s) (Stops t) (inr (m, x, h, hs)) (inl k) f g = absurd (not_both m x t (one z b (Went m x) (Stops t) h k tt g))
+one_each P one (z ∷ zs) b (Stops s) (Stops t) (inl h) (inr (n, y, k, ks)) f g = absurd (gone_not_stopped n y s (one z b (Went n y) (Stops s) k h tt f))
+one_each P one (z ∷ zs) b (Stops s) (Stops t) (inr (m, x, h, hs)) (inl k) f g = absurd (gone_not_stopped m x t (one z b (Went m x) (Stops t) h k tt g))
 one_each P one (z ∷ zs) b (Stops s) (Stops t) (inr (m, x, h, hs)) (inr (n, y, k, ks)) f g =
     let first = one z b (Went m x) (Went n y) h k tt tt in
     ap Stops (same_stopped (one_each P one zs n (Stops s) (Stops t) (subst (λ (u : Walked). Each P zs u (Stops s)) (same_walked first) hs) ks f g))
 
 -- ---- one file
-
-same_tokens : (r : Reading) (a b : List Token) → HasTokens r a → HasTokens r b → a ≡ b
-same_tokens r a b x y = one_lexing r.number r.text a b x.lexed y.lexed
 
 same_text : (o : Option (List ℕ)) (text other : List ℕ) → o ≡ Some text → o ≡ Some other → text ≡ other
 same_text None text other d e = cc
@@ -137,18 +128,18 @@ module _ (one_spelled : (tokens : List Token) (xs ys : List Member) → SpellsUn
         let same = one_read held round name b (Went m own) (Went n our) h k tt tt in
         same_went (same_walked rest) (d ∙ ap (λ (us : List Member). replaced us ps) (same_given same) ∙ ap (replaced our) (same_given rest) ∙ sym e)
     one_file round name b (Went w xs) (Stops t) (m, own, ps, h, hs, d) (inl k) f g =
-        absurd (not_both m own t (one_read held round name b (Went m own) (Stops t) h k tt g))
+        absurd (gone_not_stopped m own t (one_read held round name b (Went m own) (Stops t) h k tt g))
     one_file round name b (Went w xs) (Stops t) (m, own, ps, h, hs, d) (inr (n, our, k, ks)) f g =
-        absurd (not_both w ps t (one_inner round name our n (Went w ps) (Stops t) (moved round name b m n own our (Went w ps) h k hs) ks tt g))
+        absurd (gone_not_stopped w ps t (one_inner round name our n (Went w ps) (Stops t) (moved round name b m n own our (Went w ps) h k hs) ks tt g))
     one_file round name b (Stops s) (Went v ys) (inl h) (n, our, qs, k, ks, e) f g =
-        absurd (not_both n our s (one_read held round name b (Went n our) (Stops s) k h tt f))
+        absurd (gone_not_stopped n our s (one_read held round name b (Went n our) (Stops s) k h tt f))
     one_file round name b (Stops s) (Went v ys) (inr (m, own, h, hs)) (n, our, qs, k, ks, e) f g =
-        absurd (not_both v qs s (one_inner round name own m (Went v qs) (Stops s) (moved round name b n m our own (Went v qs) k h ks) hs tt f))
+        absurd (gone_not_stopped v qs s (one_inner round name own m (Went v qs) (Stops s) (moved round name b n m our own (Went v qs) k h ks) hs tt f))
     one_file round name b (Stops s) (Stops t) (inl h) (inl k) f g = ap Stops (same_stopped (one_read held round name b (Stops s) (Stops t) h k f g))
     one_file round name b (Stops s) (Stops t) (inl h) (inr (n, our, k, ks)) f g =
-        absurd (not_both n our s (one_read held round name b (Went n our) (Stops s) k h tt f))
+        absurd (gone_not_stopped n our s (one_read held round name b (Went n our) (Stops s) k h tt f))
     one_file round name b (Stops s) (Stops t) (inr (m, own, h, hs)) (inl k) f g =
-        absurd (not_both m own t (one_read held round name b (Went m own) (Stops t) h k tt g))
+        absurd (gone_not_stopped m own t (one_read held round name b (Went m own) (Stops t) h k tt g))
     one_file round name b (Stops s) (Stops t) (inr (m, own, h, hs)) (inr (n, our, k, ks)) f g =
         ap Stops (same_stopped (one_inner round name our n (Stops s) (Stops t) (moved round name b m n own our (Stops s) h k hs) ks f g))
 

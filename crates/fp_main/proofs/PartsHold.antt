@@ -13,7 +13,7 @@ use Rattle.fp_tree.specs.declared.member.Member.TheViews.{roll-Member, roll-Modu
 use Rattle.fp_tree.specs.declared.member.Module.{Module, Module-F}
 use Rattle.fp_meaning.specs.Names.{Path, member_step, module_step, in_member, in_members}
 use Rattle.fp_meaning.proofs.Walks.{module_gives}
-use Rattle.fp_main.proofs.AllItems.{all_both, all_left, all_right}
+use Rattle.fp_base.proofs.Lists.{each_append, each_before, each_behind}
 use Rattle.fp_main.specs.gathering.Includes.{Parts, Placed, in_turn, next_part, place_in_member, place_in_module, placed, placed_module, replaced}
 
 module _ {A : Type 0} (given : Path → Def → List A) (P : A → Type 0) where
@@ -38,12 +38,12 @@ module _ {A : Type 0} (given : Path → Def → List A) (P : A → Type 0) where
   Keep m = (scope : Path) (parts : Parts) → AllByRecursion P (in_module scope m) → AllByRecursion Hold parts → Placing scope (placed_module m parts)
 
   one : (scope : Path) (m : Member) → AllByRecursion P (in_member given scope m) → HoldAt scope (m ∷ [])
-  one scope m h = all_both P (in_member given scope m) [] h tt
+  one scope m h = each_append P (in_member given scope m) [] h tt
 
   both : (scope : Path) (a b : List Member) → HoldAt scope a → HoldAt scope b → HoldAt scope (a ++ b)
   both scope a b h k =
       subst (λ (xs : List A). AllByRecursion P xs) (sym (flat_map-append (in_member given scope) a b))
-      (all_both P (in_members given scope a) (in_members given scope b) h k)
+      (each_append P (in_members given scope a) (in_members given scope b) h k)
 
   next_keeps : (scope : Path) (parts : Parts) → AllByRecursion Hold parts → Placing scope (next_part parts)
   next_keeps scope [] k = (tt, tt)
@@ -54,9 +54,9 @@ module _ {A : Type 0} (given : Path → Def → List A) (P : A → Type 0) where
   in_turn_keeps [] scope parts h k = (tt, k)
   in_turn_keeps (e ∷ ms) scope parts h k =
       let here : Placing scope (placed e.0 parts) =
-      e.1 scope parts (all_left P (in_member given scope e.0) (in_members given scope (map (λ x. x.0) ms)) h) k in
+      e.1 scope parts (each_before P (in_member given scope e.0) (in_members given scope (map (λ x. x.0) ms)) h) k in
       let behind : Placing scope (in_turn (map placed (map (λ x. x.0) ms)) (placed e.0 parts).left) =
-      in_turn_keeps ms scope (placed e.0 parts).left (all_right P (in_member given scope e.0) (in_members given scope (map (λ x. x.0) ms)) h) here.1 in
+      in_turn_keeps ms scope (placed e.0 parts).left (each_behind P (in_member given scope e.0) (in_members given scope (map (λ x. x.0) ms)) h) here.1 in
       (both scope (placed e.0 parts).members (in_turn (map placed (map (λ x. x.0) ms)) (placed e.0 parts).left).members here.0 behind.0, behind.1)
 
   rolled_placed : (x : Member-F Member Module) (parts : Parts) → placed (roll-Member x) parts ≡ place_in_member (map-Member _ _ _ _ placed placed_module x) parts
@@ -113,9 +113,9 @@ module _ {A : Type 0} (given : Path → Def → List A) (P : A → Type 0) where
   members_keep [] scope parts h k = (tt, k)
   members_keep (m ∷ ms) scope parts h k =
       let here : Placing scope (placed m parts) =
-      member_keeps m scope parts (all_left P (in_member given scope m) (in_members given scope ms) h) k in
+      member_keeps m scope parts (each_before P (in_member given scope m) (in_members given scope ms) h) k in
       let behind : Placing scope (in_turn (map placed ms) (placed m parts).left) =
-      members_keep ms scope (placed m parts).left (all_right P (in_member given scope m) (in_members given scope ms) h) here.1 in
+      members_keep ms scope (placed m parts).left (each_behind P (in_member given scope m) (in_members given scope ms) h) here.1 in
       (both scope (placed m parts).members (in_turn (map placed ms) (placed m parts).left).members here.0 behind.0, behind.1)
 
   -- of the members with a part in place of each include

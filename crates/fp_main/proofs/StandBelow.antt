@@ -10,7 +10,7 @@ use Rattle.fp_base.specs.Least.{broken_at}
 use Rattle.fp_meaning.specs.Names.{definitions_in, in_members, mentions_in}
 use Rattle.fp_meaning.specs.declared.names.Definition.{Definition}
 use Rattle.fp_meaning.specs.declared.names.Mention.{Mention}
-use Rattle.fp_main.proofs.AllItems.{all_any, all_both, all_weaker}
+use Rattle.fp_base.proofs.Lists.{each_append, each_of_any, each_weaker}
 use Rattle.fp_main.proofs.OneWalk.{same_given, same_walked}
 use Rattle.fp_main.proofs.PartsHold.{Hold, replaced_hold}
 use Rattle.fp_outside.specs.declared.files.HeldFile.{HeldFile}
@@ -42,17 +42,17 @@ KeepsNumbers {A = A} G low P =
 below_more : (m n : ℕ) (ms : List Member) → m ≤ n → StandBelow m ms → StandBelow n ms
 below_more m n ms le h = record {
   definitions = λ scope.
-      all_weaker (λ (d : Definition). d.place.file < m) (λ (d : Definition). d.place.file < n) (λ d lt. omega (arith, le, lt)) (in_members definitions_in scope ms) (h.definitions scope);
+      each_weaker (λ (d : Definition). d.place.file < m) (λ (d : Definition). d.place.file < n) (λ d lt. omega (arith, le, lt)) (in_members definitions_in scope ms) (h.definitions scope);
   mentions = λ scope.
-      all_weaker (λ (u : Mention). u.place.file < m) (λ (u : Mention). u.place.file < n) (λ u lt. omega (arith, le, lt)) (in_members mentions_in scope ms) (h.mentions scope);
+      each_weaker (λ (u : Mention). u.place.file < m) (λ (u : Mention). u.place.file < n) (λ u lt. omega (arith, le, lt)) (in_members mentions_in scope ms) (h.mentions scope);
 }
 
 replaced_below : (n : ℕ) (own : List Member) (parts : List (List Member)) → StandBelow n own → AllByRecursion (StandBelow n) parts → StandBelow n (replaced own parts)
 replaced_below n own parts h k = record {
   definitions = replaced_hold definitions_in (λ (d : Definition). d.place.file < n) own parts h.definitions
-      (all_weaker (StandBelow n) (Hold definitions_in (λ (d : Definition). d.place.file < n)) (λ ms q. q.definitions) parts k);
+      (each_weaker (StandBelow n) (Hold definitions_in (λ (d : Definition). d.place.file < n)) (λ ms q. q.definitions) parts k);
   mentions = replaced_hold mentions_in (λ (m : Mention). m.place.file < n) own parts h.mentions
-      (all_weaker (StandBelow n) (Hold mentions_in (λ (m : Mention). m.place.file < n)) (λ ms q. q.mentions) parts k);
+      (each_weaker (StandBelow n) (Hold mentions_in (λ (m : Mention). m.place.file < n)) (λ ms q. q.mentions) parts k);
 }
 
 pub none_below : (n : ℕ) → StandBelow n []
@@ -61,10 +61,10 @@ none_below n = record { definitions = λ scope. tt; mentions = λ scope. tt }
 -- ---- what is kept
 
 readings_more : (before : Walked) (m n : ℕ) → m ≤ n → AllByRecursion (λ (r : Reading). r.number < m) before.readings → AllByRecursion (λ (r : Reading). r.number < n) before.readings
-readings_more before m n le h = all_weaker (λ (r : Reading). r.number < m) (λ (r : Reading). r.number < n) (λ r lt. omega (arith, le, lt)) before.readings h
+readings_more before m n le h = each_weaker (λ (r : Reading). r.number < m) (λ (r : Reading). r.number < n) (λ r lt. omega (arith, le, lt)) before.readings h
 
 refused_more : (before : Walked) (m n : ℕ) → m ≤ n → AllByRecursion (λ (f : Refusal). f.place.file < m) before.refused → AllByRecursion (λ (f : Refusal). f.place.file < n) before.refused
-refused_more before m n le h = all_weaker (λ (f : Refusal). f.place.file < m) (λ (f : Refusal). f.place.file < n) (λ f lt. omega (arith, le, lt)) before.refused h
+refused_more before m n le h = each_weaker (λ (f : Refusal). f.place.file < m) (λ (f : Refusal). f.place.file < n) (λ f lt. omega (arith, le, lt)) before.refused h
 
 none_numbered : IsNumbered nothing_read
 none_numbered = record { readings = tt; refused = tt }
@@ -74,7 +74,7 @@ reading_numbered before r e num =
     let long = length_push before.readings r in
     let le : length before.readings ≤ length (before.readings ++ r ∷ []) = omega (arith, long) in
     record {
-      readings = all_both (λ (q : Reading). q.number < length (before.readings ++ r ∷ [])) before.readings (r ∷ [])
+      readings = each_append (λ (q : Reading). q.number < length (before.readings ++ r ∷ [])) before.readings (r ∷ [])
           (readings_more before (length before.readings) (length (before.readings ++ r ∷ [])) le num.readings) (omega (arith, long, e), tt);
       refused = refused_more before (length before.readings) (length (before.readings ++ r ∷ [])) le num.refused;
     }
@@ -82,7 +82,7 @@ reading_numbered before r e num =
 refused_numbered : (before : Walked) (f : Refusal) → f.place.file < length before.readings → IsNumbered before → IsNumbered (with_refused before f)
 refused_numbered before f lt num = record {
   readings = num.readings;
-  refused = all_both (λ (g : Refusal). g.place.file < length before.readings) before.refused (f ∷ []) num.refused (lt, tt);
+  refused = each_append (λ (g : Refusal). g.place.file < length before.readings) before.refused (f ∷ []) num.refused (lt, tt);
 }
 
 -- ---- walks
@@ -133,7 +133,7 @@ module _ (gives_below : (r : Reading) (ms : List Member) → Gives r ms → Stan
         let first = read_keeps round name before read own le num h in
         let n : ℕ = length read.readings in
         let rest = each_keeps StandBelow below_more (inclusion (name ∷ round)) n (includes_in own)
-        (all_weaker (λ (i : Include). i.at.first.file < n) (λ (i : Include). KeepsNumbers StandBelow n (inclusion (name ∷ round) i)) (include_behind (name ∷ round) n) (includes_in own) first.2.1)
+        (each_weaker (λ (i : Include). i.at.first.file < n) (λ (i : Include). KeepsNumbers StandBelow n (inclusion (name ∷ round) i)) (include_behind (name ∷ round) n) (includes_in own) first.2.1)
         read after parts (omega arith) first.1 hs in
         let grows = first.0 in
         let goes = rest.0 in (
@@ -154,6 +154,6 @@ module _ (gives_below : (r : Reading) (ms : List Member) → Gives r ms → Stan
       → IsNumbered walked × AllByRecursion (StandBelow (length walked.readings)) units
   files_below names walked units h =
       let all = each_keeps StandBelow below_more (WalksFile told (WalksInclude told most_levels) []) 0 names
-      (all_any (λ (name : List ℕ). KeepsNumbers StandBelow 0 (WalksFile told (WalksInclude told most_levels) [] name)) (file_keeps (WalksInclude told most_levels) (include_keeps most_levels) []) names)
+      (each_of_any (λ (name : List ℕ). KeepsNumbers StandBelow 0 (WalksFile told (WalksInclude told most_levels) [] name)) (file_keeps (WalksInclude told most_levels) (include_keeps most_levels) []) names)
       nothing_read walked units (omega arith) none_numbered h in
       (all.1, all.2)

@@ -7,6 +7,7 @@ use Rattle.fp_outside.specs.Files.{bytes_of as held_bytes, CountsFault, CountsMi
 use Rattle.fp_outside.specs.declared.files.ReadRefusal.{ReadRefusal}
 use Rattle.fp_outside.specs.declared.files.ReadRefusal.TheVariants.{Failed}
 use Rattle.fp_outside.specs.declared.files.HeldFile.{HeldFile}
+use Rattle.fp_base.proofs.Options.{same_some}
 use Rattle.fp_base.specs.declared.rule.Rule.TheVariants.{BadInclude}
 use Rattle.fp_tree.specs.declared.member.Include.{Include}
 use Rattle.fp_tree.specs.declared.member.Member.{Member}
@@ -94,7 +95,6 @@ pub comes_as : {A : Type 0} (files : FilesRun) (P Q : Told → Walk A) (before :
 comes_as files P Q before progress (Ok x) to c = (c.0, c.1, (c.2.0, to _ c.2.1, c.2.2))
 comes_as files P Q before progress (Err (halt.NoFile name)) to c = (c.0, c.1, to _ c.2)
 comes_as files P Q before progress (Err (halt.ReadFault name)) to c = (c.0, c.1, to _ c.2)
-comes_as files P Q before progress (Err (halt.Broken name refusal)) to c = c
 comes_as files P Q before progress (Err halt.NoMemory) to c = tt
 
 -- ---- one read
@@ -103,24 +103,18 @@ held_so : (told : Told) (name : List ℕ) (o : Option (List ℕ)) → IfSome tol
 held_so None name o h = h
 held_so (Some held) name o h = sym h
 
-same_some : {X : Type 0} (x y : X) → Some x ≡ Some y → x ≡ y
-same_some x y e = cc
-
 -- what was read is there
 pub reads_some : (files : FilesRun) (round : List (List ℕ)) (name asked slice text : List ℕ) (o : Option (List ℕ)) (gives : List Member) (before : Walked) (q : Progress)
     → o ≡ Some text → slice ≡ text → asked ≡ name → NoFault files → CountsMiss (Ok o) files.misses_before files.misses_after → IfSome files.told (λ held. o ≡ held_bytes held asked)
     → Gives (next_reading before round name slice) gives × Knows q (with_reading before (next_reading before round name slice))
     → Comes files (λ t. Reads t round name) before q (Ok gives)
-reads_some files round name asked slice text None gives before q e es ea sound misses held t = absurd (none_some text e)
-  where
-    none_some : (y : List ℕ) → None ≡ Some y → ⊥
-    none_some y d = cc
+reads_some files round name asked slice text None gives before q e es ea sound misses held t = cc
 reads_some files round name asked slice text (Some x) gives before q e es ea sound misses held t =
     (sound, misses, (with_reading before (next_reading before round name slice), (slice, held_so files.told name (Some slice) there, refl, t.0), t.1))
   where
     there : IfSome files.told (λ h. Some slice ≡ held_bytes h name)
     there =
-        subst (λ (s : List ℕ). IfSome files.told (λ h. Some s ≡ held_bytes h name)) (same_some x text e ∙ sym es)
+        subst (λ (s : List ℕ). IfSome files.told (λ h. Some s ≡ held_bytes h name)) (same_some e ∙ sym es)
         (subst (λ (a : List ℕ). IfSome files.told (λ h. Some x ≡ held_bytes h a)) ea held)
 
 -- there is no such file
@@ -129,10 +123,7 @@ pub reads_none : (files : FilesRun) (round : List (List ℕ)) (name asked copied
     → Comes files (λ t. Reads t round name) before q (Err (halt.NoFile copied))
 reads_none files round name asked copied None before q e ea ec sound missed held =
     (sound, missed, (ec, held_so files.told name None (subst (λ (a : List ℕ). IfSome files.told (λ h. None ≡ held_bytes h a)) ea held)))
-reads_none files round name asked copied (Some x) before q e ea ec sound missed held = absurd (some_none x e)
-  where
-    some_none : (y : List ℕ) → Some y ≡ None → ⊥
-    some_none y d = cc
+reads_none files round name asked copied (Some x) before q e ea ec sound missed held = cc
 
 -- the read failed
 pub reads_failed : (files : FilesRun) (round : List (List ℕ)) (name copied : List ℕ) (e : ReadRefusal) (before : Walked) (q : Progress)
@@ -161,7 +152,6 @@ module _ {F : Type 0} (told : F → Told) (faults misses : F → ℕ) where
       → Comes (run old new) P before p (Err h) → Comes (run old new) Q before q (Err h)
   stops_first old new P Q before p q (halt.NoFile name) to c = (c.0, c.1, to (NoFile name) c.2)
   stops_first old new P Q before p q (halt.ReadFault name) to c = (c.0, c.1, to (ReadFault name) c.2)
-  stops_first old new P Q before p q (halt.Broken name refusal) to c = c
   stops_first old new P Q before p q halt.NoMemory to c = tt
 
   -- it stops where a part stops behind what went through
@@ -173,7 +163,6 @@ module _ {F : Type 0} (told : F → Told) (faults misses : F → ℕ) where
       (c.0 ∙ sound, subst (λ (n : ℕ). Rose n (misses new)) found c.1, to (NoFile name) (subst (λ (t : Told). P t between (Stops (NoFile name))) e c.2))
   stops_later old mid new P Q before between p q (halt.ReadFault name) e sound found to c =
       (subst (λ (n : ℕ). Rose n (faults new)) sound c.0, c.1 ∙ found, to (ReadFault name) (subst (λ (t : Told). P t between (Stops (ReadFault name))) e c.2))
-  stops_later old mid new P Q before between p q (halt.Broken name refusal) e sound found to c = c
   stops_later old mid new P Q before between p q halt.NoMemory e sound found to c = tt
 
   -- it goes through where a part does behind what went through

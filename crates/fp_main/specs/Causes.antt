@@ -6,13 +6,13 @@ use Rattle.fp_tree.specs.declared.source.Source.{Source}
 use Rattle.fp_base.specs.Least.{IsLeast, IsUnbroken}
 use Rattle.fp_outside.specs.Counts.{last_count}
 use Rattle.fp_outside.specs.declared.files.HeldFile.{HeldFile}
-use Rattle.fp_main.specs.Delivery.{SinkRun, Adds, AddsFront, OutFailed, DiagFailed}
+use Rattle.fp_main.specs.Delivery.{SinkRun, Adds, OutFailed, DiagFailed}
 use Rattle.fp_main.specs.Delivery as delivery
 use Rattle.fp_main.specs.FilesRun.{FilesRun, NoFault, NoMiss, Holds}
 use Rattle.fp_main.specs.Lines.{usage_line, refusal_line, read_fault_line, no_file_line, no_memory_line}
 use Rattle.fp_main.specs.Listing.{listing_of}
 use Rattle.fp_main.specs.Output.{IsRead, IsDue}
-use Rattle.fp_main.specs.Words.{IsCheck, IsWrong}
+use Rattle.fp_main.specs.Words.{AsksFor, IsCheck, IsWrong}
 use Rattle.fp_main.specs.gathering.Gathered.{IsAbsent, IsUnread, SourceBroken, StandsAmong, name_of, names_read, source_of}
 use Rattle.fp_main.specs.gathering.Walks.{NoFile as IsMissing, Outcome, Stops, Walked, WalksFiles, Went, nothing_read}
 use Rattle.fp_main.specs.declared.status.Status.{Status}
@@ -39,7 +39,7 @@ pub record Asked (words : List (List ℕ)) (files : FilesRun) (outcome : Outcome
   pub held : List HeldFile
   pub told : files.told ≡ Some held
   pub names : List (List ℕ)
-  pub asked : IsCheck words names
+  pub asked : AsksFor words names
   pub walks : WalksFiles (Some held) names nothing_read outcome
 
 -- ---- what stands written
@@ -50,11 +50,11 @@ UsageMeans words files out diag status =
 
 abbrev pub ReadFaultMeans : List (List ℕ) → FilesRun → SinkRun → SinkRun → Status → Type 0
 ReadFaultMeans words files out diag status =
-    status ≡ ReadFault → (names : List (List ℕ)) × (name : List ℕ) × IsCheck words names × IsUnread names files name × Says (read_fault_line name) out diag
+    status ≡ ReadFault → (names : List (List ℕ)) × (name : List ℕ) × AsksFor words names × IsUnread names files name × Says (read_fault_line name) out diag
 
 abbrev pub NoFileMeans : List (List ℕ) → FilesRun → SinkRun → SinkRun → Status → Type 0
 NoFileMeans words files out diag status =
-    status ≡ NoFile → (names : List (List ℕ)) × (name : List ℕ) × IsCheck words names × IsAbsent names files name × Holds files name None
+    status ≡ NoFile → (names : List (List ℕ)) × (name : List ℕ) × AsksFor words names × IsAbsent names files name × Holds files name None
     × Says (no_file_line name) out diag
 
 abbrev pub RefusedMeans : List (List ℕ) → FilesRun → SinkRun → SinkRun → Status → Type 0
@@ -64,7 +64,7 @@ RefusedMeans words files out diag status =
 
 abbrev pub DoneMeans : List (List ℕ) → FilesRun → SinkRun → SinkRun → Status → Type 0
 DoneMeans words files out diag status =
-    status ≡ Done → (walked : Walked) × (source : Source) × IsRead words files walked source × IsUnbroken (SourceBroken walked source)
+    status ≡ Done → (walked : Walked) × (source : Source) × (read : IsRead words files walked source) × IsCheck words read.names × IsUnbroken (SourceBroken walked source)
     × Adds (listing_of source) out × Adds [] diag
 
 -- out has a proper front of the output that was due, and diag the line that says so, or a proper front of it; or out has nothing,

@@ -5,5 +5,6 @@ pub mod FilesRun
 pub mod Lines
 pub mod Listing
 pub mod Output
+pub mod Phases
 pub mod Statuses
 pub mod Words

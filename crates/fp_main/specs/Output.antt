@@ -2,7 +2,6 @@
 use Rattle.std.specs.Prelude.{ℕ, ◌≡◌, List, [], Some}
 use Rattle.fp_base.specs.declared.refusal.Refusal.{Refusal}
 use Rattle.fp_tree.specs.declared.source.Source.{Source}
-use Rattle.fp_meaning.specs.Broken.{NamesBroken}
 use Rattle.fp_base.specs.Least.{IsLeast, IsUnbroken}
 use Rattle.fp_main.specs.Delivery.{SinkRun, Delivered}
 use Rattle.fp_main.specs.FilesRun.{FilesRun, NoFault, NoMiss}
@@ -10,7 +9,7 @@ use Rattle.fp_main.specs.gathering.Gathered.{AreRead, IsAbsent, IsUnread, Source
 use Rattle.fp_main.specs.gathering.Walks.{Walked}
 use Rattle.fp_main.specs.Lines.{usage_line, refusal_line, read_fault_line, no_file_line, no_memory_line}
 use Rattle.fp_main.specs.Listing.{listing_of}
-use Rattle.fp_main.specs.Words.{IsCheck, IsWrong}
+use Rattle.fp_main.specs.Words.{AsksFor, IsCheck, IsWrong}
 use Rattle.fp_main.specs.declared.status.Status.{Status}
 use Rattle.fp_main.specs.declared.status.Status.TheVariants.{Done, Refused, Usage, ReadFault, NoFile, NoMemory}
 
@@ -25,7 +24,7 @@ pub record DueUsage (words : List (List ℕ)) (files : FilesRun) (output line : 
 -- a file asked for could not be read
 pub record DueReadFault (words : List (List ℕ)) (files : FilesRun) (output line : List ℕ) : Type 0 where
   pub names : List (List ℕ)
-  pub asked : IsCheck words names
+  pub asked : AsksFor words names
   pub name : List ℕ
   pub unread : IsUnread names files name
   pub silent : output ≡ []
@@ -34,7 +33,7 @@ pub record DueReadFault (words : List (List ℕ)) (files : FilesRun) (output lin
 -- a file asked for isn't there
 pub record DueNoFile (words : List (List ℕ)) (files : FilesRun) (output line : List ℕ) : Type 0 where
   pub names : List (List ℕ)
-  pub asked : IsCheck words names
+  pub asked : AsksFor words names
   pub name : List ℕ
   pub absent : IsAbsent names files name
   pub silent : output ≡ []
@@ -43,7 +42,7 @@ pub record DueNoFile (words : List (List ℕ)) (files : FilesRun) (output line :
 -- the files asked for were read, and give a source
 pub record IsRead (words : List (List ℕ)) (files : FilesRun) (walked : Walked) (source : Source) : Type 0 where
   pub names : List (List ℕ)
-  pub asked : IsCheck words names
+  pub asked : AsksFor words names
   pub read : AreRead names files walked source
 
 -- a rule is broken, the first, in the file that the line names
@@ -66,15 +65,16 @@ pub record DueListing (words : List (List ℕ)) (files : FilesRun) (output line 
   pub walked : Walked
   pub source : Source
   pub read : IsRead words files walked source
+  pub check : IsCheck words read.names
   pub unbroken : IsUnbroken (SourceBroken walked source)
   pub listed : output ≡ listing_of source
   pub silent : line ≡ []
 
--- what has to be written for a source whose files break no rule by themselves
-abbrev pub IsDueFor : Source → Status → List ℕ → List ℕ → Type 0
-IsDueFor source Done output line = IsUnbroken (NamesBroken source) × (output ≡ listing_of source) × (line ≡ [])
-IsDueFor source Refused output line = SaysBroken (NamesBroken source) source.names output line
-IsDueFor source _ output line = ⊥
+-- what `check` has to write for a source of which this is broken
+abbrev pub IsDueFor : (Refusal → Type 0) → Source → Status → List ℕ → List ℕ → Type 0
+IsDueFor broken source Done output line = IsUnbroken broken × (output ≡ listing_of source) × (line ≡ [])
+IsDueFor broken source Refused output line = SaysBroken broken source.names output line
+IsDueFor broken source _ output line = ⊥
 
 -- what has to be written for each status, where every write succeeds
 abbrev pub IsDue : List (List ℕ) → FilesRun → Status → List ℕ → List ℕ → Type 0

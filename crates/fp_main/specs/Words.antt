@@ -9,9 +9,13 @@ pub record IsCheck (words files : List (List ℕ)) : Type 0 where
   pub words_are : words ≡ codes "check" ∷ files
   pub some : 0 < length files
 
+-- the words are of some form, and ask for these files
+abbrev pub AsksFor : List (List ℕ) → List (List ℕ) → Type 0
+AsksFor words files = IsCheck words files
+
 -- the words are of some form
 abbrev pub IsForm : List (List ℕ) → Type 0
-IsForm words = (files : List (List ℕ)) × IsCheck words files
+IsForm words = (files : List (List ℕ)) × AsksFor words files
 
 -- words of some form begin with these
 abbrev pub BeginsForm : List (List ℕ) → Type 0

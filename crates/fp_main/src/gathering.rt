@@ -20,11 +20,21 @@ use progress::nothing_read;
 use std::alloc::Global;
 use walking::walk_files;
 
-/// Why files aren't gathered to a source.
+/// What files give that were all read: their source, and the least of what each phase before names breaks.
+#[derive(Drop)]
+pub struct Gathered {
+    pub source: Source,
+    /// The least rule of tokens.
+    pub tokens: Option<Refusal>,
+    /// The least rule of the grammar.
+    pub grammar: Option<Refusal>,
+    /// The least include that breaks its rule.
+    pub includes: Option<Refusal>,
+}
+
+/// Why files aren't gathered: the name of one that isn't there, or whose read failed.
 #[derive(Drop)]
 pub enum Halt {
-    /// The name of a file, and the rule that is broken in it.
-    Broken(Text, Refusal),
     NoFile(Text),
     ReadFault(Text),
     NoMemory,
@@ -40,15 +50,11 @@ impl From<NoMemory> for Halt {
     }
 }
 
-/// Reads the files of these names, each followed by the files that it includes, and puts members in place of includes; or answers the
-/// least of the rules of tokens, of the grammar and, where some include breaks its rule, of includes and names. Names may be broken in
-/// what it gives.
-pub fn gather<F: Files>(alloc: Global, names: &[String], files: &mut F) -> Result<Source, Halt>
+/// Reads the files of these names, each followed by the files that it includes, and puts members in place of includes.
+pub fn gather<F: Files>(alloc: Global, names: &[String], files: &mut F) -> Result<Gathered, Halt>
     ensures { Gathers (map string_bytes names.now) (files_run F.told F.faults F.misses files.old files.new) result }
 {
-    // for the file in which a rule is broken
-    in_files_read();
     let mut progress = nothing_read(alloc);
     let units = walk_files(alloc, files, &mut progress, names)?;
-    conclude(alloc, progress, units)
+    Ok(conclude(alloc, progress, units)?)
 }

@@ -1,8 +1,9 @@
-ghost use Rattle.std.specs.Prelude.{map};
+ghost use Rattle.std.specs.Prelude.{◌≡◌, ℕ, map};
 ghost use Rattle.std.specs.String.{string_bytes};
 ghost use Rattle.fp_main.specs.Delivery.{sink_run};
 ghost use Rattle.fp_main.specs.FilesRun.{files_run};
 ghost use Rattle.fp_main.specs.Output.{Output};
+ghost use Rattle.fp_main.specs.Words.{IsWrong};
 ghost use Rattle.fp_main.specs.Causes.{UsageMeans, ReadFaultMeans, NoFileMeans, RefusedMeans, DoneMeans, WriteFaultMeans, NoMemoryMeans, IsNoRun};
 ghost use Rattle.fp_main.specs.Causes.{UsageComes, ReadFaultComes, NoFileComes, RefusedComes, DoneComes, WriteFaultComes};
 
@@ -26,7 +27,8 @@ fn write_answer<F: Files, O: Sink, E: Sink>(
     out: &mut O,
     diag: &mut E,
 ) -> Status
-    ensures { Output
+    ensures unread { (word : ℕ) → IsWrong (map string_bytes words.now) word → files.new ≡ files.old }
+    ensures output { Output
         (map string_bytes words.now) (files_run F.told F.faults F.misses files.old files.new)
         (sink_run O.told O.faults out.old out.new) (sink_run E.told E.faults diag.old diag.new)
         result }
@@ -65,6 +67,9 @@ where
         (map string_bytes words.now) (files_run F.told F.faults F.misses files.old files.new)
         (sink_run O.told O.faults out.old out.new) (sink_run E.told E.faults diag.old diag.new)
         result }
+
+    // Where words are wrong no file is read.
+    ensures unread { (word : ℕ) → IsWrong (map string_bytes words.now) word → files.new ≡ files.old }
 
     // What each status means.
     ensures usage { UsageMeans

@@ -1,13 +1,11 @@
 -- What the parts of gathering answer.
 use Rattle.std.specs.Prelude.{ℕ, ◌≡◌, ◌+◌, ◌-◌, ◌<◌, nat_le, cond, List, count_by, Contains, Option, Some, None, MatchOption, Result, Ok, Err}
 use Rattle.fp_outside.specs.declared.files.HeldFile.{HeldFile}
-use Rattle.fp_tree.specs.declared.member.Member.{Member}
-use Rattle.fp_tree.specs.declared.source.Source.{Source}
-use Rattle.fp_base.specs.Least.{IsLeast, IsUnbroken}
+use Rattle.fp_base.specs.Least.{IsLeast}
 use Rattle.fp_main.specs.FilesRun.{FilesRun, NoFault, NoMiss, HadFault, HadMiss}
 use Rattle.fp_main.specs.gathering.Reading.{Reading, BreaksTokens, BreaksGrammar, Gives, most_bytes}
 use Rattle.fp_main.specs.gathering.Walks.{Walked, Walk, Went, Stops, NoFile, ReadFault, bytes_of, is_included}
-use Rattle.fp_main.specs.gathering.Gathered.{FilesBroken, InFiles, name_of, names_read, source_of}
+use Rattle.fp_main.specs.gathering.Gathered.{InFiles, names_read}
 use Rattle.fp_main.specs.declared.gathering.Halt.{Halt}
 use Rattle.fp_main.specs.declared.gathering.Halt.TheVariants as halt
 use Rattle.fp_main.specs.declared.gathering.progress.Progress.{Progress}
@@ -39,14 +37,4 @@ Comes files walk before progress (Ok gives) =
     NoFault files × NoMiss files × ((after : Walked) × walk files.told before (Went after gives) × Knows progress after)
 Comes files walk before progress (Err (halt.NoFile name)) = NoFault files × HadMiss files × walk files.told before (Stops (NoFile name))
 Comes files walk before progress (Err (halt.ReadFault name)) = HadFault files × NoMiss files × walk files.told before (Stops (ReadFault name))
-Comes files walk before progress (Err (halt.Broken name refusal)) = ⊥
 Comes files walk before progress (Err halt.NoMemory) = Unit {0}
-
--- what files that were all read come to
-abbrev pub Concludes : Walked → List (List Member) → Result Source Halt → Type 0
-Concludes walked units (Ok source) = (source ≡ source_of walked units) × IsUnbroken (FilesBroken walked source)
-Concludes walked units (Err (halt.Broken name refusal)) =
-    IsLeast (FilesBroken walked (source_of walked units)) (Some refusal) × (name ≡ name_of (names_read walked) refusal.place.file)
-Concludes walked units (Err halt.NoMemory) = Unit {0}
-Concludes walked units (Err (halt.NoFile name)) = ⊥
-Concludes walked units (Err (halt.ReadFault name)) = ⊥

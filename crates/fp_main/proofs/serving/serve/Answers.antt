@@ -4,43 +4,43 @@ use Rattle.fp_main.proofs.CausesComing.{usage_comes, read_fault_comes, no_file_c
 use Rattle.fp_main.proofs.serving.serve.Goals as goal
 
 pub returns-clause-usage : goal.returns-clause-usage
-returns-clause-usage g c = usage_means _ _ _ _ _ c.write_answer.ensures
+returns-clause-usage g c = usage_means _ _ _ _ _ c.write_answer.ensures.output
 
 pub returns-clause-read_fault : goal.returns-clause-read_fault
-returns-clause-read_fault g c = read_fault_means _ _ _ _ _ c.write_answer.ensures
+returns-clause-read_fault g c = read_fault_means _ _ _ _ _ c.write_answer.ensures.output
 
 pub returns-clause-no_file : goal.returns-clause-no_file
-returns-clause-no_file g c = no_file_means _ _ _ _ _ c.write_answer.ensures
+returns-clause-no_file g c = no_file_means _ _ _ _ _ c.write_answer.ensures.output
 
 pub returns-clause-refused : goal.returns-clause-refused
-returns-clause-refused g c = refused_means _ _ _ _ _ c.write_answer.ensures
+returns-clause-refused g c = refused_means _ _ _ _ _ c.write_answer.ensures.output
 
 pub returns-clause-done : goal.returns-clause-done
-returns-clause-done g c = done_means _ _ _ _ _ c.write_answer.ensures
+returns-clause-done g c = done_means _ _ _ _ _ c.write_answer.ensures.output
 
 pub returns-clause-write_fault : goal.returns-clause-write_fault
-returns-clause-write_fault g c = write_fault_means _ _ _ _ _ c.write_answer.ensures
+returns-clause-write_fault g c = write_fault_means _ _ _ _ _ c.write_answer.ensures.output
 
 pub returns-clause-no_memory : goal.returns-clause-no_memory
-returns-clause-no_memory g c = no_memory_means _ _ _ _ _ c.write_answer.ensures
+returns-clause-no_memory g c = no_memory_means _ _ _ _ _ c.write_answer.ensures.output
 
 pub returns-clause-no_run : goal.returns-clause-no_run
-returns-clause-no_run g c = no_run _ _ _ _ _ c.write_answer.ensures
+returns-clause-no_run g c = no_run _ _ _ _ _ c.write_answer.ensures.output
 
 pub returns-clause-usage_comes : goal.returns-clause-usage_comes
-returns-clause-usage_comes g c = usage_comes c.one_reading.ensures _ _ _ _ _ c.write_answer.ensures
+returns-clause-usage_comes g c = usage_comes c.one_reading.ensures _ _ _ _ _ c.write_answer.ensures.output
 
 pub returns-clause-read_fault_comes : goal.returns-clause-read_fault_comes
-returns-clause-read_fault_comes g c = read_fault_comes c.one_reading.ensures _ _ _ _ _ c.write_answer.ensures
+returns-clause-read_fault_comes g c = read_fault_comes c.one_reading.ensures _ _ _ _ _ c.write_answer.ensures.output
 
 pub returns-clause-no_file_comes : goal.returns-clause-no_file_comes
-returns-clause-no_file_comes g c = no_file_comes c.one_reading.ensures _ _ _ _ _ c.write_answer.ensures
+returns-clause-no_file_comes g c = no_file_comes c.one_reading.ensures _ _ _ _ _ c.write_answer.ensures.output
 
 pub returns-clause-refused_comes : goal.returns-clause-refused_comes
-returns-clause-refused_comes g c = refused_comes c.one_reading.ensures _ _ _ _ _ c.write_answer.ensures
+returns-clause-refused_comes g c = refused_comes c.one_reading.ensures _ _ _ _ _ c.write_answer.ensures.output
 
 pub returns-clause-done_comes : goal.returns-clause-done_comes
-returns-clause-done_comes g c = done_comes c.one_reading.ensures _ _ _ _ _ c.write_answer.ensures
+returns-clause-done_comes g c = done_comes c.one_reading.ensures _ _ _ _ _ c.write_answer.ensures.output
 
 pub returns-clause-write_fault_comes : goal.returns-clause-write_fault_comes
-returns-clause-write_fault_comes g c = write_fault_comes c.one_reading.ensures _ _ _ _ _ c.write_answer.ensures
+returns-clause-write_fault_comes g c = write_fault_comes c.one_reading.ensures _ _ _ _ _ c.write_answer.ensures.output

@@ -1,11 +1,12 @@
 use Rattle.std.proofs.Common.{Bool, Option, [], None, Some, cond, sym, ap, subst, ◌∙◌}
 use Rattle.std.proofs.lemmas.Bool.{MatchBool-at_true, MatchBool-at_false}
+use Rattle.fp_base.proofs.Options.{if_ok_then}
 use Rattle.fp_base.specs.declared.refusal.Refusal.{Refusal}
 use Rattle.fp_base.specs.declared.rule.Rule.TheVariants.{TextTooLong}
 use Rattle.fp_base.specs.Least.{broken_at}
 use Rattle.fp_main.specs.gathering.Answers.{IsFound}
 use Rattle.fp_main.specs.declared.gathering.reading.Found.{Found}
-use Rattle.fp_main.proofs.FoundInFiles.{found_in_broken, found_in_long, found_carried, has_tokens}
+use Rattle.fp_main.proofs.FoundInFiles.{found_in_broken, found_in_long, has_tokens}
 use Rattle.fp_main.proofs.gathering.reading.read_text.Goals as goal
 
 pub returns-then-passes : goal.returns-then-passes
@@ -16,7 +17,7 @@ returns-then-passes c = λ r en et p.
 
 pub returns-in-Ok : goal.returns-in-Ok
 returns-in-Ok c =
-    found_carried c.parsed.result _ _
+    if_ok_then c.parsed.result _ _
     (λ found h r en et p. h r (has_tokens r c.args.number c.args.text.now en et c.in-Ok.tokens (MatchBool-at_false _ _ c.if-passes.false p) c.in-Ok.ensures.0 c.in-Ok.ensures.1)) c.parsed.ensures
 
 pub returns-in-Err-Broken : goal.returns-in-Err-Broken
