@@ -11,7 +11,6 @@ use Rattle.fp_base.specs.declared.rule.Rule.TheVariants.{UnexpectedToken, Nestin
 use Rattle.fp_lexer.specs.declared.token.Token.{Token}
 use Rattle.fp_grammar.specs.Grammar.{Grammar}
 use Rattle.fp_grammar.proofs.Tokens.{rest_at, rest_at_end}
-use Rattle.fp_parse_defs.specs.Kinds.{kind}
 use Rattle.fp_parse_defs.specs.Reading.{left_out, limit}
 use Rattle.fp_parse_parts.specs.Files.{Probe, tried_at, ReachesTo, StartsMember, BeginsLeftOut, GoesTooDeep, BrokenRule}
 use Rattle.fp_parse_parts.proofs.Reaching.{goes_on, ends_there}

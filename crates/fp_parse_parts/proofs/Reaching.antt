@@ -1,5 +1,5 @@
 -- How far a read of a file came says which tokens could follow.
-use Rattle.std.proofs.Common.{◌≡◌, ℕ, ◌+◌, ◌<◌, ◌≤◌, List, [], ◌∷◌, ◌++◌, length, take, drop, refl, sym, ◌∙◌, ap, subst, arith, length-append, append_assoc}
+use Rattle.std.proofs.Common.{◌≡◌, ℕ, ◌<◌, ◌≤◌, List, [], ◌∷◌, ◌++◌, length, take, drop, sym, ◌∙◌, ap, subst, arith, length-append, append_assoc}
 use Rattle.std.specs.Prelude.{Ok, Err}
 use Rattle.fp_base.specs.declared.refusal.Stop.{Stop}
 use Rattle.fp_lexer.specs.declared.token.Token.{Token}

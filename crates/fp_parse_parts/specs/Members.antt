@@ -1,6 +1,6 @@
 -- The grammar of the members of files and modules. FPP Language Specification, "Translation Units and Models", "Module Definitions",
 -- "Include Specifiers" and "Location Specifiers". This profile: components, state machines, instances and topologies aren't read yet.
-use Rattle.std.specs.Prelude.{ℕ, zero, suc, ltb, Bool, false, Option, Some, None, List, [], ◌∷◌, ◌++◌, length}
+use Rattle.std.specs.Prelude.{ℕ, zero, suc, ltb, Bool, false, List, [], ◌∷◌, ◌++◌, length}
 use Rattle.fp_base.specs.declared.place.Span.{Span}
 use Rattle.fp_lexer.specs.Words.{words, reserved, mark}
 use Rattle.fp_lexer.specs.declared.token.Word.{Word}

@@ -1,4 +1,4 @@
-use Rattle.std.proofs.Common.{rules, arith, refl, sym, ap, ◌∙◌, ◌∷◌, []}
+use Rattle.std.proofs.Common.{rules, arith, refl, sym, ap, ◌∷◌, []}
 use Rattle.fp_grammar.specs.Grammar.Grammar.{alt}
 use Rattle.fp_grammar.proofs.Answering.{passing, handing, absent_now, refused_later, as_value, absent_map, absent_both}
 use Rattle.fp_grammar.proofs.Choices.{absent_beside, absent_unless}

@@ -1,5 +1,4 @@
-use Rattle.std.proofs.Common.{arith, sym}
-use Rattle.std.proofs.lemmas.Option.{slice_get_within}
+use Rattle.std.proofs.Common.{arith}
 use Rattle.fp_parse_parts.specs.Units.{unit, unit_probes}
 use Rattle.fp_parse_parts.proofs.Following.{rule_deeper, rule_left_out, rule_plain, when_true, when_false}
 use Rattle.fp_parse_parts.proofs.refusing.rule_of_token.Goals as goal

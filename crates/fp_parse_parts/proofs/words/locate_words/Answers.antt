@@ -2,7 +2,7 @@ use Rattle.std.proofs.Common.{refl, sym}
 use Rattle.std.proofs.lemmas.Option.{slice_get_within}
 use Rattle.fp_grammar.proofs.Answering.{passing}
 use Rattle.fp_grammar.proofs.Choices.{absent_unless}
-use Rattle.fp_grammar.proofs.Walk.{begin, under, next, done, stop, stop_first}
+use Rattle.fp_grammar.proofs.Walk.{begin, under, next, done, stop_first}
 use Rattle.fp_grammar.proofs.Steps.{one_of_accepts, one_of_refuses}
 use Rattle.fp_grammar.proofs.ListSteps.{many_next, many_absent}
 use Rattle.fp_parse_defs.proofs.WordsFit.{each_kind}
