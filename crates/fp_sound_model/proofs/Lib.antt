@@ -1,7 +1,7 @@
 pub mod Joining
 pub mod Numbered
 pub mod Parted
-pub mod Ranges
+pub mod RangesApart
 pub mod Specials
 pub mod Structured
 pub mod Uses

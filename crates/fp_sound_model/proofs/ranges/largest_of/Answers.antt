@@ -1,6 +1,6 @@
 use Rattle.std.proofs.Common.{Some, ap, ap₂, sym, ◌∙◌}
 use Rattle.fp_sound_model.specs.IdRanges.{larger}
-use Rattle.fp_sound_model.proofs.Ranges.{largest_more}
+use Rattle.fp_sound_model.proofs.RangesApart.{largest_more}
 use Rattle.fp_sound_model.proofs.ranges.largest_of.Goals as goal
 
 pub loop-item-preserved : goal.loop-item-preserved

@@ -4,7 +4,7 @@ use Rattle.std.proofs.lemmas.List.Sorted.{IsNonDecreasingBy-from_sort_by_key}
 use Rattle.std.specs.List.{filter_map}
 use Rattle.fp_tables.specs.Instances.{range_of}
 use Rattle.fp_sound_model.specs.IdRanges.{rise_above}
-use Rattle.fp_sound_model.proofs.Ranges.{sorted_apart}
+use Rattle.fp_sound_model.proofs.RangesApart.{sorted_apart}
 use Rattle.fp_sound_model.proofs.ranges.ranges_are_apart.Goals as goal
 
 pub returns : goal.returns

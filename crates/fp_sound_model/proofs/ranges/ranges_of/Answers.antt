@@ -2,7 +2,7 @@ use Rattle.std.proofs.Common.{[], ◌∷◌}
 use Rattle.std.proofs.lemmas.List.{map-append}
 use Rattle.fp_tables.specs.Instances.{range_of}
 use Rattle.fp_sound_model.specs.IdRanges.{ends_of}
-use Rattle.fp_sound_model.proofs.Ranges.{one_more, none_more}
+use Rattle.fp_sound_model.proofs.RangesApart.{one_more, none_more}
 use Rattle.fp_sound_model.proofs.ranges.ranges_of.Goals as goal
 use Rattle.fp_sound_model.proofs.ranges.ranges_of.Goals.{in-Some+in_ok-push, in_default}
 

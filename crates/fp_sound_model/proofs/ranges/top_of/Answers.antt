@@ -5,7 +5,7 @@ use Rattle.fp_tables.specs.declared.component.Command.{Command}
 use Rattle.fp_tables.specs.declared.component.Event.{Event}
 use Rattle.fp_tables.specs.declared.component.Channel.{Channel}
 use Rattle.fp_tables.specs.declared.component.Param.{Param}
-use Rattle.fp_sound_model.proofs.Ranges.{largest_append}
+use Rattle.fp_sound_model.proofs.RangesApart.{largest_append}
 use Rattle.fp_sound_model.proofs.ranges.top_of.Goals as goal
 
 pub returns : goal.returns
