@@ -1,7 +1,8 @@
 -- What an actor makes of an entry that answers its due ask.
 use Rattle.std.proofs.Common.{◌≡◌, ℕ, suc, max, ◌-◌, ◌<◌, nat_lt, Bool, true, false, cond, ◌&&◌, ◌==◌, List, [], ◌∷◌, ◌++◌, length, Option, Some, None, option_map, refl, sym, ap, ◌∙◌, subst, arith}
 use Rattle.std.proofs.lemmas.Bool.Decides.{nat_tests}
-use Rattle.fp_base.proofs.Sameness.{both, nat_same}
+use Rattle.fp_base.proofs.Bools.{both}
+use Rattle.fp_base.proofs.Sameness.{nat_same}
 use Rattle.std.specs.List.{slice_get}
 use Rattle.fp_system.specs.Run as system
 use Rattle.fp_system.proofs.Turns.{InTurn-more}

@@ -14,7 +14,7 @@ use Rattle.fp_events.specs.declared.event.Point.TheVariants.{Port, Command, Post
 use Rattle.fp_events.specs.declared.event.What.{What}
 use Rattle.fp_events.specs.declared.event.What.TheVariants as what
 use Rattle.fp_events.specs.declared.event.Entry.{Entry}
-use Rattle.fp_events.specs.Lookup.{special_wire}
+use Rattle.fp_tables.specs.Specials.{special_wire}
 use Rattle.fp_events.specs.Actor.{Action, act, send, advance, Bindings, Doing}
 use Rattle.fp_events.specs.Follows.{handling, sends, performed, parameter_name, ok_note, value_in}
 use Rattle.fp_actor.specs.declared.level.Source.{Source}

@@ -1,5 +1,6 @@
 -- An entry that answers the due ask goes on from the frames that have it.
 use Rattle.std.proofs.Common.{◌≡◌, ℕ, Bool, true, false, List, [], ◌∷◌, Option, Some, None, is_some, option_map, unwrap_or, refl, sym, ap, ◌∙◌}
+use Rattle.fp_tables.specs.Specials.{special_wire}
 use Rattle.fp_base.specs.declared.value.Value.{Value}
 use Rattle.fp_tables.specs.Lookup.{Described, wire_from}
 use Rattle.fp_tables.specs.declared.topology.End.{End}
@@ -13,7 +14,7 @@ use Rattle.fp_events.specs.declared.event.Ask.{Ask}
 use Rattle.fp_events.specs.declared.event.Ask.TheVariants as ask
 use Rattle.fp_events.specs.declared.event.What.{What}
 use Rattle.fp_events.specs.declared.event.What.TheVariants as what
-use Rattle.fp_events.specs.Lookup.{home, special_wire}
+use Rattle.fp_events.specs.Lookup.{home}
 use Rattle.fp_events.specs.Actor.{Action, act, send, advance, Bindings, Opened, own, arrived, taken, Frame}
 use Rattle.fp_events.specs.Answers.{answers}
 use Rattle.fp_events.specs.Due.{first_action, values, sent_from, along, asks_out, asks_in, asks, ends_with, through, due_in, due_of}

@@ -21,9 +21,6 @@ use Rattle.fp_actor.specs.Awaited.{acts, advances, is_assert, IsChange, IsStayin
 use Rattle.fp_actor.proofs.Stacking.{snoc}
 use Rattle.fp_actor.proofs.Keeping.{with_last}
 
-pub same_some : {A : Type 0} (x y : A) → Some x ≡ Some y → x ≡ y
-same_some x y e = cc
-
 bound_none : (o : Opened) (fs : List Frame) → bound_below o None fs ≡ fs
 bound_none own fs = refl
 bound_none (arrived default None) fs = refl

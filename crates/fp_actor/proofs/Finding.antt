@@ -9,7 +9,7 @@ use Rattle.std.proofs.lemmas.Option.{slice_get_past}
 use Rattle.fp_tables.specs.declared.program.Handler.{Handler}
 use Rattle.fp_tables.specs.declared.program.Spot.{Spot}
 use Rattle.fp_tables.specs.declared.program.Spot.TheVariants as spot
-use Rattle.fp_events.specs.Lookup.{same_spot}
+use Rattle.fp_tables.specs.SoundPrograms.{same_spot}
 use Rattle.fp_actor.specs.Found.{is_at, pair_cmp, triple_cmp}
 
 pair_keys : (i n : ℕ) (q : ℕ × ℕ) → is_key (pair_cmp (i, n)) q ≡ (eqb i q.0 && eqb n q.1)

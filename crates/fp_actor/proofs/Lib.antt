@@ -1,5 +1,4 @@
 pub mod Finding
-pub mod Short
 pub mod Wired
 pub mod Reaching
 pub mod Settling

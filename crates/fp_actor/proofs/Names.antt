@@ -1,19 +1,15 @@
 -- Names that are looked up among bindings.
-use Rattle.std.proofs.Common.{◌≡◌, ℕ, Bool, true, false, cond, ◌&&◌, eqb, IsTrue, ◌↔◌, List, [], ◌∷◌, ◌++◌, map, reverse, Some, refl, sym, ◌∙◌, subst, arith}
+use Rattle.std.proofs.Common.{◌≡◌, ℕ, Bool, true, false, cond, eqb, IsTrue, ◌↔◌, List, [], ◌∷◌, ◌++◌, map, reverse, Some, refl, sym, ◌∙◌, subst, arith}
 use Rattle.std.specs.List.{find}
 use Rattle.std.specs.Option.{option_or}
 use Rattle.std.proofs.lemmas.Bool.Decides.{nat_tests}
 use Rattle.std.proofs.lemmas.List.{reverse-append}
+use Rattle.fp_base.proofs.Bools.{both}
 use Rattle.fp_base.specs.Same.{same_text}
 
 same_self : (xs : List ℕ) → same_text xs xs ≡ true
 same_self [] = refl
 same_self (x ∷ xs) = let here : eqb x x ≡ true = grind (arith, nat_tests) in rw (here, same_self xs) refl
-
-both : (a b : Bool) → (a && b) ≡ true → (a ≡ true) × (b ≡ true)
-both true true h = (h, h)
-both true false h = absurd (cc)
-both false b h = absurd (cc)
 
 same_means : (xs ys : List ℕ) → same_text xs ys ≡ true → xs ≡ ys
 same_means [] [] e = refl

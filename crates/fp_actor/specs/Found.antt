@@ -7,7 +7,7 @@ use Rattle.fp_tables.specs.declared.program.Act.{Act}
 use Rattle.fp_tables.specs.declared.program.Handler.{Handler}
 use Rattle.fp_tables.specs.declared.program.Spot.{Spot}
 use Rattle.fp_tables.specs.declared.program.Spot.TheVariants as spot
-use Rattle.fp_events.specs.Lookup.{same_spot}
+use Rattle.fp_tables.specs.SoundPrograms.{same_spot}
 
 abbrev pub is_at : ℕ → Spot → Handler → Bool
 is_at i place h = (h.instance == i) && same_spot h.place place

@@ -1,7 +1,6 @@
 -- What an actor's fields keep.
 use Rattle.std.specs.Prelude.{◌≡◌, Bool, true, ◌&&◌, nat_lt, vec_len, vec_capacity}
-use Rattle.std.specs.List.{list_all}
-use Rattle.fp_tables.specs.Positions.{component_is_short}
+use Rattle.fp_tables.specs.Positions.{lists_are_short}
 use Rattle.fp_events.specs.Lookup.{home}
 use Rattle.fp_actor.specs.Levels.{frames}
 use Rattle.fp_actor.specs.Placed.{AreKept}
@@ -31,6 +30,6 @@ acting a = record {
 pub record IsKept (a : Inside) : Type 0 where
   pub handlers : a.handlers ≡ a.program.now.handlers
   pub home : a.home ≡ home a.tables.now a.program.now a.number
-  pub short : list_all component_is_short a.tables.now.model.components ≡ true
+  pub short : lists_are_short a.tables.now.model ≡ true
   pub stack : AreKept a.tables.now a.program.now a.number a.trace.items a.bindings.items a.levels.items
   pub told : IsToldOf (acting a)

@@ -14,7 +14,7 @@ use Rattle.fp_events.specs.declared.event.Fate.TheVariants.{Sent}
 use Rattle.fp_events.specs.declared.event.What.{What}
 use Rattle.fp_events.specs.declared.event.What.TheVariants as what
 use Rattle.fp_events.specs.declared.event.Entry.{Entry}
-use Rattle.fp_events.specs.Lookup.{component}
+use Rattle.fp_tables.specs.Specials.{component}
 use Rattle.fp_events.specs.Actor.{Bindings, Action, act, send, advance, Doing, Opened, own, arrived, taken, Frame}
 use Rattle.fp_events.specs.Due.{first_action}
 use Rattle.fp_events.specs.Follows.{handling, returned, sends, performed, parameter_name, ok_note, doing, removed, name_for, bound_name}

@@ -1,7 +1,8 @@
 ghost use Rattle.std.specs.Prelude.{◌≡◌, ℕ, List, [], Some, map, option_map, option_and_then, unwrap_or, slice_get, IfOk};
+ghost use Rattle.fp_tables.specs.Specials.{component as component_at, special_wire as wire_of};
 ghost use Rattle.fp_tables.specs.Lookup.{Described};
 ghost use Rattle.fp_tables.specs.declared.program.Program.{Program};
-ghost use Rattle.fp_events.specs.Lookup.{component as component_at, default_of as default_of_kind, result_of, special_wire as wire_of};
+ghost use Rattle.fp_events.specs.Lookup.{default_of as default_of_kind, result_of};
 ghost use Rattle.fp_events.specs.Due.{asks_in, asks_out, sent_from, along as asks_along, at_port, first_value, ends_with};
 ghost use Rattle.fp_events.specs.Follows.{returned};
 ghost use Rattle.fp_events.specs.declared.event.Point.TheVariants as point;
@@ -11,7 +12,6 @@ ghost use Rattle.fp_actor.specs.declared.level.Source.{Source};
 ghost use Rattle.fp_actor.specs.Levels.{default_of, default_in, instance_of, opened_in};
 
 use crate::level::{Base, Source};
-use crate::sends::component;
 use crate::values::bind_of;
 use crate::view::View;
 use fp_base::{NoMemory, Row, Text, Value};
@@ -38,7 +38,7 @@ fn default_value(alloc: Global, tables: &Tables, kind: Kind) -> Result<Value, No
 fn definition_of(tables: &Tables, instance: u32, port: u32) -> Option<u32>
     ensures { result ≡ option_and_then (λ p. p.of) (slice_get (component_at tables.now instance).ports port) }
 {
-    match component(tables, instance) {
+    match tables.component(instance) {
         Some(component) => match component.ports.get(port as usize) {
             Some(port) => port.of,
             None => None,
@@ -96,7 +96,7 @@ fn port_defaults(
 ) -> Result<Row<Value>, NoMemory>
     ensures { IfOk result (λ vs. vs ≡ unwrap_or (option_map (λ p. map (λ f. default_of_kind tables.now f.kind) p.formals) (slice_get (component_at tables.now instance).ports port)) []) }
 {
-    match component(tables, instance) {
+    match tables.component(instance) {
         Some(component) => match component.ports.get(port as usize) {
             Some(port) => defaults(alloc, tables, port.formals.as_slice()),
             None => Ok(Row::new(alloc)),
@@ -247,7 +247,7 @@ impl<'v> View<'v> {
     ) -> Result<Option<(u32, Ask)>, NoMemory>
         ensures { IfOk result (λ d. d ≡ sent_from self.now.tables.now self.now.program.now (wire_of self.now.tables.now instance from) note.now) }
     {
-        match self.special_wire(instance, from) {
+        match self.tables.special_wire(instance, from) {
             Some((from, to)) => {
                 let with = port_defaults(alloc, self.tables, to.instance, to.port)?;
                 let note = Text::from_str(alloc, note)?;

@@ -1,14 +1,14 @@
 ghost use Rattle.std.specs.Prelude.{◌≡◌, cond, slice_get, filter, unwrap_or, option_map, []};
+ghost use Rattle.fp_tables.specs.Specials.{component as component_at};
 ghost use Rattle.fp_tables.specs.Lookup.{placed};
-ghost use Rattle.fp_events.specs.Lookup.{component as component_at, is_active as is_active_queueing, actives, home};
+ghost use Rattle.fp_events.specs.Lookup.{is_active as is_active_queueing, home};
 
-use crate::sends::component;
 use fp_tables::{Program, Queueing, Tables};
 
 fn is_active(tables: &Tables, instance: u32) -> bool
     ensures { result ≡ is_active_queueing (component_at tables.now instance).queueing }
 {
-    match component(tables, instance) {
+    match tables.component(instance) {
         Some(component) => matches!(component.queueing, Queueing::Active),
         None => false,
     }
@@ -30,15 +30,6 @@ fn active_at(tables: &Tables, instances: &[u32], number: usize) -> Option<u32>
     }
 }
 
-fn active(tables: &Tables, number: usize) -> Option<u32>
-    ensures { result ≡ slice_get (actives tables.now) number }
-{
-    match tables.model().topologies.get(tables.topology() as usize) {
-        Some(topology) => active_at(tables, topology.instances.as_slice(), number),
-        None => None,
-    }
-}
-
 /// The instance whose dispatcher an actor is.
 pub fn home_of(tables: &Tables, program: &Program, number: u32) -> Option<u32>
     ensures { result ≡ home tables.now program.now number }
@@ -48,6 +39,6 @@ pub fn home_of(tables: &Tables, program: &Program, number: u32) -> Option<u32>
     if number < callers {
         None
     } else {
-        active(tables, number - callers)
+        active_at(tables, tables.placed(), number - callers)
     }
 }

@@ -1,92 +1,21 @@
-ghost use Rattle.std.specs.Prelude.{◌≡◌, ◌<◌, ◌^◌, ℕ, List, [], ◌∷◌, Option, Some, None, cond, is_some, map, option_map, option_and_then, unwrap_or, slice_get, position, length, IfSome};
-ghost use Rattle.std.specs.Option.{option_copied};
-ghost use Rattle.fp_tables.specs.Lookup.{Described, component_of};
+ghost use Rattle.std.specs.Prelude.{◌≡◌, [], ◌∷◌, Some, None, cond, is_some, option_map, option_and_then, unwrap_or, slice_get};
+ghost use Rattle.fp_tables.specs.Lookup.{Described};
 ghost use Rattle.fp_tables.specs.declared.program.Program.{Program};
 ghost use Rattle.fp_tables.specs.declared.component.Special.TheVariants as special;
-ghost use Rattle.fp_events.specs.Lookup.{component as component_at, special_wire as wire_of, is_special as has_role};
+ghost use Rattle.fp_tables.specs.Specials.{special_wire as wire_of};
 ghost use Rattle.fp_events.specs.Follows.{sends, parameter_name as name_of, parameter_of as parameter_of_part, ok_note};
 ghost use Rattle.fp_actor.specs.Levels.{event_name as event_name_of, channel_name as channel_name_of, sent, actions_of};
 
 use crate::lists::{ActionList, Sending};
 use crate::view::View;
 use fp_events::Point;
-use fp_tables::{Component, End, Part, Port, Role, Special, Tables};
-
-/// The component of an instance.
-pub fn component(tables: &Tables, instance: u32) -> Option<&Component>
-    ensures { option_copied result ≡ component_of tables.now.model instance }
-{
-    let model = tables.model();
-    let instance = model.instances.get(instance as usize)?;
-    model.components.get(instance.component as usize)
-}
-
-fn is_special(special: Special, role: Role) -> bool
-    ensures { result ≡ has_role special role }
-{
-    let Role::Special(other) = role else {
-        return false;
-    };
-    match special {
-        Special::CmdRecv => matches!(other, Special::CmdRecv),
-        Special::CmdReg => matches!(other, Special::CmdReg),
-        Special::CmdResp => matches!(other, Special::CmdResp),
-        Special::Event => matches!(other, Special::Event),
-        Special::TextEvent => matches!(other, Special::TextEvent),
-        Special::Tlm => matches!(other, Special::Tlm),
-        Special::Time => matches!(other, Special::Time),
-        Special::PrmGet => matches!(other, Special::PrmGet),
-        Special::PrmSet => matches!(other, Special::PrmSet),
-    }
-}
-
-fn place_of_special(ports: &[Port], special: Special) -> Option<usize>
-    ensures value { result ≡ position (λ p. has_role special p.role) ports.now }
-    ensures within { IfSome result (λ at. at < length ports.now) }
-{
-    ports.iter().position(|port| is_special(special, port.role))
-}
-
-impl<'v> View<'v> {
-    /// The first port of an instance that is special in this way.
-    fn special_port(&self, instance: u32, special: Special) -> Option<u32>
-        ensures { result ≡ position (λ p. has_role special p.role) (component_at self.now.tables.now instance).ports }
-    {
-        match component(self.tables, instance) {
-            Some(component) => match place_of_special(component.ports.as_slice(), special) {
-                Some(port) => Some(port as u32),
-                None => None,
-            },
-            None => None,
-        }
-    }
-
-    /// Both ends of the wire that begins at a special port of an instance.
-    pub fn special_wire(&self, instance: u32, special: Special) -> Option<(End, End)>
-        ensures { result ≡ wire_of self.now.tables.now instance special }
-    {
-        match self.special_port(instance, special) {
-            Some(port) => match self.tables.wire(instance, port, 0) {
-                Some(to) => Some((
-                    End {
-                        instance,
-                        port,
-                        number: 0,
-                    },
-                    to,
-                )),
-                None => None,
-            },
-            None => None,
-        }
-    }
-}
+use fp_tables::{Component, Part, Special, Tables};
 
 impl<'v> View<'v> {
     fn sending(&self, instance: u32, from: Special, note: &'v str) -> Option<Sending<'v>>
         ensures { option_map sent result ≡ cond (is_some (wire_of self.now.tables.now instance from)) (Some (sent (record { from = from; note = note.entry }))) None }
     {
-        if self.special_wire(instance, from).is_some() {
+        if self.tables.special_wire(instance, from).is_some() {
             Some(Sending { from, note })
         } else {
             None
@@ -135,7 +64,7 @@ impl<'v> View<'v> {
 fn event_name(tables: &Tables, instance: u32, event: u32) -> &str
     ensures { (program : Program) → result.now ≡ event_name_of tables.now program instance event }
 {
-    match component(tables, instance) {
+    match tables.component(instance) {
         Some(component) => match component.events.get(event as usize) {
             Some(event) => event.name.as_str(),
             None => "",
@@ -147,7 +76,7 @@ fn event_name(tables: &Tables, instance: u32, event: u32) -> &str
 fn channel_name(tables: &Tables, instance: u32, channel: u32) -> &str
     ensures { (program : Program) → result.now ≡ channel_name_of tables.now program instance channel }
 {
-    match component(tables, instance) {
+    match tables.component(instance) {
         Some(component) => match component.channels.get(channel as usize) {
             Some(channel) => channel.name.as_str(),
             None => "",
@@ -163,7 +92,7 @@ fn parameter_name(tables: &Tables, instance: u32, point: Point) -> &str
     let Point::Command(command) = point else {
         return "";
     };
-    match component(tables, instance) {
+    match tables.component(instance) {
         Some(component) => name_of_parameter(component, command),
         None => "",
     }

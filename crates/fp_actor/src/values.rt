@@ -1,8 +1,9 @@
 ghost use Rattle.std.specs.Prelude.{◌≡◌, ◌≤◌, ◌↔◌, ◌++◌, [], List, map, reverse, find, length, option_map, option_and_then, unwrap_or, slice_get, IsTrue, IfOk, None, take, drop, cond, ◌&&◌, ◌∷◌, codes};
 ghost use Rattle.std.specs.List.{zip};
 ghost use Rattle.std.specs.Option.{option_copied};
+ghost use Rattle.fp_tables.specs.Specials.{component as component_at};
 ghost use Rattle.fp_base.specs.Same.{same_text};
-ghost use Rattle.fp_events.specs.Lookup.{component as component_at, machine as machine_at, names};
+ghost use Rattle.fp_events.specs.Lookup.{machine as machine_at, names};
 ghost use Rattle.fp_events.specs.Due.{value_of, values as values_of};
 ghost use Rattle.fp_events.specs.Follows.{bound_name as bound_name_of, handling as handling_of, performed};
 ghost use Rattle.fp_base.specs.declared.value.Value.{Value, Opaque};
@@ -11,7 +12,6 @@ ghost use Rattle.fp_actor.specs.Levels.{action_at, action_of, with_nothing, bind
 
 use crate::level::{Binding, Level, Position, Source};
 use crate::lists::Deed;
-use crate::sends::component;
 use crate::view::View;
 use fp_base::{NoMemory, Row, Value};
 use fp_events::{Entry, Point, What};
@@ -189,7 +189,7 @@ fn formals(tables: &Tables, instance: u32, point: Point) -> &[Formal]
 fn port_formals(tables: &Tables, instance: u32, port: u32) -> &[Formal]
     ensures { map (λ f. f.name) result.now ≡ unwrap_or (option_map (λ p. names p.formals) (slice_get (component_at tables.now instance).ports port)) [] }
 {
-    match component(tables, instance) {
+    match tables.component(instance) {
         Some(component) => match component.ports.get(port as usize) {
             Some(port) => port.formals.as_slice(),
             None => &[],
@@ -201,7 +201,7 @@ fn port_formals(tables: &Tables, instance: u32, port: u32) -> &[Formal]
 fn command_formals(tables: &Tables, instance: u32, command: u32) -> &[Formal]
     ensures { map (λ f. f.name) result.now ≡ unwrap_or (option_map (λ c. names c.formals) (slice_get (component_at tables.now instance).commands command)) [] }
 {
-    match component(tables, instance) {
+    match tables.component(instance) {
         Some(component) => match component.commands.get(command as usize) {
             Some(command) => command.formals.as_slice(),
             None => &[],
@@ -214,7 +214,7 @@ fn command_formals(tables: &Tables, instance: u32, command: u32) -> &[Formal]
 fn takes_value(tables: &Tables, instance: u32, running: u32, action: u32) -> bool
     ensures { result ≡ has_kind_at (option_and_then (λ m. slice_get m.actions action) (machine_at tables.now instance running)) }
 {
-    match component(tables, instance) {
+    match tables.component(instance) {
         Some(component) => match component.machines.get(running as usize) {
             Some(running) => machine_takes_value(tables, running.machine, action),
             None => false,

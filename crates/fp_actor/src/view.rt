@@ -1,6 +1,5 @@
 ghost use Rattle.std.specs.Prelude.{◌≡◌, true};
-ghost use Rattle.std.specs.List.{list_all};
-ghost use Rattle.fp_tables.specs.Positions.{component_is_short};
+ghost use Rattle.fp_tables.specs.Positions.{lists_are_short};
 
 use crate::handlers::Handlers;
 use fp_events::Entry;
@@ -15,5 +14,5 @@ pub struct View<'v> {
     pub number: u32,
     pub trace: &'v [Entry],
     ghost handlers_are_its: { handlers.now ≡ program.now.handlers },
-    ghost lists_are_short: { list_all component_is_short tables.now.model.components ≡ true },
+    ghost are_short: { lists_are_short tables.now.model ≡ true },
 }
