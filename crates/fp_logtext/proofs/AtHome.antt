@@ -11,13 +11,13 @@ use Rattle.fp_tables.specs.declared.program.Verb.{Verb}
 use Rattle.fp_tables.specs.declared.program.Verb.TheVariants as verb
 use Rattle.fp_events.specs.Actor.{Bindings, Action, act, send, advance, Doing, Opened, own, arrived, taken, Frame, Thread}
 use Rattle.fp_events.specs.Due.{first_action, values, sent_from, along, at_port, asks_out, ends_with, through, asks_in, due_in, due_of, due}
-use Rattle.fp_events.specs.Lookup.{special_wire}
+use Rattle.fp_tables.specs.Specials.{special_wire}
 use Rattle.fp_events.specs.declared.event.Point.{Point}
 use Rattle.fp_events.specs.declared.event.Point.TheVariants.{Command as OfCommand}
 use Rattle.fp_events.specs.declared.event.Origin.TheVariants.{Wire}
 use Rattle.fp_events.specs.declared.event.Ask.{Ask}
 use Rattle.fp_events.specs.declared.event.Ask.TheVariants as ask
-use Rattle.fp_events.proofs.StepLaws.{some_is}
+use Rattle.fp_base.proofs.Options.{same_some}
 
 module _ (t : Described) where
   home_asked : ℕ → ℕ × Ask → Bool
@@ -36,7 +36,7 @@ module _ (t : Described) where
 
   some_home : (i : ℕ) (d : ℕ × Ask) → home_asked i d ≡ true → HomeDue i (Some d)
   unfolding HomeDue
-  some_home i d h e is = subst (λ (x : ℕ × Ask). home_asked i x ≡ true) (some_is d e is) h
+  some_home i d h e is = subst (λ (x : ℕ × Ask). home_asked i x ≡ true) (same_some is) h
 
   module _ (program : Program) (k : ℕ) where
     sent_home : (o : Option (End × End)) (name : List ℕ) → HomeDue k (sent_from t program o name)

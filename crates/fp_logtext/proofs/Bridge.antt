@@ -3,7 +3,7 @@ use Rattle.std.proofs.Common.{◌≡◌, ℕ, Bool, true, false, cond, codes, �
 use Rattle.std.specs.List.{list_all}
 use Rattle.std.specs.Str.{bytes_eq}
 use Rattle.fp_base.proofs.Sameness.{nat_same}
-use Rattle.fp_tables.proofs.Alls.{both}
+use Rattle.fp_base.proofs.Bools.{both, join}
 use Rattle.fp_tables.specs.Acts as acts
 use Rattle.fp_tables.specs.Arguments as arguments
 use Rattle.fp_tables.specs.Lists.{some_and}
@@ -26,7 +26,7 @@ use Rattle.fp_tables.specs.declared.program.Spot.{Spot}
 use Rattle.fp_tables.specs.declared.program.Spot.TheVariants as spot
 use Rattle.fp_tables.specs.declared.program.Verb.{Verb}
 use Rattle.fp_tables.specs.declared.program.Verb.TheVariants as verb
-use Rattle.fp_logtext.proofs.Lists.{all_implied, join_true}
+use Rattle.fp_typing.proofs.Lists.{all_implied}
 use Rattle.fp_logtext.proofs.Listed as listed
 
 -- the list has the types that the scope has
@@ -126,7 +126,7 @@ module _ (t : Described) where
       let here : x.subject.instance ≡ i = nat_same.equal x.subject.instance i b.0 in
       let suits : listed.act_suits t x.subject.instance place bound x ≡ true = act_suits place scope bound x.verb x.subject x.name x.with x.bind agree b.1 in
       let more : Agrees (acts.binds t x scope) (listed.binds t x.subject.instance x ++ bound) = binds_agree scope bound x.verb x.subject x.name x.with x.bind agree in
-      join_true (listed.act_suits t i place bound x) (listed.acts_suit t i place (listed.binds t i x ++ bound) rest)
+      join (listed.act_suits t i place bound x) (listed.acts_suit t i place (listed.binds t i x ++ bound) rest)
       (subst (λ (n : ℕ). listed.act_suits t n place bound x ≡ true) here suits)
       (acts_suit i place (acts.binds t x scope) (listed.binds t i x ++ bound) rest (subst (λ (n : ℕ). Agrees (acts.binds t x scope) (listed.binds t n x ++ bound)) here more) s.1)
 

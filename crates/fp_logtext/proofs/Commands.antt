@@ -1,6 +1,8 @@
 -- The points of sets and saves are set and save commands.
 use Rattle.std.proofs.Common.{◌≡◌, ℕ, true, length, Option, Some, None, option_map, is_some, refl, sym, ap, ◌∙◌, subst, slice_get, nat_lt}
-use Rattle.fp_tables.proofs.Alls.{both, all_get}
+use Rattle.fp_base.proofs.Options.{mapped_some, then_some, same_some}
+use Rattle.fp_base.proofs.Lists.{all_get, get_below}
+use Rattle.fp_base.proofs.Bools.{both}
 use Rattle.fp_tables.specs.Components.{set_parameter, saved_parameter}
 use Rattle.fp_tables.specs.Lookup.{Described, component_of}
 use Rattle.fp_tables.specs.Positions.{command_lies, part_lies}
@@ -18,7 +20,7 @@ use Rattle.fp_tables.specs.declared.component.Way.{Way}
 use Rattle.fp_tables.specs.declared.component.Way.TheVariants.{Later, Sync, Guarded}
 use Rattle.fp_events.specs.Answers.{arrival_in, suits, same_arrival, answers}
 use Rattle.fp_base.specs.Same.{same_option}
-use Rattle.fp_events.specs.Lookup.{component}
+use Rattle.fp_tables.specs.Specials.{component}
 use Rattle.fp_events.specs.Manners.{Manner, by, sets, saves, manner, input_manner, internal_manner, command_manner}
 use Rattle.fp_events.specs.declared.event.Point.{Point}
 use Rattle.fp_events.specs.declared.event.Point.TheVariants.{Port, Command as OfCommand, Post, Signal}
@@ -28,30 +30,10 @@ use Rattle.fp_events.specs.declared.event.Ask.TheVariants as ask
 use Rattle.fp_events.specs.declared.event.What.{What}
 use Rattle.fp_events.specs.declared.event.What.TheVariants as what
 use Rattle.fp_events.proofs.SameArrival.{arrival_option_same}
-use Rattle.fp_events.proofs.StepLaws.{mapped_some, then_some, some_is}
 use Rattle.fp_logtext.specs.Names.{command_at, param_name, set_name, saved_name}
-use Rattle.fp_logtext.proofs.Lists.{get_below}
-use Rattle.fp_logtext.proofs.Components.{command_in, commands_lie_at}
+use Rattle.fp_typing.proofs.Parts.{command_in, commands_lie_at}
 
 -- ---- what an entry with an arrival answers
-
-module _ (t : Described) (i : ℕ) where
-  pub answered_arrival : (w : What) (q : Ask) (r : Arrival) → arrival_in w ≡ Some r → answers t i w q ≡ true → (q ≡ ask.Arrive r) × (suits (manner t i r.point) w ≡ true)
-  unfolding answers
-  answered_arrival w (ask.Arrive q) r is h =
-      let b = both (same_option same_arrival (arrival_in w) (Some q)) (suits (manner t i q.point) w) h in
-      let e : arrival_in w ≡ Some q = arrival_option_same.equal (arrival_in w) (Some q) b.0 in
-      let s : q ≡ r = some_is q r (sym e ∙ is) in
-      (ap ask.Arrive s, subst (λ (x : Arrival). suits (manner t i x.point) w ≡ true) s b.1)
-  answered_arrival (what.Enter x) _ r is h = absurd (cc)
-  answered_arrival (what.Guard x) _ r is h = absurd (cc)
-  answered_arrival (what.Set x) _ r is h = absurd (cc)
-  answered_arrival (what.Save x v) _ r is h = absurd (cc)
-  answered_arrival (what.Put number x) _ r is h = absurd (cc)
-  answered_arrival (what.Dropped x) _ r is h = absurd (cc)
-  answered_arrival (what.Hooked x) _ r is h = absurd (cc)
-  answered_arrival (what.Asserted x) _ r is h = absurd (cc)
-  answered_arrival _ _ r is h = absurd (cc)
 
 pub set_manner : (m : Option Manner) (r : Arrival) → suits m (what.Set r) ≡ true → (k : ℕ) × (m ≡ Some (sets k))
 set_manner None r h = absurd (cc)
@@ -82,11 +64,11 @@ no_way way (sets k) h e = cc
 no_way way (saves k) h e = cc
 
 no_input : (ro : Role) (m : Manner) → IsImplied m → input_manner ro ≡ Some m → ⊥
-no_input (role.Input way) m h e = no_way way m h (some_is (by way) m e)
+no_input (role.Input way) m h e = no_way way m h (same_some e)
 no_input _ m h e = cc
 
 no_internal : (ro : Role) (m : Manner) → IsImplied m → internal_manner ro ≡ Some m → ⊥
-no_internal (role.Internal way) m h e = no_way way m h (some_is (by way) m e)
+no_internal (role.Internal way) m h e = no_way way m h (same_some e)
 no_internal _ m h e = cc
 
 sets_part : (way : Way) (p : Part) (k : ℕ) → command_manner way p ≡ sets k → p ≡ part.SetParam k

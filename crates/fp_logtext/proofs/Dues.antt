@@ -2,8 +2,10 @@
 use Rattle.std.proofs.Common.{◌≡◌, ℕ, zero, suc, arith, Bool, true, false, cond, not, List, [], ◌∷◌, Option, Some, None, option_map, unwrap_or, refl, sym, ap, ◌∙◌, subst, slice_get, ◌<◌, length}
 use Rattle.std.specs.List.{position}
 use Rattle.std.proofs.lemmas.List.Quantifiers.{position-Some}
+use Rattle.fp_tables.specs.Specials.{component, special_wire, is_special as is_special_of}
+use Rattle.fp_base.proofs.Options.{mapped_some, then_some, same_some}
 use Rattle.fp_base.specs.declared.value.Value.{Value}
-use Rattle.fp_tables.proofs.Alls.{both}
+use Rattle.fp_base.proofs.Bools.{both, join}
 use Rattle.fp_tables.specs.Lists.{some_and}
 use Rattle.fp_tables.specs.Lookup.{Described, wire_from}
 use Rattle.fp_base.specs.Names.{is_name}
@@ -22,20 +24,19 @@ use Rattle.fp_tables.specs.declared.program.Verb.TheVariants as verb
 use Rattle.fp_events.specs.Actor.{Bindings, Action, act, send, advance, Doing, Opened, own, arrived, taken, Frame, Thread}
 use Rattle.fp_events.specs.Due.{first_action, values, sent_from, along, at_port, asks_out, ends_with, through, asks_in, due_in, due_of, due}
 use Rattle.fp_events.specs.Ends.{is_own}
-use Rattle.fp_events.specs.Lookup.{component, special_wire, is_special as is_special_of, home}
+use Rattle.fp_events.specs.Lookup.{home}
 use Rattle.fp_events.specs.declared.event.Point.{Point}
 use Rattle.fp_events.specs.declared.event.Point.TheVariants.{Command as OfCommand}
 use Rattle.fp_events.specs.declared.event.Origin.TheVariants.{Wire}
 use Rattle.fp_events.specs.declared.event.Arrival.{Arrival}
 use Rattle.fp_events.specs.declared.event.Ask.{Ask}
 use Rattle.fp_events.specs.declared.event.Ask.TheVariants as ask
-use Rattle.fp_events.proofs.StepLaws.{mapped_some, then_some, some_is}
-use Rattle.fp_logtext.specs.Fitting.{is_special, is_special_end, note_fits}
-use Rattle.fp_logtext.proofs.Lists.{join_true, slice_get-get_or}
-use Rattle.fp_logtext.proofs.Components.{port_in}
+use Rattle.fp_logtext.specs.Fitting.{is_special_end, note_fits, is_special_role}
+use Rattle.fp_typing.proofs.Lists.{slice_get-get_or}
+use Rattle.fp_typing.proofs.Parts.{port_in}
 use Rattle.fp_logtext.proofs.Frames.{act_is_good, action_is_good, frame_is_good, frames_are_good, first_passes}
 
-special_role : (s : Special) (r : Role) → is_special_of s r ≡ true → is_special r ≡ true
+special_role : (s : Special) (r : Role) → is_special_of s r ≡ true → is_special_role r ≡ true
 special_role s (role.Special q) h = refl
 special_role s _ h = absurd (cc)
 
@@ -58,13 +59,13 @@ module _ (t : Described) where
       let e : from ≡ w.0 = ap (λ (q : End × End). q.0) m.2 in
       subst (λ (x : End). is_special_end t.model x ≡ true) e (at_place p.0 p.1)
     where
-      at_place : (k : ℕ) → position (λ (p : PortOf). is_special_of s p.role) (component t i).ports ≡ Some k → some_and (λ (p : PortOf). is_special p.role) (port_of t.model i k) ≡ true
+      at_place : (k : ℕ) → position (λ (p : PortOf). is_special_of s p.role) (component t i).ports ≡ Some k → some_and (λ (p : PortOf). is_special_role p.role) (port_of t.model i k) ≡ true
       at_place k h =
           let test : PortOf → Bool = λ p. is_special_of s p.role in
           let ports = (component t i).ports in
           let x = item_at ports k (position-Some test ports k any_port h).0 in
           let passes : test x.0 ≡ true = ap test (sym (slice_get-get_or ports k x.0 x.1)) ∙ (position-Some test ports k x.0 h).1 in
-          ap (some_and (λ (p : PortOf). is_special p.role)) (sym (port_in t i k) ∙ x.1) ∙ special_role s x.0.role passes
+          ap (some_and (λ (p : PortOf). is_special_role p.role)) (sym (port_in t i k) ∙ x.1) ∙ special_role s x.0.role passes
 
   -- the arrival of an ask, if it has one, has a note that fits
   notes_asked : Ask → Bool
@@ -80,7 +81,7 @@ module _ (t : Described) where
 
   some_good : (d : ℕ × Ask) → notes_asked d.1 ≡ true → GoodDue (Some d)
   unfolding GoodDue
-  some_good d h e is = subst (λ (x : ℕ × Ask). notes_asked x.1 ≡ true) (some_is d e is) h
+  some_good d h e is = subst (λ (x : ℕ × Ask). notes_asked x.1 ≡ true) (same_some is) h
 
   module _ (program : Program) where
     sent_good : (i : ℕ) (s : Special) (name : List ℕ) → is_name name ≡ true → GoodDue (sent_from t program (special_wire t i s) name)
@@ -89,7 +90,7 @@ module _ (t : Described) where
       where
         go : (o : Option (End × End)) → ((w : End × End) → o ≡ Some w → is_special_end t.model w.0 ≡ true) → GoodDue (sent_from t program o name)
         go None known = none_good
-        go (Some w) known = some_good _ (join_true (is_special_end t.model w.0) (is_name name) (known w refl) h)
+        go (Some w) known = some_good _ (join (is_special_end t.model w.0) (is_name name) (known w refl) h)
 
     along_good : (e : End) (at : End → Point) (vs : List Value) → not (is_special_end t.model e) ≡ true → GoodDue (along t program e at vs)
     unfolding notes_asked

@@ -4,14 +4,14 @@ use Rattle.std.specs.List.{list_all}
 use Rattle.std.proofs.lemmas.List.Folds.{list_all-append}
 use Rattle.fp_base.specs.declared.value.Value.{Value}
 use Rattle.fp_base.proofs.Sameness.{nat_same}
-use Rattle.fp_tables.proofs.Alls.{both}
+use Rattle.fp_base.proofs.Bools.{both, join}
 use Rattle.fp_tables.specs.Lists.{some_and}
 use Rattle.fp_tables.specs.Lookup.{Described}
 use Rattle.fp_base.specs.Names.{is_name}
 use Rattle.fp_tables.specs.Positions.{port_of}
 use Rattle.fp_tables.specs.Acts.{has_role}
 use Rattle.fp_tables.specs.Programs.{is_general_output}
-use Rattle.fp_tables.specs.SoundPrograms.{IsSoundProgram}
+use Rattle.fp_tables.specs.SoundPrograms.{IsSoundProgram, same_spot}
 use Rattle.fp_tables.specs.declared.component.Port.{Port as PortOf}
 use Rattle.fp_tables.specs.declared.component.Role.{Role}
 use Rattle.fp_tables.specs.declared.component.Role.TheVariants as role
@@ -27,10 +27,10 @@ use Rattle.fp_events.specs.Actor.{Bindings, Action, act, send, advance, Doing, F
 use Rattle.fp_events.specs.Follows.{without_first, without_first_in, bind}
 use Rattle.fp_events.specs.Ends.{is_own}
 use Rattle.fp_events.specs.Due.{first_action, first_in}
-use Rattle.fp_events.specs.Lookup.{handler, same_spot}
-use Rattle.fp_events.proofs.StepLaws.{some_is}
-use Rattle.fp_logtext.specs.Fitting.{is_special, is_special_end}
-use Rattle.fp_logtext.proofs.Lists.{join_true, find_passes, some_and_of}
+use Rattle.fp_events.specs.Lookup.{handler}
+use Rattle.fp_base.proofs.Options.{same_some}
+use Rattle.fp_logtext.specs.Fitting.{is_special_end, is_special_role}
+use Rattle.fp_typing.proofs.Lists.{find_passes, some_and_of}
 use Rattle.fp_logtext.proofs.Listed as listed
 use Rattle.fp_logtext.proofs.Bridge.{listed_handlers}
 
@@ -52,13 +52,13 @@ module _ (t : Described) where
   general_is_good : (e : End) → has_role t is_general_output e ≡ true → not (is_special_end t.model e) ≡ true
   general_is_good e h = go (port_of t.model e.instance e.port) h
     where
-      of_role : (r : Role) → is_general_output r ≡ true → not (is_special r) ≡ true
+      of_role : (r : Role) → is_general_output r ≡ true → not (is_special_role r) ≡ true
       of_role role.Output h = refl
       of_role (role.Input way) h = absurd (cc)
       of_role (role.Special s) h = absurd (cc)
       of_role (role.Internal way) h = absurd (cc)
 
-      go : (o : Option PortOf) → some_and (λ (x : PortOf). is_general_output x.role) o ≡ true → not (some_and (λ (p : PortOf). is_special p.role) o) ≡ true
+      go : (o : Option PortOf) → some_and (λ (x : PortOf). is_general_output x.role) o ≡ true → not (some_and (λ (p : PortOf). is_special_role p.role) o) ≡ true
       go None h = absurd (cc)
       go (Some p) h = of_role p.role h
 
@@ -79,7 +79,7 @@ module _ (t : Described) where
   acts_good i place bound [] h = refl
   acts_good i place bound (x ∷ rest) h =
       let s = both (listed.act_suits t i place bound x) (listed.acts_suit t i place (listed.binds t i x ++ bound) rest) h in
-      join_true (act_is_good i x) (list_all (act_is_good i) rest)
+      join (act_is_good i x) (list_all (act_is_good i) rest)
       (act_good i place bound x.verb x.subject x.name x.with x.bind s.0)
       (acts_good i place (listed.binds t i x ++ bound) rest s.1)
 
@@ -123,7 +123,7 @@ module _ (p : Action → Bool) where
     where
       go : (xs : List Action) → list_all p xs ≡ true → first_in d xs (first_action ds) ≡ Some (x, b) → (first_action ds ≡ Some (x, b) → p x ≡ true) → p x ≡ true
       go [] k is rest = rest is
-      go (y ∷ ys) k is rest = let f : y ≡ x = ap (λ (q : Action × Bindings). q.0) (some_is (y, d.bound) (x, b) is) in ap p (sym f) ∙ (both (p y) (list_all p ys) k).0
+      go (y ∷ ys) k is rest = let f : y ≡ x = ap (λ (q : Action × Bindings). q.0) (same_some is) in ap p (sym f) ∙ (both (p y) (list_all p ys) k).0
 
   pub without_first_passes : (ds : List Doing) → list_all (λ (d : Doing). list_all p d.actions) ds ≡ true → list_all (λ (d : Doing). list_all p d.actions) (without_first ds) ≡ true
   without_first_passes [] h = refl
@@ -133,11 +133,11 @@ module _ (p : Action → Bool) where
     where
       go : (xs : List Action) → list_all p xs ≡ true → list_all doing_passes ds ≡ true → list_all doing_passes (without_first ds) ≡ true → list_all doing_passes (without_first_in d xs ds (without_first ds)) ≡ true
       go [] k rest less = less
-      go (y ∷ ys) k rest less = join_true (list_all p ys) (list_all doing_passes ds) (both (p y) (list_all p ys) k).1 rest
+      go (y ∷ ys) k rest less = join (list_all p ys) (list_all doing_passes ds) (both (p y) (list_all p ys) k).1 rest
 
   pub bind_passes : (name : List ℕ) (v : Value) (ds : List Doing) → list_all (λ (d : Doing). list_all p d.actions) ds ≡ true → list_all (λ (d : Doing). list_all p d.actions) (bind name v ds) ≡ true
   bind_passes name v [] h = refl
   bind_passes name v (d ∷ ds) h = h
 
   pub more_pass : (ds es : List Doing) → list_all (λ (d : Doing). list_all p d.actions) ds ≡ true → list_all (λ (d : Doing). list_all p d.actions) es ≡ true → list_all (λ (d : Doing). list_all p d.actions) (ds ++ es) ≡ true
-  more_pass ds es h k = list_all-append doing_passes ds es ∙ join_true (list_all doing_passes ds) (list_all doing_passes es) h k
+  more_pass ds es h k = list_all-append doing_passes ds es ∙ join (list_all doing_passes ds) (list_all doing_passes es) h k

@@ -2,8 +2,10 @@
 use Rattle.std.proofs.Common.{◌≡◌, ℕ, Bool, true, false, cond, List, [], ◌∷◌, ◌++◌, map, Option, Some, None, option_map, option_and_then, unwrap_or, is_some, refl, sym, ap, ◌∙◌, subst, slice_get}
 use Rattle.std.specs.List.{list_all}
 use Rattle.std.proofs.lemmas.List.Folds.{list_all-map}
+use Rattle.fp_tables.specs.Specials.{component, special_wire}
+use Rattle.fp_base.proofs.Options.{then_some, some_of}
 use Rattle.fp_base.specs.declared.value.Value.{Value}
-use Rattle.fp_tables.proofs.Alls.{both, all_get}
+use Rattle.fp_base.proofs.Bools.{both, join}
 use Rattle.fp_tables.specs.Lookup.{Described, component_of}
 use Rattle.fp_base.specs.Names.{is_name}
 use Rattle.fp_tables.specs.Sound.{IsSound}
@@ -26,9 +28,9 @@ use Rattle.fp_events.specs.Due.{first_action}
 use Rattle.fp_events.specs.Ends.{is_own}
 use Rattle.fp_events.specs.Fits.{what_fits, saved_kind, value_fits, arrival_fits}
 use Rattle.fp_events.specs.Follows.{without_first, bind, in_frame, replaced, removed, bound_below, closed, value_in, ok_note, acts_at, handling, returned, opened, sends, parameter_of, parameter_name, performed, sent_as, bound_name, follows}
-use Rattle.fp_events.specs.Lookup.{component, special_wire, handler}
+use Rattle.fp_events.specs.Lookup.{handler}
 use Rattle.fp_events.specs.Manners.{Manner, by, sets, saves, manner}
-use Rattle.fp_events.proofs.StepLaws.{then_some}
+use Rattle.fp_base.proofs.Lists.{all_get}
 use Rattle.fp_tables.specs.declared.kind.Kind.{Kind}
 use Rattle.fp_events.specs.declared.event.Fate.{Fate}
 use Rattle.fp_events.specs.declared.event.Fate.TheVariants.{Sent, Held, Same, Unwired}
@@ -36,8 +38,8 @@ use Rattle.fp_events.specs.declared.event.Point.{Point}
 use Rattle.fp_events.specs.declared.event.Point.TheVariants.{Port, Command as OfCommand, Post, Signal}
 use Rattle.fp_events.specs.declared.event.What.{What}
 use Rattle.fp_events.specs.declared.event.What.TheVariants as what
-use Rattle.fp_logtext.proofs.Lists.{join_true, some_of}
-use Rattle.fp_logtext.proofs.Components.{command_in, event_in, channel_in, param_in, names_at}
+use Rattle.fp_typing.proofs.Parts.{command_in, event_in, channel_in, param_in}
+use Rattle.fp_logtext.proofs.Components.{names_at}
 use Rattle.fp_logtext.proofs.Commands.{implied, of_save, saves_part}
 use Rattle.fp_logtext.proofs.AtHome.{InnermostAt}
 use Rattle.fp_logtext.proofs.Frames.{action_is_good, frame_is_good, frames_are_good, handler_good, without_first_passes, bind_passes, more_pass}
@@ -58,14 +60,14 @@ module _ (t : Described) (program : Program) (sound : IsSound t.model) (good : I
   removed_good [] h = refl
   removed_good (f ∷ fs) h =
       let b = both (frame_is_good t f) (frames_are_good t fs) h in
-      join_true (frame_is_good t (record f { doing = without_first f.doing })) (frames_are_good t fs)
+      join (frame_is_good t (record f { doing = without_first f.doing })) (frames_are_good t fs)
       (without_first_passes (action_is_good t (is_own f.opened) f.instance) f.doing b.0) b.1
 
   bound_below_good : (o : Opened) (v : Option Value) (fs : List Frame) → frames_are_good t fs ≡ true → frames_are_good t (bound_below o v fs) ≡ true
   bound_below_good (arrived default (Some name)) (Some v) [] h = refl
   bound_below_good (arrived default (Some name)) (Some v) (f ∷ fs) h =
       let b = both (frame_is_good t f) (frames_are_good t fs) h in
-      join_true (frame_is_good t (record f { doing = bind name v f.doing })) (frames_are_good t fs)
+      join (frame_is_good t (record f { doing = bind name v f.doing })) (frames_are_good t fs)
       (bind_passes (action_is_good t (is_own f.opened) f.instance) name v f.doing b.0) b.1
   bound_below_good _ v fs h = h
 
@@ -74,7 +76,7 @@ module _ (t : Described) (program : Program) (sound : IsSound t.model) (good : I
   closed_good v (f ∷ fs) h = bound_below_good f.opened v fs (both (frame_is_good t f) (frames_are_good t fs) h).1
 
   opened_good : (i : ℕ) (d : Doing) (default : Option Value) (fs : List Frame) → list_all (action_is_good t false i) d.actions ≡ true → frames_are_good t fs ≡ true → frames_are_good t (opened t program i d default fs) ≡ true
-  opened_good i d default fs k h = join_true _ (frames_are_good t (removed fs)) (join_true (list_all (action_is_good t false i) d.actions) true k refl) (removed_good fs h)
+  opened_good i d default fs k h = join _ (frames_are_good t (removed fs)) (join (list_all (action_is_good t false i) d.actions) true k refl) (removed_good fs h)
 
   -- ---- sends
 
@@ -82,8 +84,8 @@ module _ (t : Described) (program : Program) (sound : IsSound t.model) (good : I
   send_good i callers s name h = go callers (is_some (special_wire t i s))
     where
       go : (c b : Bool) → list_all (action_is_good t c i) (cond b (send s name ∷ []) [] ++ []) ≡ true
-      go true true = join_true (is_name name) true h refl
-      go false true = join_true (is_name name) true h refl
+      go true true = join (is_name name) true h refl
+      go false true = join (is_name name) true h refl
       go true false = refl
       go false false = refl
 
@@ -91,9 +93,9 @@ module _ (t : Described) (program : Program) (sound : IsSound t.model) (good : I
   two_sends_good i r s name other h k = go (is_some (special_wire t i r)) (is_some (special_wire t i s))
     where
       go : (b c : Bool) → list_all (action_is_good t false i) (cond b (send r name ∷ []) [] ++ (cond c (send s other ∷ []) [] ++ [])) ≡ true
-      go true true = join_true (is_name name) _ h (join_true (is_name other) true k refl)
-      go true false = join_true (is_name name) true h refl
-      go false true = join_true (is_name other) true k refl
+      go true true = join (is_name name) _ h (join (is_name other) true k refl)
+      go true false = join (is_name name) true h refl
+      go false true = join (is_name other) true k refl
       go false false = refl
 
   replaced_good : (ds : List Doing) (fs : List Frame)
@@ -101,19 +103,19 @@ module _ (t : Described) (program : Program) (sound : IsSound t.model) (good : I
   replaced_good ds [] k h = refl
   replaced_good ds (f ∷ fs) k h =
       let b = both (frame_is_good t f) (frames_are_good t fs) h in
-      join_true (frame_is_good t (record f { doing = ds ++ without_first f.doing })) (frames_are_good t fs)
+      join (frame_is_good t (record f { doing = ds ++ without_first f.doing })) (frames_are_good t fs)
       (more_pass (action_is_good t (is_own f.opened) f.instance) ds (without_first f.doing) (k (is_own f.opened) f.instance)
       (without_first_passes (action_is_good t (is_own f.opened) f.instance) f.doing b.0)) b.1
 
   sent_as_good : (i : ℕ) (became : Fate) (s : Special) (name : List ℕ) (fs : List Frame) → is_name name ≡ true → frames_are_good t fs ≡ true → frames_are_good t (sent_as t program i became s name fs) ≡ true
-  sent_as_good i Sent s name fs k h = replaced_good (sends t program i ((s, name) ∷ []) ∷ []) fs (λ callers j. join_true _ true (sends_anywhere callers j) refl) h
+  sent_as_good i Sent s name fs k h = replaced_good (sends t program i ((s, name) ∷ []) ∷ []) fs (λ callers j. join _ true (sends_anywhere callers j) refl) h
     where
       sends_anywhere : (c : Bool) (j : ℕ) → list_all (action_is_good t c j) (sends t program i ((s, name) ∷ [])).actions ≡ true
       sends_anywhere c j = go c (is_some (special_wire t i s))
         where
           go : (c b : Bool) → list_all (action_is_good t c j) (cond b (send s name ∷ []) [] ++ []) ≡ true
-          go true true = join_true (is_name name) true k refl
-          go false true = join_true (is_name name) true k refl
+          go true true = join (is_name name) true k refl
+          go false true = join (is_name name) true k refl
           go true false = refl
           go false false = refl
   sent_as_good i Held s name fs k h = removed_good fs h
@@ -175,8 +177,8 @@ module _ (t : Described) (program : Program) (sound : IsSound t.model) (good : I
   performed_good : (callers : Bool) (i running : ℕ) (actions : List ℕ) (v : Option Value) → list_all (λ (d : Doing). list_all (action_is_good t callers i) d.actions) (performed t program i running actions v) ≡ true
   performed_good callers i running [] v = refl
   performed_good true i running (k ∷ ks) v =
-      join_true _ _ (owned_acts i (handler program i (spot.Action running k))) (performed_good true i running ks v)
-  performed_good false i running (k ∷ ks) v = join_true _ _ (acts_good i (spot.Action running k)) (performed_good false i running ks v)
+      join _ _ (owned_acts i (handler program i (spot.Action running k))) (performed_good true i running ks v)
+  performed_good false i running (k ∷ ks) v = join _ _ (acts_good i (spot.Action running k)) (performed_good false i running ks v)
 
   performing_good : (i running : ℕ) (actions : List ℕ) (v : List Doing → Option Value) (left : List Doing → List Doing) (fs : List Frame)
       → ((p : Action → Bool) (ds : List Doing) → list_all (λ (d : Doing). list_all p d.actions) ds ≡ true → list_all (λ (d : Doing). list_all p d.actions) (left ds) ≡ true)
@@ -184,7 +186,7 @@ module _ (t : Described) (program : Program) (sound : IsSound t.model) (good : I
   performing_good i running actions v left [] keep at h = refl
   performing_good i running actions v left (f ∷ fs) keep at h =
       let b = both (frame_is_good t f) (frames_are_good t fs) h in
-      join_true (frame_is_good t (record f { doing = performed t program i running actions (v f.doing) ++ left f.doing })) (frames_are_good t fs)
+      join (frame_is_good t (record f { doing = performed t program i running actions (v f.doing) ++ left f.doing })) (frames_are_good t fs)
       (more_pass (action_is_good t (is_own f.opened) f.instance) (performed t program i running actions (v f.doing)) (left f.doing)
       (subst (λ (k : ℕ). list_all (λ (d : Doing). list_all (action_is_good t (is_own f.opened) k) d.actions) (performed t program i running actions (v f.doing)) ≡ true) (sym at)
       (performed_good (is_own f.opened) i running actions (v f.doing)))
@@ -194,7 +196,7 @@ module _ (t : Described) (program : Program) (sound : IsSound t.model) (good : I
   read_good name v [] h = refl
   read_good name v (f ∷ fs) h =
       let b = both (frame_is_good t f) (frames_are_good t fs) h in
-      join_true (frame_is_good t (record f { doing = bind (name f.doing) v (without_first f.doing) })) (frames_are_good t fs)
+      join (frame_is_good t (record f { doing = bind (name f.doing) v (without_first f.doing) })) (frames_are_good t fs)
       (bind_passes (action_is_good t (is_own f.opened) f.instance) (name f.doing) v (without_first f.doing) (without_first_passes (action_is_good t (is_own f.opened) f.instance) f.doing b.0)) b.1
 
   -- ---- after an entry
@@ -220,7 +222,7 @@ module _ (t : Described) (program : Program) (sound : IsSound t.model) (good : I
   follows_good i x (what.Leave v) fit at h = closed_good v x.frames h
   follows_good i x what.Done fit at h = closed_good None x.frames h
   follows_good i x (what.Take number point vs) fit at h =
-      join_true _ (frames_are_good t (removed x.frames)) (join_true (list_all (action_is_good t false i) (handling t program i point vs).actions) true (handling_good i point vs) refl) (removed_good x.frames h)
+      join _ (frames_are_good t (removed x.frames)) (join (list_all (action_is_good t false i) (handling t program i point vs).actions) true (handling_good i point vs) refl) (removed_good x.frames h)
   follows_good i x what.Empty fit at h = removed_good x.frames h
   follows_good i x (what.Emit event became text) fit at h = sent_as_good i became special.Event _ x.frames (event_named i event fit) h
   follows_good i x (what.Write channel became v) fit at h = sent_as_good i became special.Tlm _ x.frames (channel_named i channel (kind_there (λ (c : Channel). c.kind) (slice_get (component t i).channels channel) v fit)) h
@@ -237,4 +239,4 @@ module _ (t : Described) (program : Program) (sound : IsSound t.model) (good : I
     where
       go : (o : Option Caller) → slice_get program.callers a ≡ o → frames_are_good t (opened_actor program a).frames ≡ true
       go None is = rw is refl
-      go (Some c) is = rw is (join_true _ true (join_true (list_all (action_is_good t true 0) (map act c.acts)) true (owned_acts 0 c.acts) refl) refl)
+      go (Some c) is = rw is (join _ true (join (list_all (action_is_good t true 0) (map act c.acts)) true (owned_acts 0 c.acts) refl) refl)

@@ -1,4 +1,3 @@
-pub mod Lists
 pub mod Components
 pub mod Commands
 pub mod Naming
@@ -9,11 +8,6 @@ pub mod Dues
 pub mod AtHome
 pub mod Kept
 pub mod Runs
-pub mod Aliases
-pub mod Typed
-pub mod Results
-pub mod Handlers
-pub mod Stack
-pub mod Causes
+pub mod Numbers
 pub mod Returned
 pub mod WorkedTexts

@@ -1,8 +1,10 @@
 -- Where an entry fits, its positions name something and its values have the kinds of their places.
 use Rattle.std.proofs.Common.{◌≡◌, ℕ, Bool, true, false, cond, List, length, Option, Some, None, option_map, option_and_then, unwrap_or, is_some, refl, sym, ap, ◌∙◌, slice_get, nat_lt}
 use Rattle.std.specs.List.{list_all}
+use Rattle.fp_base.proofs.Lists.{get_below}
+use Rattle.fp_tables.specs.Specials.{component}
 use Rattle.fp_base.specs.declared.value.Value.{Value}
-use Rattle.fp_tables.proofs.Alls.{both}
+use Rattle.fp_base.proofs.Bools.{both, join}
 use Rattle.fp_tables.specs.Lists.{some_and}
 use Rattle.fp_tables.specs.Lookup.{Described}
 use Rattle.fp_tables.specs.Positions.{port_of}
@@ -15,8 +17,8 @@ use Rattle.fp_tables.specs.declared.component.Port.{Port as PortOf}
 use Rattle.fp_tables.specs.declared.machine.Machine.{Machine}
 use Rattle.fp_tables.specs.declared.machine.Named.{Named}
 use Rattle.fp_tables.specs.declared.program.Program.{Program}
-use Rattle.fp_events.specs.Fits.{place_kinds, port_at, kinds, signal_kinds, signal_at, point_fits, origin_fits, arrival_fits, value_fits, saved_kind, actions_fit, same_kind, going_fits, what_fits}
-use Rattle.fp_events.specs.Lookup.{component, machine}
+use Rattle.fp_events.specs.Fits.{place_kinds, port_at, kinds, signal_kinds, signal_at, point_fits, origin_fits, arrival_fits, value_fits, saved_kind, actions_fit, going_fits, what_fits, gives_kind}
+use Rattle.fp_events.specs.Lookup.{machine}
 use Rattle.fp_events.specs.Manners.{manner}
 use Rattle.fp_events.specs.declared.event.Point.{Point}
 use Rattle.fp_events.specs.declared.event.Point.TheVariants.{Port, Command as OfCommand, Post, Signal}
@@ -25,12 +27,13 @@ use Rattle.fp_events.specs.declared.event.Origin.TheVariants.{Caller, Own, Wire}
 use Rattle.fp_events.specs.declared.event.Arrival.{Arrival}
 use Rattle.fp_events.specs.declared.event.What.{What}
 use Rattle.fp_events.specs.declared.event.What.TheVariants as what
-use Rattle.fp_events.proofs.StepLaws.{mapped_some, then_some}
+use Rattle.fp_base.proofs.Options.{mapped_some, then_some, some_of}
 use Rattle.fp_logtext.specs.Names.{action_of, vertex_of, signal_of, machine_at, signal_name}
 use Rattle.fp_logtext.specs.Named.{point_is_named, origin_is_named, arrival_is_named, going_is_named, what_is_named}
 use Rattle.fp_logtext.specs.Fitting.{is_of, suit_point, values_fit}
-use Rattle.fp_logtext.proofs.Lists.{join_true, get_below, some_of, some_and_of, all_implied, mapped_test, some_mapped, some_and_at}
-use Rattle.fp_logtext.proofs.Components.{port_in, command_in, event_in, channel_in, param_in, machine_in}
+use Rattle.fp_typing.proofs.Lists.{some_and_of, all_implied, mapped_test, some_mapped, some_and_at}
+use Rattle.fp_typing.proofs.Parts.{port_in, command_in, event_in, channel_in, param_in}
+use Rattle.fp_logtext.proofs.Components.{machine_in}
 
 module _ (t : Described) (program : Program) where
   point_kinds : (i : ℕ) (point : Point) (vs : List Value) → point_fits t program i point vs ≡ true → suit_point t program i point vs ≡ true
@@ -77,7 +80,7 @@ module _ (t : Described) (program : Program) where
   arrival_named : (i : ℕ) (r : Arrival) → arrival_fits t program i r ≡ true → arrival_is_named t.model i r ≡ true
   arrival_named i r h =
       let b = both (point_fits t program i r.point r.with) (origin_fits t program r.origin) h in
-      join_true (point_is_named t.model i r.point) (origin_is_named t.model r.origin) (point_named i r.point r.with b.0) (origin_named r.origin b.1)
+      join (point_is_named t.model i r.point) (origin_is_named t.model r.origin) (point_named i r.point r.with b.0) (origin_named r.origin b.1)
 
   arrival_kinds : (i : ℕ) (r : Arrival) → arrival_fits t program i r ≡ true → suit_point t program i r.point r.with ≡ true
   arrival_kinds i r h = point_kinds i r.point r.with (both (point_fits t program i r.point r.with) (origin_fits t program r.origin) h).0
@@ -94,11 +97,11 @@ module _ (t : Described) (program : Program) where
   going_named k None actions leaf h = absurd (cc)
   going_named k (Some x) actions leaf h =
       let b = both (actions_fit t program k x actions) (nat_lt leaf (length x.vertices)) h in
-      join_true (list_all (λ a. is_some (action_of x a)) actions) (is_some (vertex_of x leaf))
-      (all_implied (λ a. unwrap_or (option_map (λ (n : Named). same_kind t program n.kind k) (slice_get x.actions a)) false) (λ a. is_some (action_of x a)) actions (λ a e. there (slice_get x.actions a) e) b.0)
+      join (list_all (λ a. is_some (action_of x a)) actions) (is_some (vertex_of x leaf))
+      (all_implied (λ a. unwrap_or (option_map (λ (n : Named). gives_kind t program n.kind k) (slice_get x.actions a)) false) (λ a. is_some (action_of x a)) actions (λ a e. there (slice_get x.actions a) e) b.0)
       (some_mapped _ (slice_get x.vertices leaf) ∙ get_below x.vertices leaf b.1)
     where
-      there : (o : Option Named) → unwrap_or (option_map (λ (n : Named). same_kind t program n.kind k) o) false ≡ true → is_some (option_map (λ (n : Named). n.name) o) ≡ true
+      there : (o : Option Named) → unwrap_or (option_map (λ (n : Named). gives_kind t program n.kind k) o) false ≡ true → is_some (option_map (λ (n : Named). n.name) o) ≡ true
       there None e = absurd (cc)
       there (Some n) e = refl
 
@@ -124,7 +127,7 @@ module _ (t : Described) (program : Program) where
   fit_named i (what.Move running signal actions leaf) h =
       let b = both (is_some (signal_at t program i running signal)) (going_fits t program (option_and_then (λ (s : Named). s.kind) (signal_at t program i running signal)) (machine t i running) actions leaf) h in
       let s = some_of (signal_at t program i running signal) b.0 in
-      join_true (is_some (signal_name t.model i running signal)) (some_and (going_is_named t.model actions leaf) (machine_at t.model i running))
+      join (is_some (signal_name t.model i running signal)) (some_and (going_is_named t.model actions leaf) (machine_at t.model i running))
       (kinds_named i (Signal running signal) (signal_kinds t program s.0.kind) (ap (option_map (λ (n : Named). signal_kinds t program n.kind)) s.1))
       (ap (some_and (going_is_named t.model actions leaf)) (sym (machine_in t i running)) ∙ going_named _ (machine t i running) actions leaf b.1)
 
@@ -139,7 +142,7 @@ module _ (t : Described) (program : Program) where
   fit_values i (what.Set r) h = arrival_kinds i r h
   fit_values i (what.Save r v) h =
       let b = both (arrival_fits t program i r) (value_fits t program (saved_kind t program i (manner t i r.point)) v) h in
-      join_true (suit_point t program i r.point r.with) (is_of t program (saved_kind t program i (manner t i r.point)) v)
+      join (suit_point t program i r.point r.with) (is_of t program (saved_kind t program i (manner t i r.point)) v)
       (arrival_kinds i r b.0) (of_kind (saved_kind t program i (manner t i r.point)) v b.1)
   fit_values i (what.Take number point vs) h = point_kinds i point vs h
   fit_values i (what.Write channel became v) h = of_kind _ v h

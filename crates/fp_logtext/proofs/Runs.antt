@@ -2,10 +2,12 @@
 use Rattle.std.proofs.Common.{◌≡◌, ℕ, Bool, true, ◌&&◌, nat_lt, nat_le, List, [], ◌∷◌, ◌++◌, length, Option, Some, None, option_map, is_some, refl, sym, ap, ◌∙◌, slice_get, arith}
 use Rattle.std.proofs.lemmas.Bool.Decides.{nat_tests}
 use Rattle.std.specs.List.{list_all}
+use Rattle.fp_base.proofs.Options.{then_some, same_some}
+use Rattle.fp_base.proofs.Lists.{all_get}
 use Rattle.fp_base.specs.declared.value.Value.{Value}
 use Rattle.fp_system.specs.Run.{Run, World, ActorStep, opening}
 use Rattle.fp_system.proofs.Local.{actor_law}
-use Rattle.fp_tables.proofs.Alls.{both, all_get}
+use Rattle.fp_base.proofs.Bools.{both, join}
 use Rattle.fp_tables.specs.Components.{takes_its_value}
 use Rattle.fp_tables.specs.Lists.{if_some}
 use Rattle.fp_tables.specs.Lookup.{Described, component_of}
@@ -24,7 +26,7 @@ use Rattle.fp_events.specs.Answers.{arrival_in, answers}
 use Rattle.fp_events.specs.Due.{due}
 use Rattle.fp_events.specs.Fits.{actor_count, is_placed, kinds, place_kinds, what_fits, fits}
 use Rattle.fp_events.specs.Instance.{InstanceState}
-use Rattle.fp_events.specs.Lookup.{component}
+use Rattle.fp_tables.specs.Specials.{component}
 use Rattle.fp_events.specs.Manners.{saves, manner}
 use Rattle.fp_events.specs.Step.{core}
 use Rattle.fp_events.specs.declared.event.Point.{Point}
@@ -35,13 +37,13 @@ use Rattle.fp_events.specs.declared.event.Entry.{Entry}
 use Rattle.fp_events.specs.declared.event.What.{What}
 use Rattle.fp_events.specs.declared.event.What.TheVariants as what
 use Rattle.fp_events.proofs.Fitting.{run_fits}
-use Rattle.fp_events.proofs.StepLaws.{then_some, some_is, taken, core_laws}
+use Rattle.fp_events.proofs.StepLaws.{taken, core_laws, answered_arrival}
 use Rattle.fp_logtext.specs.Names.{instance_name}
 use Rattle.fp_logtext.specs.Named.{what_is_named, entry_is_named, sets_or_saves}
 use Rattle.fp_logtext.specs.Fitting.{is_empty, note_fits, notes_fit, saves_alone, suit_point, values_fit}
-use Rattle.fp_logtext.proofs.Lists.{join_true, all_of_each, some_and_of, some_mapped}
-use Rattle.fp_logtext.proofs.Components.{command_in, values_taken_at, member_at}
-use Rattle.fp_logtext.proofs.Commands.{answered_arrival, set_manner, save_manner, implied, of_save, saves_part, set_is_named, save_is_named}
+use Rattle.fp_typing.proofs.Lists.{all_of_each, some_and_of, some_mapped}
+use Rattle.fp_typing.proofs.Parts.{command_in, values_taken_at, member_at}
+use Rattle.fp_logtext.proofs.Commands.{set_manner, save_manner, implied, of_save, saves_part, set_is_named, save_is_named}
 use Rattle.fp_logtext.proofs.Naming.{fit_named, fit_values}
 use Rattle.fp_logtext.proofs.Frames.{frames_are_good}
 use Rattle.fp_logtext.proofs.Dues.{due_notes}
@@ -56,8 +58,8 @@ module _ (t : Described) (program : Program) (sound : IsSoundFor t.model (Some t
   entry_named e h =
       let a = both (nat_lt e.actor (actor_count t program) && is_placed t program e.instance) (what_fits t program e.instance e.what) h in
       let b = both (nat_lt e.actor (actor_count t program)) (is_placed t program e.instance) a.0 in
-      join_true _ (what_is_named t.model e.instance e.what)
-      (join_true (nat_lt e.actor (actor_count t program)) (is_some (instance_name t.model e.instance)) b.0
+      join _ (what_is_named t.model e.instance e.what)
+      (join (nat_lt e.actor (actor_count t program)) (is_some (instance_name t.model e.instance)) b.0
       (some_mapped _ (slice_get t.model.instances e.instance) ∙ member_at t.model t.topology sound e.instance b.1))
       (fit_named t program e.instance e.what a.1)
 
@@ -73,11 +75,11 @@ module _ (t : Described) (program : Program) (sound : IsSoundFor t.model (Some t
 
   answers_commands : (i : ℕ) (w : What) (q : Ask) → answers t i w q ≡ true → sets_or_saves t.model i w ≡ true
   answers_commands i (what.Set r) q h =
-      let a = answered_arrival t i (what.Set r) q r refl h in
+      let a = answered_arrival t program i (what.Set r) q r refl h in
       let m = set_manner (manner t i r.point) r a.1 in
       set_is_named t sound.0 i r.point m.0 m.1
   answers_commands i (what.Save r v) q h =
-      let a = answered_arrival t i (what.Save r v) q r refl h in
+      let a = answered_arrival t program i (what.Save r v) q r refl h in
       let m = save_manner (manner t i r.point) r v a.1 in
       save_is_named t sound.0 i r.point m.0 m.1
   answers_commands i _ q h = refl
@@ -98,12 +100,12 @@ module _ (t : Described) (program : Program) (sound : IsSoundFor t.model (Some t
       let found : slice_get (component t i).commands m.number ≡ Some m.command = command_in t i m.number ∙ m.found in
       let of : place_kinds t program i point ≡ Some (kinds t program m.command.formals) =
       ap (place_kinds t program i) m.is ∙ ap (option_map (λ (c : Command). kinds t program c.formals)) found in
-      let same : ks.0 ≡ kinds t program m.command.formals = some_is ks.0 (kinds t program m.command.formals) (sym ks.1 ∙ of) in
+      let same : ks.0 ≡ kinds t program m.command.formals = same_some (sym ks.1 ∙ of) in
       no_formals m.command.formals vs none (ap (λ (js : List Kind). have_kinds t.model.types js vs) (sym same) ∙ ks.2)
 
   answers_alone : (i : ℕ) (w : What) (q : Ask) → answers t i w q ≡ true → values_fit t program i w ≡ true → saves_alone w ≡ true
   answers_alone i (what.Save r v) q h fit =
-      let a = answered_arrival t i (what.Save r v) q r refl h in
+      let a = answered_arrival t program i (what.Save r v) q r refl h in
       let m = save_manner (manner t i r.point) r v a.1 in
       saved_alone i r.point m.0 r.with m.1 (both (suit_point t program i r.point r.with) _ fit).0
   answers_alone i _ q h fit = refl
@@ -122,7 +124,7 @@ module _ (t : Described) (program : Program) (sound : IsSoundFor t.model (Some t
       go : (o : Option Arrival) → arrival_in w ≡ o → if_some (λ (r : Arrival). note_fits t.model r.origin) o ≡ true
       go None e = refl
       go (Some r) e =
-          let r_asked = (answered_arrival t i w q r e h).0 in
+          let r_asked = (answered_arrival t program i w q r e h).0 in
           due_notes t program a x.thread i r frames (is ∙ ap (λ (q : Ask). Some (i, q)) r_asked)
 
   -- ---- in a run

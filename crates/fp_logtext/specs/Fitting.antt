@@ -1,9 +1,8 @@
 -- When a list of entries is fitting: what its text alone can show of a run.
 -- The form of the log is this profile's own.
-use Rattle.std.specs.Prelude.{◌≡◌, ℕ, Bool, true, false, not, ◌&&◌, List, [], ◌∷◌, ◌++◌, drop, Option, Some, None, option_map, slice_get}
+use Rattle.std.specs.Prelude.{◌≡◌, ℕ, Bool, true, false, not, ◌&&◌, ◌^◌, nat_lt, List, [], ◌∷◌, ◌++◌, drop, Option, Some, None, option_map, slice_get}
 use Rattle.std.specs.List.{list_all}
 use Rattle.fp_base.specs.declared.value.Value.{Value}
-use Rattle.fp_tables.specs.Acts.{result_at}
 use Rattle.fp_tables.specs.Lists.{if_some, some_and}
 use Rattle.fp_tables.specs.Lookup.{Described}
 use Rattle.fp_base.specs.Names.{is_name}
@@ -20,7 +19,7 @@ use Rattle.fp_tables.specs.declared.program.Program.{Program}
 use Rattle.fp_tables.specs.declared.model.Model.{Model}
 use Rattle.fp_events.specs.Answers.{arrival_in}
 use Rattle.fp_events.specs.Fits.{place_kinds, saved_kind}
-use Rattle.fp_events.specs.Lookup.{component}
+use Rattle.fp_tables.specs.Specials.{component}
 use Rattle.fp_events.specs.Manners.{manner}
 use Rattle.fp_events.specs.Run.{by}
 use Rattle.fp_events.specs.declared.event.Point.{Point}
@@ -31,16 +30,17 @@ use Rattle.fp_events.specs.declared.event.Arrival.{Arrival}
 use Rattle.fp_events.specs.declared.event.What.{What}
 use Rattle.fp_events.specs.declared.event.What.TheVariants as what
 use Rattle.fp_events.specs.declared.event.Entry.{Entry}
+use Rattle.fp_typing.specs.Suits.{results_from, returns_fit}
 use Rattle.fp_logtext.specs.Named.{are_named, set_and_save_commands}
 
 -- ---- notes
 
-abbrev pub is_special : Role → Bool
-is_special (role.Special s) = true
-is_special _ = false
+abbrev pub is_special_role : Role → Bool
+is_special_role (role.Special s) = true
+is_special_role _ = false
 
 abbrev pub is_special_end : Model → End → Bool
-is_special_end m e = some_and (λ (p : PortOf). is_special p.role) (port_of m e.instance e.port)
+is_special_end m e = some_and (λ (p : PortOf). is_special_role p.role) (port_of m e.instance e.port)
 
 -- a note exactly where the origin is a wire end at a special port, and a name
 abbrev pub note_fits : Model → Origin → Bool
@@ -86,36 +86,19 @@ module _ (t : Described) (program : Program) where
   values_fit i (what.Read param v) = is_of (option_map (λ (p : Param). p.kind) (slice_get (component t i).params param)) v
   values_fit i _ = true
 
--- ---- returned values
+-- ---- numbers
 
--- what the frames of an actor that are open return, the innermost first: a port that has a result that, any other place nothing
-abbrev pub result_of_point : Described → ℕ → Point → Option Kind
-result_of_point t i (Port k number) = result_at t i k
-result_of_point t i _ = None
+abbrev pub is_of_64_bits : ℕ → Bool
+is_of_64_bits n = nat_lt n (2 ^ 64)
 
--- enter, guard, set, save and take open a frame, and leave and done close one
-abbrev pub results_after : Described → List (Option Kind) → Entry → List (Option Kind)
-results_after t open_results e = after e.what
-  where
-    after : What → List (Option Kind)
-    after (what.Enter r) = result_of_point t e.instance r.point ∷ open_results
-    after (what.Guard r) = result_of_point t e.instance r.point ∷ open_results
-    after (what.Set r) = None ∷ open_results
-    after (what.Save r v) = None ∷ open_results
-    after (what.Take number point vs) = None ∷ open_results
-    after (what.Leave v) = drop 1 open_results
-    after what.Done = drop 1 open_results
-    after _ = open_results
+-- the number of a put or a take
+abbrev pub number_in : What → ℕ
+number_in (what.Put number r) = number
+number_in (what.Take number point vs) = number
+number_in _ = 0
 
-abbrev pub results_from : Described → List (Option Kind) → List Entry → List (Option Kind)
-results_from t open_results [] = open_results
-results_from t open_results (e ∷ es) = results_from t (results_after t open_results e) es
-
--- a returned value has the kind that the frame returns which it closes
-abbrev pub returns_fit : Described → List (Option Kind) → What → Bool
-returns_fit t (Some k ∷ rest) (what.Leave (Some v)) = has_kind t.model.types k v
-returns_fit t _ (what.Leave (Some v)) = false
-returns_fit t _ _ = true
+abbrev pub numbers_fit : Entry → Bool
+numbers_fit e = is_of_64_bits e.stamp && is_of_64_bits (number_in e.what)
 
 pub record IsFitting (t : Described) (program : Program) (es : List Entry) : Type 0 where
   -- each position names something
@@ -123,6 +106,8 @@ pub record IsFitting (t : Described) (program : Program) (es : List Entry) : Typ
   -- the point of a set is a set command, and that of a save a save command
   pub commands : set_and_save_commands t es ≡ true
   pub alone : list_all (λ (e : Entry). saves_alone e.what) es ≡ true
+  -- stamps and numbers of calls are of 64 bits
+  pub numbers : list_all numbers_fit es ≡ true
   pub notes : list_all (λ (e : Entry). notes_fit t.model e.what) es ≡ true
   pub values : list_all (λ (e : Entry). values_fit t program e.instance e.what) es ≡ true
   -- frames pair as brackets in an actor's entries

@@ -8,17 +8,13 @@ use crate::names::{
     channel_name, event_name, machine, param_name, running_name, saved_name, set_name, signal_name,
 };
 use crate::parts::{push_arrival, push_point, push_via};
-use crate::words::{
-    push_fate, push_name, push_number, push_quoted, push_text, push_value, push_values,
-};
-use fp_base::{NoMemory, Row, Text, Value};
+use crate::words::{push_fate, push_name, push_number, push_one, push_text, push_values};
+use fp_base::{NoMemory, Row, Text, Value, push_quoted};
 use fp_events::{Arrival, Fate, Point, What};
 use fp_tables::Model;
-use std::alloc::Global;
 
 /// Adds what an instance made of an ask.
 pub fn push_what(
-    alloc: Global,
     model: &Model,
     instance: u32,
     what: &What,
@@ -27,29 +23,29 @@ pub fn push_what(
     ensures { OnOk result (log.new ≡ log.old ++ what_text model.now instance what.now) }
 {
     match what {
-        What::Enter(arrival) => push_call(alloc, "enter ", model, instance, arrival, log),
-        What::Guard(arrival) => push_call(alloc, "guard ", model, instance, arrival, log),
-        What::Put { number, arrival } => push_put(alloc, model, instance, *number, arrival, log),
-        What::Dropped(arrival) => push_call(alloc, "drop ", model, instance, arrival, log),
-        What::Hooked(arrival) => push_call(alloc, "hook ", model, instance, arrival, log),
-        What::Asserted(arrival) => push_call(alloc, "assert ", model, instance, arrival, log),
-        What::Set(arrival) => push_set(alloc, model, instance, arrival, log),
-        What::Save { arrival, value } => push_save(alloc, model, instance, arrival, value, log),
-        What::Leave(value) => push_leave(alloc, value, log),
+        What::Enter(arrival) => push_call("enter ", model, instance, arrival, log),
+        What::Guard(arrival) => push_call("guard ", model, instance, arrival, log),
+        What::Put { number, arrival } => push_put(model, instance, *number, arrival, log),
+        What::Dropped(arrival) => push_call("drop ", model, instance, arrival, log),
+        What::Hooked(arrival) => push_call("hook ", model, instance, arrival, log),
+        What::Asserted(arrival) => push_call("assert ", model, instance, arrival, log),
+        What::Set(arrival) => push_set(model, instance, arrival, log),
+        What::Save { arrival, value } => push_save(model, instance, arrival, value, log),
+        What::Leave(value) => push_leave(value, log),
         What::Done => push_text(log, "done"),
         What::Take {
             number,
             point,
             with,
-        } => push_take(alloc, model, instance, *number, *point, with, log),
+        } => push_take(model, instance, *number, *point, with, log),
         What::Empty => push_text(log, "empty"),
         What::Emit { event, fate, text } => push_emit(model, instance, *event, *fate, text, log),
         What::Write {
             channel,
             fate,
             value,
-        } => push_write(alloc, model, instance, *channel, *fate, value, log),
-        What::Read { param, value } => push_read(alloc, model, instance, *param, value, log),
+        } => push_write(model, instance, *channel, *fate, value, log),
+        What::Read { param, value } => push_read(model, instance, *param, value, log),
         What::Start {
             running,
             actions,
@@ -66,7 +62,6 @@ pub fn push_what(
 
 /// Adds a word and an arrival.
 fn push_call(
-    alloc: Global,
     word: &str,
     model: &Model,
     instance: u32,
@@ -76,11 +71,10 @@ fn push_call(
     ensures { OnOk result (log.new ≡ log.old ++ (word.now ++ arrival_text model.now instance arrival.now)) }
 {
     push_text(log, word)?;
-    push_arrival(alloc, model, instance, arrival, log)
+    push_arrival(model, instance, arrival, log)
 }
 
 fn push_put(
-    alloc: Global,
     model: &Model,
     instance: u32,
     number: u64,
@@ -92,11 +86,10 @@ fn push_put(
     push_text(log, "put ")?;
     push_number(log, number)?;
     push_text(log, " ")?;
-    push_arrival(alloc, model, instance, arrival, log)
+    push_arrival(model, instance, arrival, log)
 }
 
 fn push_set(
-    alloc: Global,
     model: &Model,
     instance: u32,
     arrival: &Arrival,
@@ -107,12 +100,11 @@ fn push_set(
     push_text(log, "set ")?;
     push_name(log, set_name(model, instance, arrival.point))?;
     push_via(model, &arrival.origin, log)?;
-    push_values(alloc, log, arrival.with.as_slice())
+    push_values(log, arrival.with.as_slice())
 }
 
 /// Adds a save with the value that is saved.
 fn push_save(
-    alloc: Global,
     model: &Model,
     instance: u32,
     arrival: &Arrival,
@@ -124,24 +116,23 @@ fn push_save(
     push_text(log, "save ")?;
     push_name(log, saved_name(model, instance, arrival.point))?;
     push_via(model, &arrival.origin, log)?;
-    push_value(alloc, log, value)
+    push_one(log, value)
 }
 
-fn push_leave(alloc: Global, value: &Option<Value>, log: &mut Row<u8>) -> Result<(), NoMemory>
+fn push_leave(value: &Option<Value>, log: &mut Row<u8>) -> Result<(), NoMemory>
     ensures { OnOk result (log.new ≡ log.old ++ (codes "leave" ++ returned_text value.now)) }
 {
     push_text(log, "leave")?;
     match value {
         Some(value) => {
             push_text(log, " ")?;
-            push_value(alloc, log, value)
+            push_one(log, value)
         }
         None => Ok(()),
     }
 }
 
 fn push_take(
-    alloc: Global,
     model: &Model,
     instance: u32,
     number: u64,
@@ -156,7 +147,7 @@ fn push_take(
     push_text(log, " ")?;
     push_point(model, instance, point, log)?;
     push_text(log, " ")?;
-    push_values(alloc, log, with.as_slice())
+    push_values(log, with.as_slice())
 }
 
 fn push_emit(
@@ -174,11 +165,10 @@ fn push_emit(
     push_text(log, " ")?;
     push_fate(log, fate)?;
     push_text(log, " ")?;
-    push_quoted(log, text.as_str())
+    push_quoted(text.as_bytes(), log)
 }
 
 fn push_write(
-    alloc: Global,
     model: &Model,
     instance: u32,
     channel: u32,
@@ -193,11 +183,10 @@ fn push_write(
     push_text(log, " ")?;
     push_fate(log, fate)?;
     push_text(log, " ")?;
-    push_value(alloc, log, value)
+    push_one(log, value)
 }
 
 fn push_read(
-    alloc: Global,
     model: &Model,
     instance: u32,
     param: u32,
@@ -209,7 +198,7 @@ fn push_read(
     push_text(log, "read ")?;
     push_name(log, param_name(model, instance, param))?;
     push_text(log, " ")?;
-    push_value(alloc, log, value)
+    push_one(log, value)
 }
 
 fn push_start(

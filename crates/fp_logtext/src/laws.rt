@@ -9,6 +9,7 @@ ghost use Rattle.fp_events.specs.declared.event.What.TheVariants as what;
 ghost use Rattle.fp_tables.specs.declared.component.Full.TheVariants as full;
 ghost use Rattle.fp_events.specs.FullQueue.{first_put, full_queue, second, two_calls};
 ghost use Rattle.fp_events.specs.Run.{IsRun};
+ghost use Rattle.fp_events.specs.SignalValue.{sends_five, signalled, signalled_entries};
 ghost use Rattle.fp_logtext.specs.Named.{are_named, set_and_save_commands};
 ghost use Rattle.fp_logtext.specs.Fitting.{IsFitting};
 ghost use Rattle.fp_logtext.specs.Log.{Log};
@@ -31,4 +32,10 @@ pub fn full_queue_texts()
         ≡ codes "1 k q put 1 i[0] via caller (1)\n2 k q assert i[0] via caller (2)\nend asserted\n" }
     ensures block { Log (full_queue full.Block) two_calls (first_put ∷ []) finish.Stuck
         ≡ codes "1 k q put 1 i[0] via caller (1)\nend stuck\n" }
+{}
+
+/// A signal with a value and the action that is given it, as their log says them.
+pub fn signal_value_text()
+    ensures { Log signalled sends_five signalled_entries finish.Complete
+        ≡ codes "1 k c enter go[0] via caller ()\n2 k c put 1 signal m.s via self (5)\n3 k c leave\n4 @c c take 1 signal m.s (5)\n5 @c c start m [] A\n6 @c c move m s [a] A\n7 @c c write n unwired (5)\n8 @c c done\nend complete\n" }
 {}

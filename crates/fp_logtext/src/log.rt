@@ -6,7 +6,7 @@ ghost use Rattle.fp_logtext.specs.Log.{actor_text, line, finish_text, Log};
 ghost use Rattle.fp_logtext.specs.Named.{are_named, set_and_save_commands};
 
 use crate::entries::push_what;
-use crate::names::{component, instance_name};
+use crate::names::instance_name;
 use crate::words::{push_name, push_number, push_text};
 use fp_base::{NoMemory, Row};
 use fp_events::{Entry, Finish};
@@ -50,7 +50,7 @@ pub fn log_of(
     let callers = program.callers.as_slice();
     let mut log = Row::new(alloc);
     for entry in entries.as_slice() {
-        push_line(alloc, model, callers, dispatchers, entry, &mut log)?;
+        push_line(model, callers, dispatchers, entry, &mut log)?;
     }
     push_finish(finish, &mut log)?;
     Ok(log)
@@ -74,14 +74,13 @@ fn dispatchers(alloc: Global, model: &Model, topology: u32) -> Result<Row<u32>, 
 fn is_active(model: &Model, instance: u32) -> bool
     ensures { result ≡ is_active_at model.now instance }
 {
-    match component(model, instance) {
+    match model.component_of(instance) {
         Some(component) => matches!(component.queueing, Queueing::Active),
         None => false,
     }
 }
 
 fn push_line(
-    alloc: Global,
     model: &Model,
     callers: &[Caller],
     dispatchers: &[u32],
@@ -96,7 +95,7 @@ fn push_line(
     push_text(log, " ")?;
     push_name(log, instance_name(model, entry.instance))?;
     push_text(log, " ")?;
-    push_what(alloc, model, entry.instance, &entry.what, log)?;
+    push_what(model, entry.instance, &entry.what, log)?;
     push_text(log, "\n")
 }
 

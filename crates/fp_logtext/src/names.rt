@@ -1,17 +1,9 @@
 ghost use Rattle.std.specs.Prelude.{◌≡◌};
 ghost use Rattle.std.specs.Option.{option_copied};
-ghost use Rattle.fp_tables.specs.Lookup.{component_of};
 ghost use Rattle.fp_logtext.specs.Names.{instance_name, port_name, command_at, command_name, event_name, channel_name, param_name, running_at, running_name, machine_at, signal_name, set_name, saved_name};
 
 use fp_events::Point;
-use fp_tables::{Command, Component, Machine, Model, Part, Running};
-
-pub fn component(model: &Model, instance: u32) -> Option<&Component>
-    ensures { option_copied result ≡ component_of model.now instance }
-{
-    let instance = model.instances.get(instance as usize)?;
-    model.components.get(instance.component as usize)
-}
+use fp_tables::{Command, Machine, Model, Part, Running};
 
 /// The qualified name of an instance.
 pub fn instance_name(model: &Model, instance: u32) -> Option<&str>
@@ -24,7 +16,8 @@ pub fn port_name(model: &Model, instance: u32, port: u32) -> Option<&str>
     ensures { option_copied result ≡ port_name model.now instance port }
 {
     Some(
-        component(model, instance)?
+        model
+            .component_of(instance)?
             .ports
             .get(port as usize)?
             .name
@@ -35,7 +28,7 @@ pub fn port_name(model: &Model, instance: u32, port: u32) -> Option<&str>
 fn command(model: &Model, instance: u32, command: u32) -> Option<&Command>
     ensures { option_copied result ≡ command_at model.now instance command }
 {
-    component(model, instance)?.commands.get(command as usize)
+    model.component_of(instance)?.commands.get(command as usize)
 }
 
 pub fn command_name(model: &Model, instance: u32, at: u32) -> Option<&str>
@@ -48,7 +41,8 @@ pub fn event_name(model: &Model, instance: u32, event: u32) -> Option<&str>
     ensures { option_copied result ≡ event_name model.now instance event }
 {
     Some(
-        component(model, instance)?
+        model
+            .component_of(instance)?
             .events
             .get(event as usize)?
             .name
@@ -60,7 +54,8 @@ pub fn channel_name(model: &Model, instance: u32, channel: u32) -> Option<&str>
     ensures { option_copied result ≡ channel_name model.now instance channel }
 {
     Some(
-        component(model, instance)?
+        model
+            .component_of(instance)?
             .channels
             .get(channel as usize)?
             .name
@@ -72,7 +67,8 @@ pub fn param_name(model: &Model, instance: u32, param: u32) -> Option<&str>
     ensures { option_copied result ≡ param_name model.now instance param }
 {
     Some(
-        component(model, instance)?
+        model
+            .component_of(instance)?
             .params
             .get(param as usize)?
             .name
@@ -83,7 +79,7 @@ pub fn param_name(model: &Model, instance: u32, param: u32) -> Option<&str>
 fn running(model: &Model, instance: u32, running: u32) -> Option<&Running>
     ensures { option_copied result ≡ running_at model.now instance running }
 {
-    component(model, instance)?.machines.get(running as usize)
+    model.component_of(instance)?.machines.get(running as usize)
 }
 
 pub fn running_name(model: &Model, instance: u32, at: u32) -> Option<&str>

@@ -6,7 +6,6 @@ use crate::words::{push_name, push_number, push_text, push_values};
 use fp_base::{NoMemory, Row, Text};
 use fp_events::{Arrival, Origin, Point};
 use fp_tables::Model;
-use std::alloc::Global;
 
 fn push_port(
     model: &Model,
@@ -86,7 +85,6 @@ pub fn push_via(model: &Model, origin: &Origin, log: &mut Row<u8>) -> Result<(),
 }
 
 pub fn push_arrival(
-    alloc: Global,
     model: &Model,
     instance: u32,
     arrival: &Arrival,
@@ -96,5 +94,5 @@ pub fn push_arrival(
 {
     push_point(model, instance, arrival.point, log)?;
     push_via(model, &arrival.origin, log)?;
-    push_values(alloc, log, arrival.with.as_slice())
+    push_values(log, arrival.with.as_slice())
 }
