@@ -2,11 +2,12 @@ ghost use Rattle.std.specs.Prelude.{◌≡◌, IfOk, IfSome};
 ghost use Rattle.fp_cell.specs.Cells.{opened};
 ghost use Rattle.fp_cell.specs.Replies.{Answered};
 
-use crate::fitting::{is_actor, is_askable, is_placed};
 use fp_base::NoMemory;
 use fp_cell::{Cell, Reply};
 use fp_events::Ask;
+use fp_sound_model::SoundModel;
 use fp_tables::{Program, Tables};
+use fp_worked_models::fitting::{is_actor, is_askable, is_placed};
 use std::alloc::Global;
 
 /// The cell of an instance at the opening, where the tables are sound and the topology has the instance.

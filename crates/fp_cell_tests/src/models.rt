@@ -1,7 +1,7 @@
-use fp_logtext_tests::definitions::{CMD, CMD_REG, CMD_RESPONSE, GO, NUMBER, PRM_GET, PRM_SET};
-use fp_logtext_tests::models::{DROPPING, NESTED, PARAMETER};
-use fp_logtext_tests::plans::{ComponentPlan, EMPTY, LATER, Plan};
 use fp_tables::{Full, Part, Queueing, Role, Special, Way};
+use fp_worked_models::definitions::{CMD, CMD_REG, CMD_RESPONSE, GO, NUMBER, PRM_GET, PRM_SET};
+use fp_worked_models::models::{DROPPING, NESTED, PARAMETER};
+use fp_worked_models::plans::{ComponentPlan, EMPTY, LATER, Plan};
 
 const ASSERTED: Way = Way::Later {
     priority: 1,

@@ -5,9 +5,9 @@ use crate::script::{Expected, Script, Turn, ask, scenario};
 use fp_base::{NoMemory, Row, Text};
 use fp_cell::{Cell, Reply};
 use fp_events::{Entry, Finish};
-use fp_logtext_tests::plans::model;
-use fp_logtext_tests::printing::{printed, tables_of};
 use fp_tables::{Program, Tables};
+use fp_worked_models::plans::model;
+use fp_worked_models::printing::{printed, tables_of};
 use std::alloc::Global;
 
 /// What a log of entries ends with here; a cell knows no end.

@@ -1,8 +1,8 @@
 use fp_base::{NoMemory, Row};
 use fp_events::{Ask, Why};
-use fp_logtext_tests::lines::{Coming, Simple, arrival, value, values};
-use fp_logtext_tests::plans::{Plan, program};
 use fp_tables::{Answers, Program};
+use fp_worked_models::lines::{Coming, Simple, arrival, value, values};
+use fp_worked_models::plans::{Plan, program};
 use std::alloc::Global;
 
 /// An ask, to be made.

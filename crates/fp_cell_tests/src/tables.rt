@@ -5,9 +5,9 @@ use crate::script::Wish::{
     Advance, Answer, Arrive, Dispatch, Done, Emit, Leave, Read, Take, Write,
 };
 use fp_events::{Point, Why};
-use fp_logtext_tests::lines::From::{Caller, Own, Wire};
-use fp_logtext_tests::lines::Simple::Number;
-use fp_logtext_tests::models::{
+use fp_worked_models::lines::From::{Caller, Own, Wire};
+use fp_worked_models::lines::Simple::Number;
+use fp_worked_models::models::{
     ASSERTING, BLOCKING, CHOOSING, DISPATCHED, DROPPING, NESTED, PARAMETER, PRIORITIES,
 };
 

@@ -1,12 +1,12 @@
-use crate::cases::Case;
-use crate::lines::From::{Caller, Own, Wire};
-use crate::lines::Say::{
+use fp_events::{Fate, Finish, Point};
+use fp_worked_models::cases::Case;
+use fp_worked_models::lines::From::{Caller, Own, Wire};
+use fp_worked_models::lines::Say::{
     Answer, Asserted, Done, Dropped, Emit, Empty, Enter, Guard, Hooked, Leave, Move, Put, Read,
     Save, Set, Start, Take, Write,
 };
-use crate::lines::Simple::{Mixed, Number, Opaque, Pair, Response, Text, Truth};
-use crate::models::{DISPATCHED, NAMES, PARAMETER};
-use fp_events::{Fate, Finish, Point};
+use fp_worked_models::lines::Simple::{Mixed, Number, Opaque, Pair, Response, Text, Truth};
+use fp_worked_models::models::{DISPATCHED, NAMES, PARAMETER};
 
 const ASK: Point = Point::Port { port: 0, number: 3 };
 

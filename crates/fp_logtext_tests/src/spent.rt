@@ -1,8 +1,8 @@
-use crate::lines::From::{Caller, Wire};
-use crate::lines::Say::{Done, Put, Take};
-use crate::lines::{Line, entries};
 use fp_base::{NoMemory, Row};
 use fp_events::{Entry, Point};
+use fp_worked_models::lines::From::{Caller, Wire};
+use fp_worked_models::lines::Say::{Done, Put, Take};
+use fp_worked_models::lines::{Line, entries};
 use std::alloc::{AllocError, Global};
 
 const ROUNDS: u32 = 12;

@@ -1,15 +1,15 @@
-use crate::cases::{
-    CHOICES, COMMAND_TO_RESPONSE, Case, GREATEST_FIRST, HELD_AND_SAME, NESTED_STATES,
-    SECOND_ASSERTED, SECOND_DROPPED, SECOND_WAITS, SET_READ_SAVED,
-};
 use crate::kinds::{ARRIVALS, FATES, ORIGINS, PARAMETERS, TAKEN, VALUES, WALKS};
-use crate::lines::entries;
-use crate::models::LOOPED;
-use crate::plans::{Plan, model, program};
-use crate::printing::{printed, tables_of};
 use crate::spent::{handed_on, handed_on_text};
 use fp_base::{NoMemory, Row};
 use fp_events::{Entry, Finish};
+use fp_worked_models::cases::{
+    CHOICES, COMMAND_TO_RESPONSE, Case, GREATEST_FIRST, HELD_AND_SAME, NESTED_STATES,
+    SECOND_ASSERTED, SECOND_DROPPED, SECOND_WAITS, SET_READ_SAVED,
+};
+use fp_worked_models::lines::entries;
+use fp_worked_models::models::LOOPED;
+use fp_worked_models::plans::{Plan, model, program};
+use fp_worked_models::printing::{printed, tables_of};
 use std::alloc::Global;
 use std::test::Fail;
 

@@ -3,7 +3,7 @@ use fp_machine_flat::{FlatMachine, Next};
 use std::alloc::Global;
 
 /// The actions of a walk and its leaf, if it came to one.
-#[derive(Debug, Drop)]
+#[derive(Drop)]
 pub struct Told {
     pub actions: Row<u32>,
     pub leaf: Option<u32>,

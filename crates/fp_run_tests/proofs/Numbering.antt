@@ -1,13 +1,11 @@
 -- Lists of which each item is what is said of its number.
 use Rattle.std.proofs.Common.{◌≡◌, ℕ, zero, suc, List, [], ◌∷◌, ◌++◌, length, Some, subst}
 use Rattle.std.specs.List.{slice_get}
+use Rattle.fp_base.proofs.Options.{same_some}
 use Rattle.fp_run_tests.specs.Numbered.{Each}
 
-some_is : {A : Type 0} (x y : A) → Some x ≡ Some y → x ≡ y
-some_is x y e = cc
-
 pub one_more : {A : Type 0} (P : ℕ → A → Type 0) (xs : List A) (y : A) → Each P xs → P (length xs) y → Each P (xs ++ y ∷ [])
-one_more P [] y each here zero x h = subst (P zero) (some_is y x h) here
+one_more P [] y each here zero x h = subst (P zero) (same_some h) here
 one_more P [] y each here (suc k) x h = absurd (cc)
 one_more P (z ∷ xs) y each here zero x h = each zero x h
 one_more P (z ∷ xs) y each here (suc k) x h = one_more (λ j. P (suc j)) xs y (λ j. each (suc j)) here k x h

@@ -1,6 +1,6 @@
 use fp_base::{Format, NoMemory, Piece, Row, Text};
-use fp_logtext_tests::plans::text;
 use fp_tables::{Event, Formal, Kind, Machine, Model, Named};
+use fp_worked_models::plans::text;
 use std::alloc::Global;
 use std::mem;
 

@@ -3,8 +3,8 @@ use crate::deeds::{CALL, Deed, IDLE, Script, act, program};
 use crate::models::GUARDED;
 use crate::player::Outcome;
 use fp_base::{NoMemory, Row};
-use fp_logtext_tests::plans::{model, text};
 use fp_tables::{End, Handler, Instance, Model, Program, Spot, Topology, Wire};
+use fp_worked_models::plans::{model, text};
 use std::alloc::{AllocError, Global};
 
 /// As many instances as a run may have.

@@ -7,9 +7,11 @@ use crate::player::Outcome;
 use crate::run::Run;
 use fp_base::{NoMemory, Row};
 use fp_events::{Entry, Finish, What, Why};
-use fp_logtext_tests::plans::{Plan, model};
-use fp_logtext_tests::printing::{printed, tables_of};
+use fp_sound_model::SoundModel;
+use fp_sound_programs::SoundProgram;
 use fp_tables::{Model, Program, Tables};
+use fp_worked_models::plans::{Plan, model};
+use fp_worked_models::printing::{printed, tables_of};
 use std::alloc::Global;
 use std::str;
 
@@ -41,7 +43,8 @@ fn expect(
 ) -> Result<(), NoMemory> {
     let outcome = run.turn(alloc, actor)?;
     if outcome != expected {
-        let line = format!(in alloc; "actor {actor}: {outcome:?} for {expected:?}\n")?;
+        let (came, due) = (outcome.text(), expected.text());
+        let line = format!(in alloc; "actor {actor}: {came} for {due}\n")?;
         said.push_str(line.as_str())?;
     }
     Ok(())

@@ -1,6 +1,6 @@
 use fp_base::{NoMemory, Row, Text, Value};
-use fp_logtext_tests::plans::text;
 use fp_tables::{Act, Answers, Arg, Caller, End, Handler, Program, Spot, Verb};
+use fp_worked_models::plans::text;
 use std::alloc::Global;
 
 /// An argument, to be made: a number, or what a name is bound to.

@@ -9,8 +9,8 @@ use crate::models::{ACTING, ALIKE, ASKING, GUARDED, HALTING, POSTING, WIRED};
 use crate::player::Outcome;
 use crate::worked::NOTHING;
 use fp_events::Why;
-use fp_logtext_tests::models::{LOOPED, PRIORITIES};
 use fp_tables::Spot;
+use fp_worked_models::models::{LOOPED, PRIORITIES};
 
 const AT_END: Outcome = Outcome::AtEnd;
 

@@ -4,6 +4,8 @@
 pub mod beside;
 pub mod chain;
 pub mod comparing;
+#[cfg(test)]
+mod copying;
 pub mod deeds;
 pub mod handled;
 pub mod models;

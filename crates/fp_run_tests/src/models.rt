@@ -1,9 +1,9 @@
-use fp_logtext_tests::definitions::{
+use fp_tables::{Full, Part, Queueing, Role, Special, Way};
+use fp_worked_models::definitions::{
     CMD, CMD_REG, CMD_RESPONSE, GO, LOG, NUMBER, PRM_GET, PRM_SET, TLM,
 };
-use fp_logtext_tests::models::NESTED;
-use fp_logtext_tests::plans::{ComponentPlan, EMPTY, EventPlan, LATER, Plan};
-use fp_tables::{Full, Part, Queueing, Role, Special, Way};
+use fp_worked_models::models::NESTED;
+use fp_worked_models::plans::{ComponentPlan, EMPTY, EventPlan, LATER, Plan};
 
 const SYNC: Role = Role::Input(Way::Sync);
 

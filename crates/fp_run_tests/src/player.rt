@@ -1,19 +1,19 @@
 ghost use Rattle.std.specs.Prelude.{◌≡◌, true, Some};
-ghost use Rattle.fp_cell.specs.Askable.{is_askable};
+ghost use Rattle.fp_events.specs.Fits.{ask_fits};
 ghost use Rattle.fp_actor.specs.Acting.{due_of_actor};
 ghost use Rattle.fp_run_tests.specs.Numbered.{Each, IsActor, IsCell};
 
 use fp_actor::{Actor, Next};
 use fp_base::NoMemory;
 use fp_cell::{Cell, Reply};
-use fp_cell_tests::fitting::is_askable;
 use fp_events::{Ask, Why};
 use fp_tables::{Program, Tables};
+use fp_worked_models::fitting::is_askable;
 use std::alloc::Global;
 
 /// What a turn of an actor comes to: an entry; none now; none within the limit; no ask, of a caller whose list is through or of
 /// an actor that has halted; or an ask that can't be made.
-#[derive(Clone, Copy, Debug, PartialEq, Eq)]
+#[derive(Clone, Copy, PartialEq, Eq)]
 pub enum Outcome {
     Stepped,
     NotYet(Why),
@@ -21,6 +21,23 @@ pub enum Outcome {
     AtEnd,
     Halted,
     Missing,
+}
+
+impl Outcome {
+    /// The outcome in words, for a report of differences.
+    pub fn text(self) -> &'static str {
+        match self {
+            Outcome::Stepped => "an entry",
+            Outcome::NotYet(Why::Full) => "a full queue",
+            Outcome::NotYet(Why::GuardHeld(_)) => "a held guard",
+            Outcome::NotYet(Why::TurnHeld(_)) => "a held turn",
+            Outcome::NotYet(Why::QueueEmpty) => "an empty queue",
+            Outcome::AtLimit => "no entry within the limit",
+            Outcome::AtEnd => "the end of its list",
+            Outcome::Halted => "a halt",
+            Outcome::Missing => "an ask that can't be made",
+        }
+    }
 }
 
 /// The stamp of the last entry, 0 before the first.
@@ -47,7 +64,7 @@ fn step(
     requires actor { IsActor tables.now program.now number actor.old }
     requires cell { IsCell tables.now program.now instance cell.old }
     requires due { due_of_actor actor.old ≡ Some (instance, ask.now) }
-    requires askable { is_askable tables.now program.now instance ask.now ≡ true }
+    requires askable { ask_fits tables.now program.now instance ask.now ≡ true }
     ensures actor { IsActor tables.now program.now number actor.new }
     ensures cell { IsCell tables.now program.now instance cell.new }
 {

@@ -7,10 +7,10 @@ use crate::player::{Outcome, take_turn};
 use fp_actor::Actor;
 use fp_base::{NoMemory, Row};
 use fp_cell::Cell;
-use fp_cell_tests::fitting::is_placed;
 use fp_events::Entry;
-use fp_logtext_tests::naming::actor_count;
 use fp_tables::{Program, Tables};
+use fp_worked_models::fitting::is_placed;
+use fp_worked_models::naming::actor_count;
 use std::alloc::Global;
 use std::marker;
 

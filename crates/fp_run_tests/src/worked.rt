@@ -7,10 +7,10 @@ use crate::deeds::{
 };
 use crate::player::Outcome;
 use fp_events::Why;
-use fp_logtext_tests::models::{
+use fp_tables::Spot;
+use fp_worked_models::models::{
     ASSERTING, BLOCKING, CHOOSING, DISPATCHED, DROPPING, NESTED, PARAMETER, PRIORITIES,
 };
-use fp_tables::Spot;
 
 const AT_END: Outcome = Outcome::AtEnd;
 

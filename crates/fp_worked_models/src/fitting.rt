@@ -1,16 +1,16 @@
 ghost use Rattle.std.specs.Prelude.{◌≡◌, ◌<◌, true, is_some, IfOk};
 ghost use Rattle.fp_tables.specs.Types.{have_kinds};
-ghost use Rattle.fp_events.specs.Fits.{actor_count, is_placed, signal_kinds, point_fits, origin_fits, arrival_fits};
+ghost use Rattle.fp_events.specs.Fits.{actor_count, is_placed, signal_kinds, point_fits, origin_fits, arrival_fits, ask_fits};
 ghost use Rattle.fp_events.specs.Manners.{input_manner, internal_manner};
 ghost use Rattle.fp_events.specs.declared.event.Ask.TheVariants as ask;
 ghost use Rattle.fp_events.specs.declared.event.Point.TheVariants as point;
-ghost use Rattle.fp_cell.specs.Askable.{is_askable};
 
-use crate::kinds::{has_kind, has_one, have_kinds};
+use crate::kinds::{has_one, have_kinds};
+use crate::naming::actor_count;
 use crate::places;
 use fp_base::{NoMemory, Row, Value};
 use fp_events::{Arrival, Ask, Origin, Point};
-use fp_logtext_tests::naming::actor_count;
+use fp_sound_types::has_kind;
 use fp_tables::{Kind, Program, Role, Tables, TypeDef};
 use std::alloc::Global;
 
@@ -19,7 +19,7 @@ pub fn is_placed(tables: &Tables, program: &Program, instance: u32) -> bool
     ensures { result ≡ is_placed tables.now program.now instance }
 {
     let _ = program;
-    places::is_among(places::placed(tables), instance)
+    places::is_among(tables.placed(), instance)
 }
 
 fn is_input(role: Role) -> bool
@@ -163,7 +163,7 @@ fn arrival_fits(tables: &Tables, program: &Program, instance: u32, arrival: &Arr
     ) && origin_fits(tables, program, &arrival.origin)
 }
 
-#[tactic(auto, unfolding(fp_cell::specs::Askable::is_askable))]
+#[tactic(auto, unfolding(fp_events::specs::Fits::ask_fits))]
 fn is_emittable(
     tables: &Tables,
     program: &Program,
@@ -171,7 +171,7 @@ fn is_emittable(
     event: u32,
     with: &Row<Value>,
 ) -> bool
-    ensures { result ≡ true → is_askable tables.now program.now instance (ask.Emit event with.now) ≡ true }
+    ensures { result ≡ true → ask_fits tables.now program.now instance (ask.Emit event with.now) ≡ true }
 {
     let _ = program;
     match places::event_at(tables, instance, event) {
@@ -180,7 +180,7 @@ fn is_emittable(
     }
 }
 
-#[tactic(auto, unfolding(fp_cell::specs::Askable::is_askable))]
+#[tactic(auto, unfolding(fp_events::specs::Fits::ask_fits))]
 fn is_writable(
     tables: &Tables,
     program: &Program,
@@ -188,20 +188,20 @@ fn is_writable(
     channel: u32,
     value: &Value,
 ) -> bool
-    ensures { result ≡ true → is_askable tables.now program.now instance (ask.Write channel value.now) ≡ true }
+    ensures { result ≡ true → ask_fits tables.now program.now instance (ask.Write channel value.now) ≡ true }
 {
     let _ = program;
     match places::channel_at(tables, instance, channel) {
-        Some(channel) => has_kind(types(tables), channel.kind, value),
+        Some(channel) => has_kind(types(tables), &channel.kind, value),
         None => false,
     }
 }
 
 /// Whether an ask is surely one that an actor may ask of an instance: what it names is there, and its values are of their
-/// types, where arrays, structs and aliases aren't looked into.
-#[tactic(auto, unfolding(fp_cell::specs::Askable::is_askable))]
+/// types.
+#[tactic(auto, unfolding(fp_events::specs::Fits::ask_fits))]
 pub fn is_askable(tables: &Tables, program: &Program, instance: u32, ask: &Ask) -> bool
-    ensures { result ≡ true → is_askable tables.now program.now instance ask.now ≡ true }
+    ensures { result ≡ true → ask_fits tables.now program.now instance ask.now ≡ true }
 {
     match ask {
         Ask::Arrive(arrival) => arrival_fits(tables, program, instance, arrival),

@@ -8,8 +8,8 @@ ghost use Rattle.fp_logtext.specs.Names.{instance_name, is_active_at, machine_at
 ghost use Rattle.fp_logtext.specs.Named.{point_is_named, origin_is_named, arrival_is_named, going_is_named, what_is_named, sets_or_saves, are_named, set_and_save_commands};
 
 use crate::parts::{
-    component, has_channel, has_command, has_event, has_instance, has_number, has_param, has_port,
-    has_save, has_set, has_signal, has_walk, machine,
+    has_channel, has_command, has_event, has_instance, has_number, has_param, has_port, has_save,
+    has_set, has_signal, has_walk, machine,
 };
 use fp_base::{NoMemory, Row};
 use fp_events::{Arrival, Entry, Origin, Point, What};
@@ -114,7 +114,7 @@ fn entries_are_named(tables: &Tables, actors: u128, entries: &[Entry]) -> bool
 fn is_active(model: &Model, instance: u32) -> bool
     ensures { result ≡ is_active_at model.now instance }
 {
-    match component(model, instance) {
+    match model.component_of(instance) {
         Some(component) => matches!(component.queueing, Queueing::Active),
         None => false,
     }

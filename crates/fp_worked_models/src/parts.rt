@@ -1,12 +1,11 @@
 ghost use Rattle.std.specs.Prelude.{◌≡◌, ◌&&◌, is_some};
 ghost use Rattle.std.specs.Option.{option_copied};
 ghost use Rattle.std.specs.List.{list_all};
-ghost use Rattle.fp_tables.specs.Lookup.{component_of};
 ghost use Rattle.fp_logtext.specs.Names.{instance_name, command_at, command_name, port_name, event_name, channel_name, param_name, machine_at, signal_name, action_of, vertex_of, set_name, saved_name};
 ghost use Rattle.fp_logtext.specs.Named.{port_is_named};
 
 use fp_events::Point;
-use fp_tables::{Command, Component, Machine, Model, Part, Port};
+use fp_tables::{Command, Machine, Model, Part, Port};
 
 pub fn has_instance(model: &Model, instance: u32) -> bool
     ensures { result ≡ is_some (instance_name model.now instance) }
@@ -14,17 +13,10 @@ pub fn has_instance(model: &Model, instance: u32) -> bool
     model.instances.get(instance as usize).is_some()
 }
 
-pub fn component(model: &Model, instance: u32) -> Option<&Component>
-    ensures { option_copied result ≡ component_of model.now instance }
-{
-    let instance = model.instances.get(instance as usize)?;
-    model.components.get(instance.component as usize)
-}
-
 pub fn has_port(model: &Model, instance: u32, port: u32) -> bool
     ensures { result ≡ is_some (port_name model.now instance port) }
 {
-    match component(model, instance) {
+    match model.component_of(instance) {
         Some(component) => component.ports.get(port as usize).is_some(),
         None => false,
     }
@@ -34,7 +26,7 @@ pub fn has_port(model: &Model, instance: u32, port: u32) -> bool
 pub fn has_number(model: &Model, instance: u32, port: u32, number: u32) -> bool
     ensures { result ≡ port_is_named model.now instance port number }
 {
-    match component(model, instance) {
+    match model.component_of(instance) {
         Some(component) => match component.ports.get(port as usize) {
             Some(port) => number < port.size,
             None => false,
@@ -46,7 +38,7 @@ pub fn has_number(model: &Model, instance: u32, port: u32, number: u32) -> bool
 pub fn has_event(model: &Model, instance: u32, event: u32) -> bool
     ensures { result ≡ is_some (event_name model.now instance event) }
 {
-    match component(model, instance) {
+    match model.component_of(instance) {
         Some(component) => component.events.get(event as usize).is_some(),
         None => false,
     }
@@ -55,7 +47,7 @@ pub fn has_event(model: &Model, instance: u32, event: u32) -> bool
 pub fn has_channel(model: &Model, instance: u32, channel: u32) -> bool
     ensures { result ≡ is_some (channel_name model.now instance channel) }
 {
-    match component(model, instance) {
+    match model.component_of(instance) {
         Some(component) => component.channels.get(channel as usize).is_some(),
         None => false,
     }
@@ -64,7 +56,7 @@ pub fn has_channel(model: &Model, instance: u32, channel: u32) -> bool
 pub fn has_param(model: &Model, instance: u32, param: u32) -> bool
     ensures { result ≡ is_some (param_name model.now instance param) }
 {
-    match component(model, instance) {
+    match model.component_of(instance) {
         Some(component) => component.params.get(param as usize).is_some(),
         None => false,
     }
@@ -73,7 +65,7 @@ pub fn has_param(model: &Model, instance: u32, param: u32) -> bool
 fn command(model: &Model, instance: u32, command: u32) -> Option<&Command>
     ensures { option_copied result ≡ command_at model.now instance command }
 {
-    component(model, instance)?.commands.get(command as usize)
+    model.component_of(instance)?.commands.get(command as usize)
 }
 
 pub fn has_command(model: &Model, instance: u32, at: u32) -> bool
@@ -121,7 +113,7 @@ pub fn has_save(model: &Model, instance: u32, point: Point) -> bool
 pub fn machine(model: &Model, instance: u32, at: u32) -> Option<&Machine>
     ensures { option_copied result ≡ machine_at model.now instance at }
 {
-    let running = component(model, instance)?.machines.get(at as usize)?;
+    let running = model.component_of(instance)?.machines.get(at as usize)?;
     model.machines.get(running.machine as usize)
 }
 

@@ -1,22 +1,11 @@
 ghost use Rattle.std.specs.Prelude.{◌≡◌, ◌==◌, is_some, slice_get};
 ghost use Rattle.std.specs.List.{list_any};
 ghost use Rattle.std.specs.Option.{option_copied};
-ghost use Rattle.fp_tables.specs.Lookup.{placed};
+ghost use Rattle.fp_tables.specs.Specials.{component};
 ghost use Rattle.fp_events.specs.Fits.{signal_at};
-ghost use Rattle.fp_events.specs.Lookup.{component, machine};
+ghost use Rattle.fp_events.specs.Lookup.{machine};
 
-use fp_logtext_tests::parts;
 use fp_tables::{Channel, Command, Event, Machine, Named, Port, Program, Running, Tables};
-
-/// The instances of the topology.
-pub fn placed(tables: &Tables) -> &[u32]
-    ensures { result.now ≡ placed tables.now }
-{
-    match tables.model().topologies.get(tables.topology() as usize) {
-        Some(topology) => topology.instances.as_slice(),
-        None => &[],
-    }
-}
 
 pub fn is_among(instances: &[u32], instance: u32) -> bool
     ensures { result ≡ list_any (λ each. instance == each) instances.now }
@@ -27,47 +16,37 @@ pub fn is_among(instances: &[u32], instance: u32) -> bool
 pub fn port_at(tables: &Tables, instance: u32, port: u32) -> Option<&Port>
     ensures { option_copied result ≡ slice_get (component tables.now instance).ports port }
 {
-    parts::component(tables.model(), instance)?
-        .ports
-        .get(port as usize)
+    tables.component(instance)?.ports.get(port as usize)
 }
 
 pub fn command_at(tables: &Tables, instance: u32, command: u32) -> Option<&Command>
     ensures { option_copied result ≡ slice_get (component tables.now instance).commands command }
 {
-    parts::component(tables.model(), instance)?
-        .commands
-        .get(command as usize)
+    tables.component(instance)?.commands.get(command as usize)
 }
 
 pub fn running_at(tables: &Tables, instance: u32, running: u32) -> Option<&Running>
     ensures { option_copied result ≡ slice_get (component tables.now instance).machines running }
 {
-    parts::component(tables.model(), instance)?
-        .machines
-        .get(running as usize)
+    tables.component(instance)?.machines.get(running as usize)
 }
 
 pub fn event_at(tables: &Tables, instance: u32, event: u32) -> Option<&Event>
     ensures { option_copied result ≡ slice_get (component tables.now instance).events event }
 {
-    parts::component(tables.model(), instance)?
-        .events
-        .get(event as usize)
+    tables.component(instance)?.events.get(event as usize)
 }
 
 pub fn channel_at(tables: &Tables, instance: u32, channel: u32) -> Option<&Channel>
     ensures { option_copied result ≡ slice_get (component tables.now instance).channels channel }
 {
-    parts::component(tables.model(), instance)?
-        .channels
-        .get(channel as usize)
+    tables.component(instance)?.channels.get(channel as usize)
 }
 
 pub fn has_param(tables: &Tables, instance: u32, param: u32) -> bool
     ensures { result ≡ is_some (slice_get (component tables.now instance).params param) }
 {
-    match parts::component(tables.model(), instance) {
+    match tables.component(instance) {
         Some(component) => component.params.get(param as usize).is_some(),
         None => false,
     }

@@ -2,6 +2,7 @@ use crate::naming::{are_named, set_and_save_commands};
 use fp_base::{NoMemory, Row};
 use fp_events::{Entry, Finish};
 use fp_logtext::print_log;
+use fp_sound_model::SoundModel;
 use fp_tables::{Model, Program, Tables};
 use std::alloc::Global;
 

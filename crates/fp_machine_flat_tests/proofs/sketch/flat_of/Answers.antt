@@ -1,6 +1,7 @@
 use Rattle.std.proofs.Common.{◌≡◌, Bool, true, false, not, ◌&&◌}
 use Rattle.std.specs.List.{list_all}
 use Rattle.std.specs.Option.{is_some}
+use Rattle.fp_base.proofs.Bools.{both}
 use Rattle.fp_tables.specs.Lists.{all_from, if_some}
 use Rattle.fp_tables.specs.Machines.{is_machine_of_size, leads_somewhere, has_its_initial, stays_inside, signals_differ, has_no_ring}
 use Rattle.fp_tables.specs.Positions.{machine_is_short, step_lies, vertex_lies, are_in_preorder}
@@ -9,11 +10,6 @@ use Rattle.fp_tables.specs.declared.machine.Machine.{Machine}
 use Rattle.fp_machine_flat.specs.SoundMachine.{IsSoundMachine}
 use Rattle.fp_machine_flat_tests.specs.Sketched.{is_sound}
 use Rattle.fp_machine_flat_tests.proofs.sketch.flat_of.Goals as goal
-
-both : (a b : Bool) → (a && b) ≡ true → (a ≡ true) × (b ≡ true)
-both true true h = (h, h)
-both true false h = absurd (cc)
-both false b h = absurd (cc)
 
 is_not : (b : Bool) → not b ≡ true → b ≡ false
 is_not true h = absurd (cc)

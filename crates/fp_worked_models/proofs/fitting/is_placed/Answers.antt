@@ -1,8 +1,8 @@
 use Rattle.std.proofs.Common.{◌∙◌, ◌==◌, ap, sym, List, ℕ}
 use Rattle.std.specs.List.{list_any}
 use Rattle.fp_tables.specs.Lookup.{placed}
-use Rattle.fp_cell_tests.proofs.Among.{is_in-any}
-use Rattle.fp_cell_tests.proofs.fitting.is_placed.Goals as goal
+use Rattle.fp_worked_models.proofs.Among.{is_in-any}
+use Rattle.fp_worked_models.proofs.fitting.is_placed.Goals as goal
 
 pub returns : goal.returns
 returns c =

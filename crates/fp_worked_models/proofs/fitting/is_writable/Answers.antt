@@ -1,8 +1,8 @@
 use Rattle.std.proofs.Common.{List, sym, ap, ◌∙◌}
 use Rattle.fp_tables.specs.Types.{has_kind}
 use Rattle.fp_tables.specs.declared.kind.TypeDef.{TypeDef}
-use Rattle.fp_cell_tests.proofs.Writing.{writable}
-use Rattle.fp_cell_tests.proofs.fitting.is_writable.Goals as goal
+use Rattle.fp_worked_models.proofs.Writing.{writable}
+use Rattle.fp_worked_models.proofs.fitting.is_writable.Goals as goal
 
 pub returns-in-Some : goal.returns-in-Some
 returns-in-Some c = λ known.

@@ -3,7 +3,7 @@ use Rattle.std.specs.Slice.Iter.{iter_rest}
 use Rattle.std.specs.Iterator.Adapters.{zip_first, zip_second}
 use Rattle.fp_tables.specs.Types.{have_kinds}
 use Rattle.fp_tables.specs.declared.kind.Formal.{Formal}
-use Rattle.fp_cell_tests.proofs.kinds.have_kinds.Given as goal
+use Rattle.fp_worked_models.proofs.kinds.have_kinds.Given as goal
 
 abbrev pub invariant-loop-formal : goal.invariant-loop-formal
 invariant-loop-formal l = record {
