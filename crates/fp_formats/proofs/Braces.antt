@@ -1,12 +1,7 @@
 -- Where the braces of a text stand.
-use Rattle.std.proofs.Common.{◌≡◌, ℕ, Bool, true, false, not, ◌&&◌, ◌||◌, ◌==◌, List, [], ◌∷◌, ◌++◌, refl, sym, ◌∙◌, ap, arith}
-use Rattle.std.proofs.lemmas.Bool.Decides.{nat_tests}
+use Rattle.std.proofs.Common.{◌≡◌, ℕ, true, false, not, List, [], ◌∷◌, ◌++◌, refl, sym, ◌∙◌, ap, arith}
+use Rattle.fp_base.proofs.Bools.{both, not_true}
 use Rattle.fp_formats.specs.Spelling.{is_brace, has_no_brace}
-
-pub both : (a b : Bool) → (a && b) ≡ true → (a ≡ true) × (b ≡ true)
-both true true h = (refl, refl)
-both true false h = absurd (cc)
-both false b h = absurd (cc)
 
 pub opens : is_brace 123 ≡ true
 opens = refl
@@ -16,11 +11,7 @@ closes = refl
 
 -- a byte before which no brace stands and which is one itself
 pub no_brace-head : (b : ℕ) (w : List ℕ) → has_no_brace (b ∷ w) ≡ true → is_brace b ≡ false
-no_brace-head b w h = negated (is_brace b) (both (not (is_brace b)) (has_no_brace w) h).0
-  where
-    negated : (t : Bool) → not t ≡ true → t ≡ false
-    negated true e = absurd (cc)
-    negated false e = refl
+no_brace-head b w h = not_true (is_brace b) (both (not (is_brace b)) (has_no_brace w) h).0
 
 pub no_brace-tail : (b : ℕ) (w : List ℕ) → has_no_brace (b ∷ w) ≡ true → has_no_brace w ≡ true
 no_brace-tail b w h = (both (not (is_brace b)) (has_no_brace w) h).1

@@ -1,5 +1,5 @@
 -- A text in quotes is UTF-8.
-use Rattle.std.proofs.Common.{◌≡◌, ℕ, zero, suc, ◌+◌, ◌/◌, ◌%◌, ◌<◌, ◌≤◌, Bool, true, false, cond, ◌||◌, ◌==◌, List, [], ◌∷◌, ◌++◌, refl, sym, ◌∙◌, ap, subst, append-nil, arith}
+use Rattle.std.proofs.Common.{◌≡◌, ℕ, zero, suc, ◌+◌, ◌/◌, ◌%◌, ◌<◌, ◌≤◌, Bool, true, false, cond, ◌||◌, ◌==◌, List, [], ◌∷◌, ◌++◌, refl, ◌∙◌, ap, subst, append-nil, arith}
 use Rattle.std.specs.Prelude.{flat_map, nat_lt, slice_index}
 use Rattle.std.specs.Fmt.{digit_glyph}
 use Rattle.std.specs.Str.{IsUtf8, all_scalars, encode_utf8_all}
@@ -9,7 +9,7 @@ use Rattle.std.proofs.lemmas.Str.{IsUtf8-append, IsUtf8-from_ascii, IsUtf8-nil, 
 use lib.Utf8.{encode, scalar}
 use lib.Dec.{ltb}
 use Rattle.fp_base.specs.Rendered.{escaped, quoted}
-use Rattle.fp_formats.proofs.Braces.{both}
+use Rattle.fp_base.proofs.Bools.{both}
 
 low_text : (c : ℕ) → c < 128 → (i : ℕ) → slice_index (c ∷ []) i < 128
 low_text c h zero = h

@@ -1,5 +1,5 @@
 -- Pieces and marks: whole pieces are what their marks make.
-use Rattle.std.proofs.Common.{◌≡◌, ℕ, Bool, true, false, not, ◌&&◌, List, [], ◌∷◌, ◌++◌, map, refl, sym, ◌∙◌, ap, append_assoc}
+use Rattle.std.proofs.Common.{◌≡◌, ℕ, Bool, true, false, not, ◌&&◌, List, [], ◌∷◌, ◌++◌, map, refl, sym, ◌∙◌, ap}
 use Rattle.std.specs.Prelude.{flat_map}
 use Rattle.std.proofs.lemmas.Grind.{flat_map-append}
 use Rattle.fp_base.specs.declared.format.Piece.{Piece}
@@ -7,9 +7,9 @@ use Rattle.fp_base.specs.declared.format.Piece.TheVariants as piece
 use Rattle.fp_formats.specs.declared.mark.Mark.{Mark}
 use Rattle.fp_formats.specs.declared.mark.Mark.TheVariants.{Byte, Field}
 use Rattle.fp_formats.specs.declared.mark.Form.TheVariants as form
-use Rattle.fp_formats.specs.Spelling.{doubled, spelled, spelling, are_whole, is_empty_text}
+use Rattle.fp_formats.specs.Spelling.{doubled, spelled, spelling, are_whole}
 use Rattle.fp_formats.specs.Marks.{mark_text, piece_of}
-use Rattle.fp_formats.proofs.Braces.{both}
+use Rattle.fp_base.proofs.Bools.{both}
 
 pub marks_in : Piece → List Mark
 marks_in (piece.Plain s) = map (λ b. Byte b) s

@@ -1,7 +1,6 @@
 -- A text without fields as a format.
-use Rattle.std.proofs.Common.{◌≡◌, ℕ, true, List, [], ◌∷◌, ◌++◌, refl, sym, ◌∙◌, append-nil}
+use Rattle.std.proofs.Common.{◌≡◌, ℕ, true, List, [], ◌∷◌, refl, sym, ◌∙◌, append-nil}
 use Rattle.std.specs.Prelude.{flat_map}
-use Rattle.fp_base.specs.declared.format.Piece.{Piece}
 use Rattle.fp_base.specs.Rendered.{rendered}
 use Rattle.fp_formats.specs.Fits.{fits}
 use Rattle.fp_formats.specs.Spelling.{doubled, IsFormat}

@@ -1,6 +1,6 @@
 -- A text is read in one way: as marks, and as the end or what refuses it.
-use Rattle.std.proofs.Common.{◌≡◌, ℕ, Bool, true, false, cond, ◌||◌, ◌==◌, List, [], ◌∷◌, ◌++◌, Option, None, Some, refl, sym, ◌∙◌, ap, subst, append_assoc, append-nil, arith}
-use Rattle.std.specs.Prelude.{flat_map, MatchResult, Result, Ok, Err, ◌⊎◌}
+use Rattle.std.proofs.Common.{◌≡◌, ℕ, Bool, true, false, cond, ◌==◌, List, [], ◌∷◌, ◌++◌, Option, None, Some, refl, sym, ◌∙◌, ap, subst, append_assoc, append-nil, arith}
+use Rattle.std.specs.Prelude.{MatchResult, Result, Ok, Err}
 use Rattle.std.proofs.Common.{inl, inr}
 use Rattle.std.proofs.lemmas.Bool.Decides.{nat_tests}
 use Rattle.fp_base.specs.declared.format.Piece.{Piece}
@@ -11,7 +11,7 @@ use Rattle.fp_formats.specs.declared.mark.Mark.{Mark}
 use Rattle.fp_formats.specs.declared.mark.Mark.TheVariants.{Byte, Field}
 use Rattle.fp_formats.specs.declared.mark.Form.{Form}
 use Rattle.fp_formats.specs.declared.mark.Form.TheVariants as form
-use Rattle.fp_formats.specs.Spelling.{is_brace, doubled, spelling, are_whole, has_no_brace, is_form, begins_with, IsLone, IsFormat, HasOtherField, HasLoneBrace, IsCause, OrNoMemory}
+use Rattle.fp_formats.specs.Spelling.{is_brace, doubled, has_no_brace, is_form, begins_with, IsLone, IsFormat, HasOtherField, HasLoneBrace, IsCause, OrNoMemory}
 use Rattle.fp_formats.specs.Marks.{form_text, mark_text, IsOtherField, IsLoneBrace, IsStop}
 use Rattle.fp_formats.proofs.Braces.{opens, same_closing, no_brace-head}
 use Rattle.fp_formats.proofs.Pieces.{marks_of, written, spelling-written, same_pieces}

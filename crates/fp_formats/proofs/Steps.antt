@@ -1,10 +1,9 @@
 -- Reading a format mark by mark.
-use Rattle.std.proofs.Common.{◌≡◌, ℕ, ◌<◌, Bool, true, false, cond, not, ◌&&◌, ◌||◌, ◌==◌, List, [], ◌∷◌, ◌++◌, refl, sym, ◌∙◌, ap, subst, append_assoc, append-nil, arith}
+use Rattle.std.proofs.Common.{◌≡◌, ℕ, ◌<◌, Bool, true, false, cond, not, ◌&&◌, List, [], ◌∷◌, ◌++◌, refl, sym, ◌∙◌, ap, subst, append_assoc, append-nil, arith}
 use Rattle.std.specs.Prelude.{flat_map}
 use Rattle.std.specs.Str.{IsUtf8}
 use Rattle.std.proofs.lemmas.Bool.Decides.{nat_tests}
 use Rattle.std.proofs.lemmas.Grind.{flat_map-append}
-use Rattle.std.proofs.lemmas.Str.{IsUtf8-nil}
 use Rattle.fp_base.specs.declared.format.Piece.{Piece}
 use Rattle.fp_base.specs.declared.format.Piece.TheVariants as piece
 use Rattle.fp_formats.specs.declared.fault.FormatFault.{FormatFault}
@@ -15,7 +14,7 @@ use Rattle.fp_formats.specs.declared.mark.Form.{Form}
 use Rattle.fp_formats.specs.declared.mark.Form.TheVariants as form
 use Rattle.fp_formats.specs.Spelling.{is_brace, doubled, spelled, spelling, are_whole, is_empty_text, IsFormat, IsCause}
 use Rattle.fp_formats.specs.Marks.{form_text, mark_text, pending, piece_of, pieces_with, plain_with, IsReady, IsStop}
-use Rattle.fp_formats.proofs.Braces.{both}
+use Rattle.fp_base.proofs.Bools.{both}
 use Rattle.fp_formats.proofs.Utf8.{before_ascii, after_ascii, from_ascii}
 
 -- the text is what was read so far and the rest

@@ -1,5 +1,5 @@
 -- A format's text as single bytes of plain text and fields.
-use Rattle.std.specs.Prelude.{◌≡◌, ℕ, true, false, List, [], ◌∷◌, ◌++◌, flat_map}
+use Rattle.std.specs.Prelude.{◌≡◌, ℕ, true, false, List, [], ◌∷◌, ◌++◌}
 use Rattle.std.specs.Str.{IsUtf8}
 use Rattle.fp_base.specs.declared.format.Piece.{Piece}
 use Rattle.fp_base.specs.declared.format.Piece.TheVariants as piece
@@ -9,7 +9,7 @@ use Rattle.fp_formats.specs.declared.mark.Mark.{Mark}
 use Rattle.fp_formats.specs.declared.mark.Mark.TheVariants.{Byte, Field}
 use Rattle.fp_formats.specs.declared.mark.Form.{Form}
 use Rattle.fp_formats.specs.declared.mark.Form.TheVariants as form
-use Rattle.fp_formats.specs.Spelling.{doubled, spelled, has_no_brace, is_form, IsLone}
+use Rattle.fp_formats.specs.Spelling.{doubled, has_no_brace, is_form, IsLone}
 
 abbrev pub form_text : Form → List ℕ
 form_text form.Any = []

@@ -3,7 +3,7 @@ ghost use Rattle.std.specs.Prelude.{◌≡◌};
 use fp_base::NoMemory;
 
 /// Why a text is no format.
-#[derive(Clone, Copy, PartialEq, Eq)]
+#[derive(Clone, Copy)]
 pub enum FormatFault {
     /// A field has a form other than `{}`, `{d}`, `{x}`, `{o}` and `{c}`.
     Field,

@@ -11,6 +11,3 @@ mod value_text;
 pub use fault::FormatFault;
 pub use reading::read_format;
 pub use rendering::{print_plain, render};
-
-#[cfg(test)]
-mod tests;

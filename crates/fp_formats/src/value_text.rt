@@ -1,7 +1,7 @@
 ghost use Rattle.std.specs.Prelude.{◌≡◌, ◌++◌, ◌∷◌, [], map, OnOk};
 ghost use Rattle.fp_base.specs.Rendered.{quoted, joined, value_text, part_text};
 
-use fp_base::{NoMemory, Part, Row, Text, Value};
+use fp_base::{NoMemory, Part, Row, Text, Value, push_quoted};
 use itoa::Buffer;
 use std::alloc::Global;
 
@@ -64,7 +64,7 @@ fn write_quoted(alloc: Global, text: &Text, out: &mut Text) -> Result<(), NoMemo
     ensures { OnOk result (out.new ≡ out.old ++ quoted text.now) }
 {
     let mut bytes = Row::with_capacity(alloc, text.as_bytes().len())?;
-    Value::Text(text.copy(alloc)?).print(alloc, &mut bytes)?;
+    push_quoted(text.as_bytes(), &mut bytes)?;
     match Text::from_utf8(alloc, bytes.as_slice())? {
         Some(quoted) => out.push_str(quoted.as_str()),
         None => unreachable!(),

@@ -1,4 +1,4 @@
-use Rattle.std.proofs.Common.{◌≡◌, ◌++◌, ◌∷◌, ℕ, suc, take, drop, arith}
+use Rattle.std.proofs.Common.{◌≡◌, ◌++◌, ◌∷◌, suc, take, drop, arith}
 use Rattle.std.proofs.Math.Seq.{split_at}
 use Rattle.fp_formats.proofs.Braces.{opened_first}
 use Rattle.fp_formats.proofs.mark.before_closing.Goals as goal

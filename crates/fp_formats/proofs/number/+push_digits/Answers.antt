@@ -1,4 +1,4 @@
-use Rattle.std.proofs.Common.{◌≡◌, ◌<◌, ◌^◌, ◌++◌, arith}
+use Rattle.std.proofs.Common.{◌<◌, ◌^◌, arith}
 use Rattle.std.proofs.lemmas.Grind.{common_steps}
 use Rattle.fp_formats.proofs.Digits.{more_digits, one_digit}
 use Rattle.fp_formats.proofs.number.+push_digits.Goals.{then-number-base+in_ok-push_digits, else-number-base}

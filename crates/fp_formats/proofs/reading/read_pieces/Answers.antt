@@ -1,6 +1,6 @@
-use Rattle.std.proofs.Common.{◌≡◌, ◌++◌, ◌∷◌, ℕ, List, subst, arith}
+use Rattle.std.proofs.Common.{◌≡◌, ◌++◌, ℕ, List, subst, arith}
 use Rattle.std.proofs.lemmas.Grind.{common_steps}
-use Rattle.fp_formats.specs.Marks.{mark_text, IsReady}
+use Rattle.fp_formats.specs.Marks.{mark_text}
 use Rattle.fp_formats.proofs.Steps.{Progress, ready, step}
 use Rattle.fp_formats.proofs.reading.read_pieces.Goals as goal
 

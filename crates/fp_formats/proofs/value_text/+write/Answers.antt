@@ -1,4 +1,4 @@
-use Rattle.std.proofs.Common.{[], ◌∷◌, map, ap, ◌∙◌, arith}
+use Rattle.std.proofs.Common.{map, ap, ◌∙◌, arith}
 use Rattle.std.proofs.lemmas.Grind.{common_steps}
 use Rattle.fp_base.specs.Rendered.{joined, value_text, part_text}
 use Rattle.fp_base.proofs.Texts.{array_text, struct_text}

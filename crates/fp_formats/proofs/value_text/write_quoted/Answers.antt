@@ -1,4 +1,4 @@
-use Rattle.std.proofs.Common.{◌≡◌, ℕ, List, Option, None, Some, subst, sym, arith}
+use Rattle.std.proofs.Common.{◌≡◌, Option, None, Some, subst, sym, arith}
 use Rattle.std.specs.Prelude.{MatchOption}
 use Rattle.std.specs.Str.{IsUtf8}
 use Rattle.std.proofs.lemmas.Grind.{common_steps}
@@ -12,6 +12,6 @@ refused (Some x) P Q m e p = absurd (cc)
 
 pub unreachable-requires : goal.unreachable-requires
 unreachable-requires c =
-    let e : c.as_slice.result.now ≡ quoted c.args.text.now = grind (arith, common_steps, c.in_ok-bytes.ensures, c.in_ok-copy.ensures, c.in_ok-print.ensures.ok, c.as_slice.ensures) in
+    let e : c.as_slice.result.now ≡ quoted c.args.text.now = grind (arith, common_steps, c.in_ok-bytes.ensures, c.as_bytes-2.ensures.value, c.in_ok-push_quoted.ensures, c.as_slice.ensures) in
     let u : IsUtf8 c.args.text.now = subst IsUtf8 c.as_bytes.ensures.value c.as_bytes.ensures.utf8 in
     refused c.in_ok-quoted.field-0 (IsUtf8 c.as_slice.result.now) _ c.in_ok-quoted.ensures c.in-None.is (subst IsUtf8 (sym e) (quoted_utf8 c.args.text.now u))
