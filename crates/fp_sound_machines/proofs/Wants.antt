@@ -1,13 +1,11 @@
 -- What actions and guards want, and what they are given.
-use Rattle.std.proofs.Common.{◌≡◌, ℕ, zero, suc, ◌+◌, ◌-◌, ◌<◌, Bool, true, false, cond, ◌&&◌, eqb, List, Option, None, Some, option_map, option_and_then, slice_get, refl, sym, ap, ap₂, subst, ◌∙◌, arith}
+use Rattle.std.proofs.Common.{◌≡◌, ℕ, Bool, true, false, cond, ◌&&◌, eqb, List, Option, None, Some, refl, sym, ap, ap₂, subst, ◌∙◌, arith}
 use Rattle.std.proofs.lemmas.Bool.Decides.{nat_tests}
 use Rattle.fp_tables.specs.Components.{same_kind}
-use Rattle.fp_tables.specs.Machines.{target_by, target, follow, is_given}
+use Rattle.fp_tables.specs.Machines.{target, is_given}
 use Rattle.fp_sound_machines.specs.Wanted.{meets, both_wanted, wanted_by}
 use Rattle.fp_tables.specs.declared.kind.Kind.{Kind}
 use Rattle.fp_tables.specs.declared.kind.Kind.TheVariants as kind
-use Rattle.fp_tables.specs.declared.kind.Form.{Form}
-use Rattle.fp_tables.specs.declared.kind.Form.TheVariants as form
 use Rattle.fp_tables.specs.declared.kind.TypeDef.{TypeDef}
 use Rattle.fp_tables.specs.declared.machine.Named.{Named}
 use Rattle.fp_tables.specs.declared.machine.Machine.{Machine}

@@ -1,12 +1,9 @@
 -- What value actions and guards want.
-use Rattle.std.specs.Prelude.{Bool, true, false, cond, List, Option, None, Some, option_map, option_and_then, slice_get}
+use Rattle.std.specs.Prelude.{Bool, true, false, cond, List, Option, None, Some}
 use Rattle.fp_tables.specs.Lists.{some_and}
 use Rattle.fp_tables.specs.Components.{same_kind}
 use Rattle.fp_tables.specs.Machines.{target}
 use Rattle.fp_tables.specs.declared.kind.Kind.{Kind}
-use Rattle.fp_tables.specs.declared.kind.Kind.TheVariants as kind
-use Rattle.fp_tables.specs.declared.kind.Form.{Form}
-use Rattle.fp_tables.specs.declared.kind.Form.TheVariants as form
 use Rattle.fp_tables.specs.declared.kind.TypeDef.{TypeDef}
 use Rattle.fp_tables.specs.declared.machine.Named.{Named}
 use Rattle.fp_sound_machines.specs.declared.wanted.Wanted.{Wanted}
