@@ -1,7 +1,8 @@
 -- Where the braces of a text stand.
 use Rattle.std.proofs.Common.{◌≡◌, ℕ, true, false, not, List, [], ◌∷◌, ◌++◌, refl, sym, ◌∙◌, ap, arith}
 use Rattle.fp_base.proofs.Bools.{both, not_true}
-use Rattle.fp_formats.specs.Spelling.{is_brace, has_no_brace}
+use Rattle.fp_base.specs.Formats.{is_brace}
+use Rattle.fp_formats.specs.Spelling.{has_no_brace}
 
 pub opens : is_brace 123 ≡ true
 opens = refl

@@ -7,7 +7,7 @@ use Rattle.fp_base.specs.declared.format.Piece.TheVariants as piece
 use Rattle.fp_formats.specs.declared.mark.Mark.{Mark}
 use Rattle.fp_formats.specs.declared.mark.Mark.TheVariants.{Byte, Field}
 use Rattle.fp_formats.specs.declared.mark.Form.TheVariants as form
-use Rattle.fp_formats.specs.Spelling.{doubled, spelled, spelling, are_whole}
+use Rattle.fp_base.specs.Formats.{doubled, spelled, spelling, are_whole}
 use Rattle.fp_formats.specs.Marks.{mark_text, piece_of}
 use Rattle.fp_base.proofs.Bools.{both}
 

@@ -3,7 +3,8 @@ use Rattle.std.proofs.Common.{◌≡◌, ℕ, true, List, [], ◌∷◌, refl, s
 use Rattle.std.specs.Prelude.{flat_map}
 use Rattle.fp_base.specs.Rendered.{rendered}
 use Rattle.fp_formats.specs.Fits.{fits}
-use Rattle.fp_formats.specs.Spelling.{doubled, IsFormat}
+use Rattle.fp_base.specs.Formats.{doubled}
+use Rattle.fp_formats.specs.Spelling.{IsFormat}
 use Rattle.fp_formats.specs.Marks.{pending}
 use Rattle.fp_formats.proofs.Steps.{spelling_pending}
 

@@ -11,7 +11,8 @@ use Rattle.fp_formats.specs.declared.mark.Mark.{Mark}
 use Rattle.fp_formats.specs.declared.mark.Mark.TheVariants.{Byte, Field}
 use Rattle.fp_formats.specs.declared.mark.Form.{Form}
 use Rattle.fp_formats.specs.declared.mark.Form.TheVariants as form
-use Rattle.fp_formats.specs.Spelling.{is_brace, doubled, has_no_brace, is_form, begins_with, IsLone, IsFormat, HasOtherField, HasLoneBrace, IsCause, OrNoMemory}
+use Rattle.fp_base.specs.Formats.{is_brace, doubled}
+use Rattle.fp_formats.specs.Spelling.{has_no_brace, is_form, begins_with, IsLone, IsFormat, HasOtherField, HasLoneBrace, IsCause, OrNoMemory}
 use Rattle.fp_formats.specs.Marks.{form_text, mark_text, IsOtherField, IsLoneBrace, IsStop}
 use Rattle.fp_formats.proofs.Braces.{opens, same_closing, no_brace-head}
 use Rattle.fp_formats.proofs.Pieces.{marks_of, written, spelling-written, same_pieces}

@@ -12,7 +12,8 @@ use Rattle.fp_formats.specs.declared.mark.Mark.{Mark}
 use Rattle.fp_formats.specs.declared.mark.Mark.TheVariants.{Byte, Field}
 use Rattle.fp_formats.specs.declared.mark.Form.{Form}
 use Rattle.fp_formats.specs.declared.mark.Form.TheVariants as form
-use Rattle.fp_formats.specs.Spelling.{is_brace, doubled, spelled, spelling, are_whole, is_empty_text, IsFormat, IsCause}
+use Rattle.fp_base.specs.Formats.{is_brace, doubled, spelled, spelling, are_whole, is_empty_text}
+use Rattle.fp_formats.specs.Spelling.{IsFormat, IsCause}
 use Rattle.fp_formats.specs.Marks.{form_text, mark_text, pending, piece_of, pieces_with, plain_with, IsReady, IsStop}
 use Rattle.fp_base.proofs.Bools.{both}
 use Rattle.fp_formats.proofs.Utf8.{before_ascii, after_ascii, from_ascii}

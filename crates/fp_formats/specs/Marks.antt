@@ -9,7 +9,8 @@ use Rattle.fp_formats.specs.declared.mark.Mark.{Mark}
 use Rattle.fp_formats.specs.declared.mark.Mark.TheVariants.{Byte, Field}
 use Rattle.fp_formats.specs.declared.mark.Form.{Form}
 use Rattle.fp_formats.specs.declared.mark.Form.TheVariants as form
-use Rattle.fp_formats.specs.Spelling.{doubled, has_no_brace, is_form, IsLone}
+use Rattle.fp_base.specs.Formats.{doubled}
+use Rattle.fp_formats.specs.Spelling.{has_no_brace, is_form, IsLone}
 
 abbrev pub form_text : Form → List ℕ
 form_text form.Any = []

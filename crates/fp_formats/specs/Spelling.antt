@@ -1,38 +1,10 @@
 -- How a format is written, and what is wrong with a text that is none.
-use Rattle.std.specs.Prelude.{◌≡◌, ℕ, Bool, true, false, cond, not, ◌&&◌, ◌||◌, ◌==◌, List, [], ◌∷◌, ◌++◌, flat_map, ◌⊎◌}
+use Rattle.std.specs.Prelude.{◌≡◌, ℕ, Bool, true, false, not, ◌||◌, ◌==◌, List, [], ◌∷◌, ◌++◌, ◌⊎◌}
 use Rattle.std.specs.List.{list_all}
 use Rattle.fp_base.specs.declared.format.Piece.{Piece}
-use Rattle.fp_base.specs.declared.format.Piece.TheVariants as piece
+use Rattle.fp_base.specs.Formats.{is_brace, spelling, are_whole}
 use Rattle.fp_formats.specs.declared.fault.FormatFault.{FormatFault}
 use Rattle.fp_formats.specs.declared.fault.FormatFault.TheVariants as fault
-
-abbrev pub is_brace : ℕ → Bool
-is_brace b = (b == 123) || (b == 125)
-
--- a brace that is text stands twice
-abbrev pub doubled : ℕ → List ℕ
-doubled b = cond (is_brace b) (b ∷ b ∷ []) (b ∷ [])
-
-abbrev pub spelled : Piece → List ℕ
-spelled (piece.Plain s) = flat_map doubled s
-spelled piece.Any = 123 ∷ 125 ∷ []
-spelled piece.Dec = 123 ∷ 100 ∷ 125 ∷ []
-spelled piece.Hex = 123 ∷ 120 ∷ 125 ∷ []
-spelled piece.Oct = 123 ∷ 111 ∷ 125 ∷ []
-spelled piece.Char = 123 ∷ 99 ∷ 125 ∷ []
-
-abbrev pub spelling : List Piece → List ℕ
-spelling ps = flat_map spelled ps
-
-abbrev pub is_empty_text : List ℕ → Bool
-is_empty_text [] = true
-is_empty_text _ = false
-
--- no text is empty, and no two texts stand side by side
-abbrev pub are_whole : Bool → List Piece → Bool
-are_whole after_text [] = true
-are_whole after_text (piece.Plain s ∷ ps) = not after_text && not (is_empty_text s) && are_whole true ps
-are_whole after_text (p ∷ ps) = are_whole false ps
 
 -- the text spells these pieces
 pub record IsFormat (text : List ℕ) (parts : List Piece) : Type 0 where

@@ -1,5 +1,6 @@
 ghost use Rattle.std.specs.Prelude.{◌≡◌, ◌++◌, ◌∷◌, ℕ, List, true, false, MatchOption, MatchResult};
-ghost use Rattle.fp_formats.specs.Spelling.{is_brace, has_no_brace, is_form, begins_with};
+ghost use Rattle.fp_base.specs.Formats.{is_brace};
+ghost use Rattle.fp_formats.specs.Spelling.{has_no_brace, is_form, begins_with};
 ghost use Rattle.fp_formats.specs.Marks.{mark_text, form_text, IsStop};
 
 use crate::fault::FormatFault;

@@ -2,7 +2,8 @@ ghost use Rattle.std.specs.Prelude.{◌≡◌, ◌++◌, ◌∷◌, [], List, �
 ghost use Rattle.fp_base.specs.Rendered.{rendered, field, number_of};
 ghost use Rattle.fp_base.specs.declared.format.Piece.{Piece as FormatPiece};
 ghost use Rattle.fp_formats.specs.Fits.{fits};
-ghost use Rattle.fp_formats.specs.Spelling.{doubled, IsFormat, IsCause};
+ghost use Rattle.fp_base.specs.Formats.{doubled};
+ghost use Rattle.fp_formats.specs.Spelling.{IsFormat, IsCause};
 
 use crate::fault::FormatFault;
 use crate::number::{push_character, push_in_base};

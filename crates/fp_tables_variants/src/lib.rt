@@ -1,9 +1,13 @@
 //! Models that break one sentence of soundness at a time.
 #![tactic(auto)]
 
+#[cfg(test)]
 mod plain;
-pub mod ported;
-pub mod reporting;
+#[cfg(test)]
+mod ported;
+#[cfg(test)]
+mod reporting;
 #[cfg(test)]
 mod tests;
-pub mod typed;
+#[cfg(test)]
+mod typed;
