@@ -1,5 +1,5 @@
 -- The sentences on a sound model, in the groups that they are tested in.
-use Rattle.std.specs.Prelude.{◌≡◌, ℕ, Option, None, Some, slice_get, Bool, true, not, ◌&&◌, ◌||◌, List, [], ◌∷◌, map}
+use Rattle.std.specs.Prelude.{◌≡◌, ℕ, Option, None, Some, slice_get, Bool, true, not, ◌||◌, List, [], ◌∷◌, map}
 use Rattle.std.specs.List.{list_all}
 use Rattle.fp_tables.specs.Lists.{all_hold, all_pass}
 use Rattle.fp_tables.specs.Names.{texts_differ}
