@@ -18,18 +18,13 @@ use Rattle.fp_tables.specs.declared.component.Role.{Role}
 use Rattle.fp_tables.specs.declared.component.Role.TheVariants as role
 use Rattle.fp_tables.specs.declared.component.Way.{Way}
 use Rattle.fp_tables.specs.declared.component.Way.TheVariants.{Later, Sync, Guarded}
-use Rattle.fp_events.specs.Answers.{arrival_in, suits, same_arrival, answers}
-use Rattle.fp_base.specs.Same.{same_option}
+use Rattle.fp_events.specs.Answers.{suits}
 use Rattle.fp_tables.specs.Specials.{component}
 use Rattle.fp_events.specs.Manners.{Manner, by, sets, saves, manner, input_manner, internal_manner, command_manner}
 use Rattle.fp_events.specs.declared.event.Point.{Point}
 use Rattle.fp_events.specs.declared.event.Point.TheVariants.{Port, Command as OfCommand, Post, Signal}
 use Rattle.fp_events.specs.declared.event.Arrival.{Arrival}
-use Rattle.fp_events.specs.declared.event.Ask.{Ask}
-use Rattle.fp_events.specs.declared.event.Ask.TheVariants as ask
-use Rattle.fp_events.specs.declared.event.What.{What}
 use Rattle.fp_events.specs.declared.event.What.TheVariants as what
-use Rattle.fp_events.proofs.SameArrival.{arrival_option_same}
 use Rattle.fp_logtext.specs.Names.{command_at, param_name, set_name, saved_name}
 use Rattle.fp_typing.proofs.Parts.{command_in, commands_lie_at}
 

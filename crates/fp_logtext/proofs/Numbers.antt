@@ -1,12 +1,11 @@
 -- Stamps and the numbers of calls are of 64 bits in a run.
-use Rattle.std.proofs.Common.{◌≡◌, ◌≤◌, ◌^◌, ℕ, suc, max, Bool, true, false, cond, ◌&&◌, ◌==◌, int_lt, nat_lt, length, Option, Some, None, List, [], ◌∷◌, ◌++◌, refl, sym, ap, subst, slice_get, arith}
+use Rattle.std.proofs.Common.{◌≡◌, ◌≤◌, ℕ, suc, Bool, true, false, cond, ◌==◌, int_lt, nat_lt, length, Option, Some, None, List, [], ◌∷◌, ◌++◌, refl, sym, ap, subst, slice_get, arith}
 use Rattle.std.specs.List.{AllByRecursion, list_all}
 use Rattle.std.proofs.lemmas.Bool.Decides.{nat_tests}
-use Rattle.fp_base.proofs.Bools.{both, join}
+use Rattle.fp_base.proofs.Bools.{join}
 use Rattle.fp_base.proofs.Lists.{each_push, each_weaker}
 use Rattle.fp_base.proofs.Options.{mapped_some, same_some, then_some}
-use Rattle.fp_base.specs.declared.value.Value.{Value}
-use Rattle.fp_system.specs.Run.{InstanceStep, Run, opening}
+use Rattle.fp_system.specs.Run.{InstanceStep}
 use Rattle.fp_system.proofs.Local.{instance_law}
 use Rattle.fp_tables.specs.Components.{is_from_1_to}
 use Rattle.fp_tables.specs.Lookup.{Described}
@@ -16,7 +15,6 @@ use Rattle.fp_tables.specs.declared.component.Full.{Full}
 use Rattle.fp_tables.specs.declared.component.Full.TheVariants as full
 use Rattle.fp_tables.specs.declared.component.Way.TheVariants.{Later, Sync, Guarded}
 use Rattle.fp_tables.specs.declared.program.Program.{Program}
-use Rattle.fp_events.specs.Actor.{ActorState}
 use Rattle.fp_events.specs.Instance.{Inside, InstanceState, Holding, Pending}
 use Rattle.fp_events.specs.Leaves.{leaves, pending_call}
 use Rattle.fp_events.specs.Lookup.{machine, queue_size}

@@ -1,6 +1,6 @@
 -- A returned value has the kind that the frame returns which it closes.
-use Rattle.std.proofs.Common.{◌≡◌, ℕ, true, List, [], ◌∷◌, ◌++◌, Option, Some, refl, sym, subst}
-use Rattle.fp_system.specs.Run.{Run, World, ActorStep, opening}
+use Rattle.std.proofs.Common.{◌≡◌, true, List, [], ◌∷◌, ◌++◌, Option, Some, refl, sym, subst}
+use Rattle.fp_system.specs.Run.{Run, World, opening}
 use Rattle.fp_system.proofs.Local.{actor_law}
 use Rattle.fp_tables.specs.Lookup.{Described}
 use Rattle.fp_tables.specs.Sound.{IsSoundFor}

@@ -1,6 +1,6 @@
 -- When a list of entries is fitting: what its text alone can show of a run.
 -- The form of the log is this profile's own.
-use Rattle.std.specs.Prelude.{◌≡◌, ℕ, Bool, true, false, not, ◌&&◌, ◌^◌, nat_lt, List, [], ◌∷◌, ◌++◌, drop, Option, Some, None, option_map, slice_get}
+use Rattle.std.specs.Prelude.{◌≡◌, ℕ, Bool, true, false, not, ◌&&◌, ◌^◌, nat_lt, List, [], ◌∷◌, ◌++◌, Option, Some, None, option_map, slice_get}
 use Rattle.std.specs.List.{list_all}
 use Rattle.fp_base.specs.declared.value.Value.{Value}
 use Rattle.fp_tables.specs.Lists.{if_some, some_and}
@@ -23,7 +23,6 @@ use Rattle.fp_tables.specs.Specials.{component}
 use Rattle.fp_events.specs.Manners.{manner}
 use Rattle.fp_events.specs.Run.{by}
 use Rattle.fp_events.specs.declared.event.Point.{Point}
-use Rattle.fp_events.specs.declared.event.Point.TheVariants.{Port}
 use Rattle.fp_events.specs.declared.event.Origin.{Origin}
 use Rattle.fp_events.specs.declared.event.Origin.TheVariants.{Caller, Own, Wire}
 use Rattle.fp_events.specs.declared.event.Arrival.{Arrival}
