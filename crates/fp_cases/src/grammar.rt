@@ -3,8 +3,8 @@ use crate::definitions::add_definition;
 use crate::expressions::add_expression;
 use crate::tree::Tree;
 use crate::words::{numeral, push_all};
-use fp_base::{NoMemory, Row, Stop, Text};
-use fp_lexer::{Token, lex};
+use fp_base::{NoMemory, Stop, Text};
+use fp_lexer::lex;
 use fp_parse_defs::{parse_def, parse_expr};
 use fp_tree::Expr;
 use std::alloc::Global;
@@ -18,11 +18,6 @@ pub enum View {
     Shape,
     /// Where it and its parts stand.
     Places,
-}
-
-/// Whether a parser of parts may begin at a token.
-fn may_begin(tokens: &Row<Token>, from: u32) -> bool {
-    tokens.len() > 0 && tokens.len() <= MOST_TOKENS && from as usize <= tokens.len()
 }
 
 fn viewed(alloc: Global, tree: Tree, to: u32, view: View) -> Result<Text, NoMemory> {
@@ -41,7 +36,7 @@ fn viewed(alloc: Global, tree: Tree, to: u32, view: View) -> Result<Text, NoMemo
 pub fn parsed_expression(alloc: Global, case: &Case) -> Result<(Expr, u32), Stop> {
     let tokens = lex(alloc, 0, case.source())?;
     let from = case.number("from");
-    if !may_begin(&tokens, from) {
+    if tokens.len() == 0 || tokens.len() > MOST_TOKENS || from as usize > tokens.len() {
         return Err(Stop::NoMemory);
     }
     parse_expr(alloc, &tokens, from)
@@ -60,7 +55,7 @@ pub fn definition(alloc: Global, case: &Case, view: View) -> Result<Text, Stop> 
     let mut tree = Tree::new(alloc);
     let tokens = lex(alloc, 0, case.source())?;
     let from = case.number("from");
-    if !may_begin(&tokens, from) {
+    if tokens.len() == 0 || tokens.len() > MOST_TOKENS || from as usize > tokens.len() {
         return Err(Stop::NoMemory);
     }
     let (definition, to) = parse_def(alloc, &tokens, from)?;

@@ -1,7 +1,7 @@
 use crate::cases::Case;
 use crate::grammar::parsed_expression;
 use crate::members::add_members;
-use crate::words::{first_broken, numeral, printed, push_all, push_line};
+use crate::words::{first_broken, numeral, printed, push_line};
 use fp_base::{NoMemory, Row, Stop, Text, Value};
 use fp_consts::{evaluate, evaluate_all, examine};
 use fp_lexer::lex;
@@ -62,9 +62,10 @@ pub fn meanings(alloc: Global, case: &Case) -> Result<Text, Stop> {
     let meant = uses(alloc, &source, &names)?;
     let mut out = Text::new(alloc);
     for number in meant.meanings.as_slice() {
-        let space = if out.len() == 0 { "" } else { " " };
-        let number = numeral(alloc, *number as u64)?;
-        push_all(&mut out, &[space, number.as_str()])?;
+        if out.len() > 0 {
+            out.push_str(" ")?;
+        }
+        out.push_str(numeral(alloc, *number as u64)?.as_str())?;
     }
     Ok(out)
 }
