@@ -9,4 +9,4 @@ returns-in-Some c = λ known.
     let channel = c.in-Some.channel.now in
     let value = c.args.value.now in
     writable c.args.tables.now c.args.program.now c.args.instance c.args.channel value channel c.in-Some.ensures
-    (sym (ap (λ (types : List TypeDef). has_kind types channel.kind value) c.types.ensures) ∙ c.has_kind.ensures known)
+    (sym (ap (λ (types : List TypeDef). has_kind types channel.kind value) c.types.ensures) ∙ (sym c.has_kind.ensures ∙ known))
