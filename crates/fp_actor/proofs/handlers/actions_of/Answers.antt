@@ -3,7 +3,8 @@ use Rattle.std.specs.BTreeMap.{get_by, is_at as is_key}
 use Rattle.fp_tables.specs.declared.program.Handler.{Handler}
 use Rattle.fp_tables.specs.declared.program.Spot.TheVariants as spot
 use Rattle.fp_actor.specs.Found.{is_at, triple_cmp}
-use Rattle.fp_tables.proofs.Firsts.{position_at, filled, kept, none_of}
+use Rattle.fp_base.proofs.Options.{none_of}
+use Rattle.fp_tables.proofs.Firsts.{position_at, filled, kept}
 use Rattle.fp_actor.proofs.Finding.{same_action, triple_key, other_action}
 use Rattle.fp_actor.proofs.handlers.actions_of.Goals as goal
 use Rattle.fp_actor.proofs.handlers.actions_of.Goals.{in-Action+then-not-contains_key+in_ok-insert, in-Action+else-not-contains_key, in_default}
