@@ -5,7 +5,7 @@ use std::str;
 
 /// What is given to a case, or what is due to one question.
 #[derive(Drop)]
-pub struct Part<'a> {
+pub struct Section<'a> {
     pub label: &'a str,
     pub body: Vec<u8>,
 }
@@ -14,7 +14,7 @@ pub struct Part<'a> {
 #[derive(Drop)]
 pub struct Case<'a> {
     pub name: &'a str,
-    pub parts: Vec<Part<'a>>,
+    pub parts: Vec<Section<'a>>,
 }
 
 impl<'a> Case<'a> {
@@ -44,14 +44,14 @@ impl<'a> Case<'a> {
     }
 }
 
-fn part_of<'a>(alloc: Global, text: &'a str) -> Result<Part<'a>, NoMemory> {
+fn part_of<'a>(alloc: Global, text: &'a str) -> Result<Section<'a>, NoMemory> {
     let (label, body) = text.split_once('\n').unwrap_or((text, ""));
     match label.strip_suffix(" escaped") {
-        Some(label) => Ok(Part {
+        Some(label) => Ok(Section {
             label,
             body: unescaped(alloc, body.as_bytes())?,
         }),
-        None => Ok(Part {
+        None => Ok(Section {
             label,
             body: Vec::from_slice(alloc, body.as_bytes())?,
         }),

@@ -18,7 +18,7 @@ mod types;
 mod words;
 
 use crate::asked::{answer, is_given};
-use crate::cases::{Case, Part, cases_of};
+use crate::cases::{Case, Section, cases_of};
 use crate::words::{printed, push_all};
 use fp_base::{NoMemory, Text, Value};
 use std::alloc::{AllocError, Global};
@@ -32,7 +32,7 @@ use std::{env, fs, io};
 fn add_difference(
     alloc: Global,
     case: &Case,
-    part: &Part,
+    part: &Section,
     came: Text,
     out: &mut Text,
 ) -> Result<(), NoMemory> {

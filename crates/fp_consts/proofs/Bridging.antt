@@ -12,18 +12,18 @@ use Rattle.fp_meaning.specs.ConstantFaults.{Uses, Reaches, IsOnCycle, Chain, alo
 use Rattle.fp_base.proofs.Calculus.{least_along, least_either, least_if, least_same}
 use Rattle.fp_base.proofs.Elements.{least_in_one}
 use Rattle.fp_consts.specs.declared.stretch.Stretch.{Stretch}
-use Rattle.fp_consts.specs.Graph.{Leads, IsCyclic, Line, alone, longer, one, more, IsSorted, AreHeads}
-use Rattle.fp_consts.specs.Chains.{SameUses, name_places, Marked, MarkedAt}
+use Rattle.fp_consts.specs.Graph.{UsesThrough, IsCyclic, Line, alone, longer, one, more, IsSorted, AreHeads}
+use Rattle.fp_consts.specs.Chains.{SameUses, name_places, MarkedBy, MarkedAt}
 use Rattle.fp_consts.proofs.Places.{item_below}
 
 module _ (source : Source) (stretches : List Stretch) (targets : List ℕ) (same : SameUses source stretches targets) where
-  leads_from : (n from to : ℕ) → Reaches source from to (suc n) → Leads stretches targets from to
+  leads_from : (n from to : ℕ) → Reaches source from to (suc n) → UsesThrough stretches targets from to
   leads_from zero from to t =
       let e = t.1 in
       one (same.there from to (subst (λ (x : ℕ). Uses source x to) (sym e) t.2))
   leads_from (suc n) from to t = more (leads_from n from t.0 t.1) (same.there t.0 to t.2)
 
-  reaches_from : {from to : ℕ} → Leads stretches targets from to → (n : ℕ) × Reaches source from to (suc n)
+  reaches_from : {from to : ℕ} → UsesThrough stretches targets from to → (n : ℕ) × Reaches source from to (suc n)
   reaches_from (one {from = from} {to = to} e) = (0, (from, refl, same.back from to e))
   reaches_from (more {between = between} {to = to} l e) = let t = reaches_from l in (suc t.0, (between, t.1, same.back between to e))
 
@@ -68,24 +68,24 @@ module _ (source : Source) (stretches : List Stretch) (targets : List ℕ) (same
     definition_of number place e =
         from_place number place (slice_get (definitions source) number) refl (sym (slice_get-map (λ (d : Definition). d.place) (definitions source) number) ∙ e)
 
-    to : (f : Refusal) → InSome (Marked cyclic deep) (name_places source) f → InSome Here (definitions source) f
+    to : (f : Refusal) → InSome (MarkedBy cyclic deep) (name_places source) f → InSome Here (definitions source) f
     to f (number, place, at, m) = let t = definition_of number place at in (number, t.0, t.1, go t.0 t.2 m)
       where
-        go : (d : Definition) → d.place ≡ place → Marked cyclic deep number place f → Here number d f
+        go : (d : Definition) → d.place ≡ place → MarkedBy cyclic deep number place f → Here number d f
         go d e (inl h) = inl (h.0 ∙ ap (broken_at Cycle) (sym e), on_cycle_from number (sorted.exact number true h.1))
         go d e (inr h) = inr (h.0 ∙ ap (broken_at ChainTooLong) (sym e), chain_from (heads.exact number true h.1))
 
-    back : (f : Refusal) → InSome Here (definitions source) f → InSome (Marked cyclic deep) (name_places source) f
+    back : (f : Refusal) → InSome Here (definitions source) f → InSome (MarkedBy cyclic deep) (name_places source) f
     back f (number, d, at, h) = (number, d.place, place_of number d at, go h)
       where
         within : number < length stretches
         within = let lt = slice_get_within (definitions source) number d at in let count = same.count in omega arith
 
-        go : Here number d f → Marked cyclic deep number d.place f
+        go : Here number d f → MarkedBy cyclic deep number d.place f
         go (inl t) = inl (t.0, flag_true cyclic number (IsCyclic stretches targets number) sorted.each within (sorted.exact number) (cyclic_from number t.1))
         go (inr t) = inr (t.0, flag_true deep number (Line stretches targets number 256) heads.each within (heads.exact number) (line_from t.1))
 
-    pub broken_by_chains : (o : Option Refusal) → IsLeast (InSome (Marked cyclic deep) (name_places source)) o → IsLeast (BrokenByChains source) o
+    pub broken_by_chains : (o : Option Refusal) → IsLeast (InSome (MarkedBy cyclic deep) (name_places source)) o → IsLeast (BrokenByChains source) o
     broken_by_chains o l = least_same to back l
 
 -- ---- of one name
@@ -100,13 +100,13 @@ least_marked place cyclic deep a b o e p q =
 
 pub one_marked : (cyclic deep : List Bool) (places : List Place) (number : ℕ) (place : Place) (a b : Bool) (o : Option Refusal)
     → slice_get places number ≡ Some place → slice_get cyclic number ≡ Some a → slice_get deep number ≡ Some b
-    → IsLeast (MarkedAt place a b) o → IsLeast (InOne number (Marked cyclic deep) places) o
-one_marked cyclic deep places number place a b o at c d l = least_in_one (Marked cyclic deep) places number place o at (least_same to back l)
+    → IsLeast (MarkedAt place a b) o → IsLeast (InOne number (MarkedBy cyclic deep) places) o
+one_marked cyclic deep places number place a b o at c d l = least_in_one (MarkedBy cyclic deep) places number place o at (least_same to back l)
   where
-    to : (f : Refusal) → MarkedAt place a b f → Marked cyclic deep number place f
+    to : (f : Refusal) → MarkedAt place a b f → MarkedBy cyclic deep number place f
     to f (inl h) = inl (h.0, c ∙ ap Some h.1)
     to f (inr h) = inr (h.0, d ∙ ap Some h.1)
 
-    back : (f : Refusal) → Marked cyclic deep number place f → MarkedAt place a b f
+    back : (f : Refusal) → MarkedBy cyclic deep number place f → MarkedAt place a b f
     back f (inl h) = inl (h.0, let k = h.1 in cc)
     back f (inr h) = inr (h.0, let k = h.1 in cc)

@@ -6,7 +6,7 @@ use Rattle.fp_consts.specs.declared.stretch.Stretch.{Stretch}
 use Rattle.fp_consts.specs.declared.visit.Mark.{Mark}
 use Rattle.fp_consts.specs.declared.visit.Mark.TheVariants.{Unseen, Open, Done}
 use Rattle.fp_consts.specs.declared.visit.Frame.{Frame}
-use Rattle.fp_consts.specs.Graph.{Leads}
+use Rattle.fp_consts.specs.Graph.{UsesThrough}
 use Rattle.fp_consts.specs.Visits.{Among, places, State, Waits, IsDone, IsMet, TargetIs, IsFrame, Stage, entered}
 use Rattle.fp_consts.proofs.Places.{get_set_same, get_set_other, same_or_other, get_push, get_end}
 use Rattle.fp_consts.proofs.Stages.{place_within, head_within}
@@ -94,17 +94,17 @@ module _ (stretches : List Stretch) (targets : List ℕ) (s : State) (v : ℕ) (
   bottom (inr ne) = inr (stage.bottom (omega arith))
 
   abbrev Before : Type 0
-  Before = (place u : ℕ) → suc place ≡ n → slice_get s.opened place ≡ Some u → Leads stretches targets u v
+  Before = (place u : ℕ) → suc place ≡ n → slice_get s.opened place ≡ Some u → UsesThrough stretches targets u v
 
   down : Before → (place u w : ℕ) → (slice_get s.opened place ≡ Some u) ⊎ ((place ≡ n) × (v ≡ u)) → (slice_get s.opened (suc place) ≡ Some w) ⊎ ((suc place ≡ n) × (v ≡ w))
-      → Leads stretches targets u w
+      → UsesThrough stretches targets u w
   down before place u w (inl h) (inl k) = stage.down place u w h k
-  down before place u w (inl h) (inr (p, e)) = subst (λ (x : ℕ). Leads stretches targets u x) e (before place u p h)
+  down before place u w (inl h) (inr (p, e)) = subst (λ (x : ℕ). UsesThrough stretches targets u x) e (before place u p h)
   down before place u w (inr (p, e)) (inl k) = let lt = slice_get_within s.opened (suc place) w k in absurd (omega arith)
   down before place u w (inr (p, e)) (inr (q, f)) = absurd (omega arith)
 
   up : (place u w : ℕ) → (slice_get s.opened place ≡ Some u) ⊎ ((place ≡ n) × (v ≡ u)) → (slice_get s.opened (suc place) ≡ Some w) ⊎ ((suc place ≡ n) × (v ≡ w))
-      → (Among (n ∷ s.heads) (suc place) → ⊥) → Leads stretches targets w u
+      → (Among (n ∷ s.heads) (suc place) → ⊥) → UsesThrough stretches targets w u
   up place u w (inl h) (inl k) none = stage.up place u w h k (λ a. none (inr a))
   up place u w (inl h) (inr (p, e)) none = absurd (none (inl (sym p)))
   up place u w (inr (p, e)) (inl k) none = let lt = slice_get_within s.opened (suc place) w k in absurd (omega arith)

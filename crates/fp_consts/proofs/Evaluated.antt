@@ -13,7 +13,7 @@ use Rattle.fp_consts.specs.declared.marking.Marking.{Marking}
 use Rattle.fp_consts.specs.declared.measured.Measured.{Measured}
 use Rattle.fp_consts.specs.declared.pieces.Piece.{Piece}
 use Rattle.fp_consts.specs.declared.stretch.Stretch.{Stretch}
-use Rattle.fp_consts.specs.Chains.{Marked}
+use Rattle.fp_consts.specs.Chains.{MarkedBy}
 use Rattle.fp_consts.specs.Graph.{IsSorted, AreHeads}
 use Rattle.fp_consts.specs.Laid.{spans_from, spots_from}
 use Rattle.fp_consts.specs.Marked.{AreValues, SomeBroken, IsMarked, Marks}
@@ -48,8 +48,8 @@ module _ (source : Source) (meanings : List ℕ) (pieces : List Piece) (spans : 
     all_values = subst (λ (ps : List Placed). AreValues source ps m.at) the_expressions all_marked.values
 
     pub all_broken : (order : List ℕ) (cyclic deep : List Bool) (places : List Place) (o : Option Refusal) → IsSorted spans meanings order cyclic → AreHeads spans meanings 256 deep
-        → places ≡ flat_map places_in pieces → IsLeast (InSome (Marked cyclic deep) places) o → IsLeast (ConstantsBroken source) (lesser_of m.first o)
+        → places ≡ flat_map places_in pieces → IsLeast (InSome (MarkedBy cyclic deep) places) o → IsLeast (ConstantsBroken source) (lesser_of m.first o)
     all_broken order cyclic deep places o sorted heads placed least =
         least_either m.first o (subst (λ (ps : List Placed). IsLeast (SomeBroken source ps) m.first) the_expressions all_marked.first)
         (broken_by_chains source spans meanings (same_uses source pieces meanings parts meant spans spanned) order cyclic deep sorted heads o
-        (subst (λ (xs : List Place). IsLeast (InSome (Marked cyclic deep) xs) o) (placed ∙ the_places source pieces meanings parts meant) least))
+        (subst (λ (xs : List Place). IsLeast (InSome (MarkedBy cyclic deep) xs) o) (placed ∙ the_places source pieces meanings parts meant) least))

@@ -13,7 +13,7 @@ use Rattle.fp_meaning.specs.Values.{opened, leaves, levels, deepest, Val, Vals, 
 use Rattle.fp_meaning.specs.ConstantFaults.{BrokenIn}
 use Rattle.fp_base.proofs.Calculus.{least_none, least_same, least_along, least_either}
 use Rattle.fp_consts.specs.declared.measured.Measured.{Measured}
-use Rattle.fp_consts.specs.declared.found.Found.{Found}
+use Rattle.fp_consts.specs.declared.found.Examination.{Examination}
 use Rattle.fp_consts.specs.declared.gathered.Gathered.{Gathered}
 use Rattle.fp_consts.specs.Examined.{AreGiven, IsFound, IsMeasured, IsNext, IsJoined, IsGathered, AreGathered, PartsBroken, plain}
 use Rattle.fp_consts.proofs.Given.{given_split}
@@ -117,7 +117,7 @@ module _ (source : Source) (scope : Path) where
   }
 
   -- one expression more
-  pub gathered_next : (es : List Expr) (e : Expr) (from : ℕ) (g : Gathered) (found : Found) (h : Gathered)
+  pub gathered_next : (es : List Expr) (e : Expr) (from : ℕ) (g : Gathered) (found : Examination) (h : Gathered)
       → IsGathered source scope es from g → IsFound source scope e g.next found → IsNext g found h → IsGathered source scope (es ++ e ∷ []) from h
   gathered_next es e from g found h is f n = record {
     all = (go found.value refl n.joined).0;
@@ -158,7 +158,7 @@ module _ (source : Source) (scope : Path) where
       subst (λ (n : ℕ). AreGiven source table numbers (in_expression scope e) n) same rest
 
   -- one step of a loop over some expressions
-  pub gathered_step : (table : List (Option Measured)) (numbers : List ℕ) (es : List Expr) (k : ℕ) (e : Expr) (from : ℕ) (g : Gathered) (found : Found) (h : Gathered)
+  pub gathered_step : (table : List (Option Measured)) (numbers : List ℕ) (es : List Expr) (k : ℕ) (e : Expr) (from : ℕ) (g : Gathered) (found : Examination) (h : Gathered)
       → slice_get es k ≡ Some e → (AreGiven source table numbers (flat_map (in_expression scope) es) from → IsGathered source scope (take k es) from g)
       → (AreGiven source table numbers (in_expression scope e) g.next → IsFound source scope e g.next found) → IsNext g found h
       → AreGiven source table numbers (flat_map (in_expression scope) es) from → IsGathered source scope (take (k + 1) es) from h

@@ -3,7 +3,7 @@ use Rattle.std.proofs.Common.{◌≡◌, ◌≢◌, ℕ, suc, ◌-◌, ◌<◌, 
 use Rattle.fp_consts.specs.declared.stretch.Stretch.{Stretch}
 use Rattle.fp_consts.specs.declared.visit.Mark.TheVariants.{Open}
 use Rattle.fp_consts.specs.declared.visit.Frame.{Frame}
-use Rattle.fp_consts.specs.Graph.{Leads}
+use Rattle.fp_consts.specs.Graph.{UsesThrough}
 use Rattle.fp_consts.specs.Visits.{Among, Falls, places, State, Waits, IsMet, TargetIs, Stage, under, with_heads}
 use Rattle.fp_consts.proofs.Reaching.{Reaches, leads_reaches, reaches_edge}
 use Rattle.fp_consts.proofs.Places.{same_or_other}
@@ -20,7 +20,7 @@ module _ (stretches : List Stretch) (targets : List ℕ) where
     head_low = head_below_top stretches targets None (with_heads (head ∷ heads) s) f stage head (inl refl)
 
     -- all the way round
-    round : (i v u : ℕ) → head ≡ suc i → slice_get s.opened i ≡ Some v → slice_get s.opened head ≡ Some u → Leads stretches targets u v
+    round : (i v u : ℕ) → head ≡ suc i → slice_get s.opened i ≡ Some v → slice_get s.opened head ≡ Some u → UsesThrough stretches targets u v
     round i v u e h k =
         let low = head_low in
         let top = top_frame stretches targets None (with_heads (head ∷ heads) s) f stage in
@@ -31,7 +31,7 @@ module _ (stretches : List Stretch) (targets : List ℕ) where
         leads_reaches stretches targets (reaches_edge stretches targets to_top edge) back
 
     up : (i v u : ℕ) → slice_get s.opened i ≡ Some v → slice_get s.opened (suc i) ≡ Some u → (Among heads (suc i) → ⊥) → (head ≡ suc i) ⊎ (head ≢ suc i)
-        → Leads stretches targets u v
+        → UsesThrough stretches targets u v
     up i v u h k none (inl e) = round i v u e h (subst (λ (x : ℕ). slice_get s.opened x ≡ Some u) (sym e) k)
     up i v u h k none (inr ne) = stage.up i v u h k (λ a. go a)
       where

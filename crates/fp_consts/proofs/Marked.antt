@@ -16,7 +16,7 @@ use Rattle.fp_meaning.specs.Values.{opened, IsValue}
 use Rattle.fp_meaning.specs.ConstantFaults.{BrokenIn}
 use Rattle.fp_base.proofs.Calculus.{least_none, least_same, least_along, least_either}
 use Rattle.fp_consts.specs.declared.measured.Measured.{Measured}
-use Rattle.fp_consts.specs.declared.found.Found.{Found}
+use Rattle.fp_consts.specs.declared.found.Examination.{Examination}
 use Rattle.fp_consts.specs.declared.pieces.Piece.{Piece}
 use Rattle.fp_consts.specs.declared.marking.Marking.{Marking}
 use Rattle.fp_consts.specs.Examined.{AreGiven, IsFound, Examines, plain}
@@ -81,7 +81,7 @@ module _ (source : Source) where
   }
 
   -- one expression more
-  adds_one : (scope : Path) (e : Expr) (before : Marking) (found : Found) (after : Marking) → IsFound source scope e before.next found → AddsFound before found after
+  adds_one : (scope : Path) (e : Expr) (before : Marking) (found : Examination) (after : Marking) → IsFound source scope e before.next found → AddsFound before found after
       → AddsMarks source (placed scope e ∷ []) (in_expression scope e) before after
   adds_one scope e before found after f a = record {
     values = λ qs is. subst (λ (os : List (Option Value)). AreValues source (qs ++ placed scope e ∷ []) os) (sym a.at) (values_more qs (placed scope e) before.at (plain found.value) is f.value);
@@ -146,7 +146,7 @@ module _ (table : List (Option Measured)) (numbers : List ℕ) (pieces : List Pi
   pub marks_all : (k : ℕ) (m : Marking) → length pieces ≤ k → MarksFirst table numbers pieces k m → Marks table numbers pieces m
   marks_all k m past is source given = subst (λ (xs : List Piece). IsMarked source xs m) (take_all k pieces past) (is source given)
 
-pub one_expression : (table : List (Option Measured)) (numbers : List ℕ) (e : Expr) (before : Marking) (found : Found) (after : Marking)
+pub one_expression : (table : List (Option Measured)) (numbers : List ℕ) (e : Expr) (before : Marking) (found : Examination) (after : Marking)
     → Examines table numbers e before.next found → AddsFound before found after → MarksExpression table numbers e before after
 one_expression table numbers e before found after examined adds source scope given = adds_one source scope e before found after (examined source scope given) adds
 

@@ -17,7 +17,7 @@ use Rattle.fp_meaning.specs.Values.{Opened, opened, Val, number, text, truth, en
 use Rattle.fp_meaning.specs.ConstantFaults.{BrokenHere, float}
 use Rattle.fp_base.proofs.Calculus.{least_none, least_one, least_along, least_either}
 use Rattle.fp_consts.specs.declared.measured.Measured.{Measured}
-use Rattle.fp_consts.specs.declared.found.Found.{Found}
+use Rattle.fp_consts.specs.declared.found.Examination.{Examination}
 use Rattle.fp_consts.specs.Operands.{operand_of, KindFault, NegationFault}
 use Rattle.fp_consts.specs.Examined.{AreGiven, IsFound, NextOf, UsesNext, MinusFound, BinaryFound, plain, leaf_of, value_at, AreMeasured}
 use Rattle.fp_consts.proofs.Operators.{BinaryHere, negation_value, operation_value, minus_here, binary_here}
@@ -93,13 +93,13 @@ module _ (source : Source) (scope : Path) where
     next = one_more from (in_expression scope e) uses;
   }
 
-  use_found_at : (table : List (Option Measured)) (numbers : List ℕ) (e : Expr) (name : Qual) (from meant : ℕ) (found : Found) → opened e ≡ form.Use name
+  use_found_at : (table : List (Option Measured)) (numbers : List ℕ) (e : Expr) (name : Qual) (from meant : ℕ) (found : Examination) → opened e ≡ form.Use name
       → in_expression scope e ≡ mentioned group.Value scope name ∷ []
       → AreGiven source table numbers (mentioned group.Value scope name ∷ []) from → slice_get numbers from ≡ Some meant
       → found ≡ record { value = value_at table meant; first = None; next = from + 1 } → IsFound source scope e from found
   use_found_at table numbers e name from meant found is uses given at f =
       let same : given.0.0 ≡ meant = cc in
-      subst (λ (x : Found). IsFound source scope e from x) (sym f)
+      subst (λ (x : Examination). IsFound source scope e from x) (sym f)
       (subst (λ (k : ℕ). IsFound source scope e from (record { value = value_at table k; first = None; next = from + 1 })) same
       (record {
         measured = given.0.3.measured;
@@ -108,7 +108,7 @@ module _ (source : Source) (scope : Path) where
         next = ap (λ (ms : List Mention). from + length ms) (sym uses);
       }))
 
-  pub use_found : (table : List (Option Measured)) (numbers : List ℕ) (e : Expr) (name : Qual) (from : ℕ) (found : Found) → opened e ≡ form.Use name
+  pub use_found : (table : List (Option Measured)) (numbers : List ℕ) (e : Expr) (name : Qual) (from : ℕ) (found : Examination) → opened e ≡ form.Use name
       → in_expression scope e ≡ mentioned group.Value scope name ∷ []
       → AreGiven source table numbers (mentioned group.Value scope name ∷ []) from → UsesNext table numbers from found → IsFound source scope e from found
   use_found table numbers e name from found is uses given next = go (slice_get numbers from) refl next
@@ -117,7 +117,7 @@ module _ (source : Source) (scope : Path) where
       go None at f = let here = given.0.1 in cc
       go (Some meant) at f = use_found_at table numbers e name from meant found is uses given at f
 
-  pub minus_found : (e a : Expr) (from : ℕ) (operand found : Found) → opened e ≡ form.Minus a → in_expression scope e ≡ in_expression scope a
+  pub minus_found : (e a : Expr) (from : ℕ) (operand found : Examination) → opened e ≡ form.Minus a → in_expression scope e ≡ in_expression scope a
       → IsFound source scope a from operand → MinusFound e.at.first a.at.first operand found → IsFound source scope e from found
   minus_found e a from operand found is uses f m =
       let here = minus_here {source = source} {scope = scope} {a = a} {place = e.at.first} (plain operand.value) f.value in
@@ -137,7 +137,7 @@ module _ (source : Source) (scope : Path) where
   enclosed_value v (enclosed h) = h
 
   -- parentheses have the value of what stands in them, and break nothing by themselves
-  pub parentheses_found : (e a : Expr) (from : ℕ) (found : Found) → opened e ≡ form.Parentheses a → in_expression scope e ≡ in_expression scope a
+  pub parentheses_found : (e a : Expr) (from : ℕ) (found : Examination) → opened e ≡ form.Parentheses a → in_expression scope e ≡ in_expression scope a
       → IsFound source scope a from found → IsFound source scope e from found
   parentheses_found e a from found is uses f = record {
     measured = f.measured;
@@ -150,7 +150,7 @@ module _ (source : Source) (scope : Path) where
     next = f.next ∙ ap (λ (ms : List Mention). from + length ms) (sym uses);
   }
 
-  pub binary_found : (e a b : Expr) (operator : Operator) (from : ℕ) (left right found : Found) → opened e ≡ form.Binary operator a b
+  pub binary_found : (e a b : Expr) (operator : Operator) (from : ℕ) (left right found : Examination) → opened e ≡ form.Binary operator a b
       → in_expression scope e ≡ in_expression scope a ++ in_expression scope b
       → IsFound source scope a from left → IsFound source scope b left.next right → BinaryFound e.at.first operator a.at.first b.at.first left right found
       → IsFound source scope e from found

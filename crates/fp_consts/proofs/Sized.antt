@@ -17,7 +17,7 @@ use Rattle.fp_meaning.specs.Values.{Opened, opened, leaves, levels, leaves_among
 use Rattle.fp_meaning.specs.ConstantFaults.{BrokenHere, list_too_large, struct_too_large, parts_of, BrokenIn}
 use Rattle.fp_base.proofs.Calculus.{least_none, least_only, least_along}
 use Rattle.fp_meaning.proofs.OneValue.{one_values}
-use Rattle.fp_consts.specs.declared.found.Found.{Found}
+use Rattle.fp_consts.specs.declared.found.Examination.{Examination}
 use Rattle.fp_consts.specs.declared.gathered.Gathered.{Gathered}
 use Rattle.fp_consts.specs.declared.gathered.Whole.{Whole}
 use Rattle.fp_consts.specs.Examined.{IsMeasured, IsFound, IsGathered, AreGathered, IsSized, PartsBroken, plain, measured_with, leaves_with, found_of}
@@ -157,7 +157,7 @@ module _ (source : Source) (scope : Path) (es : List Expr) (made : List Value �
 
       nothing_found : z.values ≡ None → ((vs : List Value) → Vals source scope es vs → IsWithinSize (made vs) → ⊥) → IsLeast (BrokenIn source scope e) z.first
           → IsFound source scope e from (found_of made z)
-      nothing_found none never least = subst (λ (found : Found). IsFound source scope e from found) (sym (without none)) (record {
+      nothing_found none never least = subst (λ (found : Examination). IsFound source scope e from found) (sym (without none)) (record {
         measured = none_measured;
         value = at_form None (no_value s w never);
         first = least;

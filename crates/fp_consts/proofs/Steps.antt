@@ -7,7 +7,7 @@ use Rattle.fp_consts.specs.declared.stretch.Stretch.{Stretch}
 use Rattle.fp_consts.specs.declared.visit.Mark.{Mark}
 use Rattle.fp_consts.specs.declared.visit.Mark.TheVariants.{Unseen, Open, Done}
 use Rattle.fp_consts.specs.declared.visit.Frame.{Frame}
-use Rattle.fp_consts.specs.Graph.{Leads, IsCyclic, IsSorted}
+use Rattle.fp_consts.specs.Graph.{UsesThrough, IsCyclic, IsSorted}
 use Rattle.fp_consts.specs.Visits.{Among, Falls, places, State, IsDone, Stage, Seen, Progress, under, moved, entered, with_heads, settled, marked, IsRing, IsStep, IsResting, begun, is_cyclic, waiting}
 use Rattle.fp_consts.proofs.Reaching.{reaches_edge}
 use Rattle.fp_consts.proofs.Places.{get_set_same, get_set_other, same_or_other, item_below, reverse_push_as}
@@ -155,7 +155,7 @@ module _ (stretches : List Stretch) (targets : List ℕ) (s : State) (f : Frame)
       within : v < length stretches
       within = slice_get_within stretches v stretch at
 
-      leads : (place u : ℕ) → suc place ≡ length s.opened → slice_get s.opened place ≡ Some u → Leads stretches targets u v
+      leads : (place u : ℕ) → suc place ≡ length s.opened → slice_get s.opened place ≡ Some u → UsesThrough stretches targets u v
       leads place u last k =
           let top = top_frame stretches targets None s f stage in
           let below = slice_get_within s.opened f.at f.vertex top.here in

@@ -27,8 +27,8 @@ MarkedAt place cyclic deep =
     Either (λ f. (f ≡ broken_at Cycle place) × (cyclic ≡ true)) (λ f. (f ≡ broken_at ChainTooLong place) × (deep ≡ true))
 
 -- the same of the definition with a number
-abbrev pub Marked : List Bool → List Bool → ℕ → Place → Refusal → Type 0
-Marked cyclic deep number place =
+abbrev pub MarkedBy : List Bool → List Bool → ℕ → Place → Refusal → Type 0
+MarkedBy cyclic deep number place =
     Either
     (λ f. (f ≡ broken_at Cycle place) × (slice_get cyclic number ≡ Some true))
     (λ f. (f ≡ broken_at ChainTooLong place) × (slice_get deep number ≡ Some true))

@@ -16,7 +16,7 @@ use Rattle.fp_meaning.specs.Origins.{Origin, Constant, Enumerated, NoValue, orig
 use Rattle.fp_meaning.specs.Values.{opened, number_in, constant_value, IsImplied, IsWithinSize, leaves, levels, deepest, Val, Vals, IsValue}
 use Rattle.fp_meaning.specs.ConstantFaults.{BrokenIn}
 use Rattle.fp_consts.specs.declared.measured.Measured.{Measured}
-use Rattle.fp_consts.specs.declared.found.Found.{Found}
+use Rattle.fp_consts.specs.declared.found.Examination.{Examination}
 use Rattle.fp_consts.specs.declared.gathered.Gathered.{Gathered}
 use Rattle.fp_consts.specs.declared.gathered.Whole.{Whole}
 use Rattle.fp_consts.specs.Operands.{operand_of, KindFault, NegationFault, NegationIs, OperationFault, OperationIs}
@@ -55,11 +55,11 @@ abbrev pub value_at : List (Option Measured) → ℕ → Option Measured
 value_at table number = entry (slice_get table number)
 
 -- what is found of a name, by the number of its use
-abbrev pub NextOf : List (Option Measured) → Option ℕ → ℕ → Found → Type 0
+abbrev pub NextOf : List (Option Measured) → Option ℕ → ℕ → Examination → Type 0
 NextOf table None next found = found ≡ record { value = None; first = None; next = next }
 NextOf table (Some number) next found = found ≡ record { value = value_at table number; first = None; next = next + 1 }
 
-abbrev pub UsesNext : List (Option Measured) → List ℕ → ℕ → Found → Type 0
+abbrev pub UsesNext : List (Option Measured) → List ℕ → ℕ → Examination → Type 0
 UsesNext table numbers next found = NextOf table (slice_get numbers next) next found
 
 -- a list or struct without parts is itself a leaf
@@ -74,7 +74,7 @@ IsJoined before (Some m) after =
     (after.complete ≡ before.complete) × (after.leaves ≡ min (before.leaves + m.leaves) (2 ^ 32 - 1)) × (after.levels ≡ max before.levels m.levels)
     × (after.leaves ≤ 65536 → after.values ≡ before.values ++ m.value ∷ [])
 
-pub record IsNext (before : Gathered) (found : Found) (after : Gathered) : Type 0 where
+pub record IsNext (before : Gathered) (found : Examination) (after : Gathered) : Type 0 where
   pub joined : IsJoined before found.value after
   pub first : after.first ≡ lesser_of before.first found.first
   pub next : after.next ≡ found.next
@@ -92,11 +92,11 @@ abbrev pub measured_with : Value → ℕ → ℕ → Measured
 measured_with v n d = record { value = v; leaves = n; levels = d }
 
 -- the value that is made of the parts' values
-abbrev pub found_of : (List Value → Value) → Whole → Found
+abbrev pub found_of : (List Value → Value) → Whole → Examination
 found_of made s = record { value = option_map (λ vs. measured_with (made vs) s.leaves s.levels) s.values; first = s.first; next = s.next }
 
 -- a negation from its operand, which stands at `inner`
-pub record MinusFound (place inner : Place) (operand found : Found) : Type 0 where
+pub record MinusFound (place inner : Place) (operand found : Examination) : Type 0 where
   pub number : Option ℤ
   pub broken : Option Refusal
   pub kind : Option Refusal
@@ -108,7 +108,7 @@ pub record MinusFound (place inner : Place) (operand found : Found) : Type 0 whe
   pub next : found.next ≡ operand.next
 
 -- what an operator makes of its operands, which stand at `one` and `other`
-pub record BinaryFound (place : Place) (operator : Operator) (one other : Place) (left right found : Found) : Type 0 where
+pub record BinaryFound (place : Place) (operator : Operator) (one other : Place) (left right found : Examination) : Type 0 where
   pub number : Option ℤ
   pub broken : Option Refusal
   pub left_kind : Option Refusal
@@ -134,7 +134,7 @@ AreGiven source table numbers (m ∷ ms) from =
     ((number : ℕ) × (slice_get numbers from ≡ Some number) × Means (definitions source) m.scope m.name m.group number × IsExact source number (value_at table number))
     × AreGiven source table numbers ms (from + 1)
 
-pub record IsFound (source : Source) (scope : Path) (e : Expr) (from : ℕ) (found : Found) : Type 0 where
+pub record IsFound (source : Source) (scope : Path) (e : Expr) (from : ℕ) (found : Examination) : Type 0 where
   pub measured : AreMeasured found.value
   pub value : IsValue source scope (opened e) (plain found.value)
   pub first : IsLeast (BrokenIn source scope e) found.first
@@ -159,12 +159,12 @@ pub record IsGathered (source : Source) (scope : Path) (es : List Expr) (from : 
   pub next : g.next ≡ from + length (flat_map (in_expression scope) es)
 
 -- where the meanings and values of its uses are given, what is found is right
-abbrev pub Examines : List (Option Measured) → List ℕ → Expr → ℕ → Found → Type 0
+abbrev pub Examines : List (Option Measured) → List ℕ → Expr → ℕ → Examination → Type 0
 Examines table numbers e from found =
     (source : Source) (scope : Path) → AreGiven source table numbers (in_expression scope e) from → IsFound source scope e from found
 
 -- the same of every expression of this form that begins at this place
-abbrev pub ExaminesForm : List (Option Measured) → List ℕ → Form → Place → ℕ → Found → Type 0
+abbrev pub ExaminesForm : List (Option Measured) → List ℕ → Form → Place → ℕ → Examination → Type 0
 ExaminesForm table numbers form place from found = (e : Expr) → e.form ≡ form → e.at.first ≡ place → Examines table numbers e from found
 
 abbrev pub ExaminesAll : List (Option Measured) → List ℕ → List Expr → ℕ → Gathered → Type 0

@@ -14,13 +14,13 @@ pub record Edge (stretches : List Stretch) (targets : List ℕ) (from to : ℕ) 
 
 module _ (stretches : List Stretch) (targets : List ℕ) where
   -- from the one to the other in one use after another, at least one
-  pub data Leads : ℕ → ℕ → Type 0 where
-    one : {from to : ℕ} → Edge stretches targets from to → Leads from to
-    more : {from between to : ℕ} → Leads from between → Edge stretches targets between to → Leads from to
+  pub data UsesThrough : ℕ → ℕ → Type 0 where
+    one : {from to : ℕ} → Edge stretches targets from to → UsesThrough from to
+    more : {from between to : ℕ} → UsesThrough from between → Edge stretches targets between to → UsesThrough from to
 
   -- it uses itself, perhaps through others
   abbrev pub IsCyclic : ℕ → Type 0
-  IsCyclic v = Leads v v
+  IsCyclic v = UsesThrough v v
 
   -- so many uses one after another from a definition on; no definition of them is on a cycle
   pub data Line : ℕ → ℕ → Type 0 where

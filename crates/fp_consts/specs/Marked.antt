@@ -11,7 +11,7 @@ use Rattle.fp_meaning.specs.Origins.{Placed, placed}
 use Rattle.fp_meaning.specs.Values.{opened, IsValue}
 use Rattle.fp_meaning.specs.ConstantFaults.{BrokenIn}
 use Rattle.fp_consts.specs.declared.measured.Measured.{Measured}
-use Rattle.fp_consts.specs.declared.found.Found.{Found}
+use Rattle.fp_consts.specs.declared.found.Examination.{Examination}
 use Rattle.fp_consts.specs.declared.pieces.Numbered.{Numbered}
 use Rattle.fp_consts.specs.declared.pieces.Basis.{Basis}
 use Rattle.fp_consts.specs.declared.pieces.Piece.{Piece}
@@ -55,7 +55,7 @@ MarksPiece table numbers piece before after =
 abbrev pub Counts : List ℕ → ℕ → ℕ → Type 0
 Counts numbers before after = before < length numbers → after ≡ before + 1
 
-pub record AddsFound (before : Marking) (found : Found) (after : Marking) : Type 0 where
+pub record AddsFound (before : Marking) (found : Examination) (after : Marking) : Type 0 where
   pub at : after.at ≡ before.at ++ plain found.value ∷ []
   pub first : after.first ≡ lesser_of before.first found.first
   pub next : after.next ≡ found.next

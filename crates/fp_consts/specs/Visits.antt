@@ -8,7 +8,7 @@ use Rattle.fp_consts.specs.declared.visit.Met.{Met}
 use Rattle.fp_consts.specs.declared.visit.Met.TheVariants as met
 use Rattle.fp_consts.specs.declared.visit.Frame.{Frame}
 use Rattle.fp_consts.specs.declared.visit.Walk.{Walk}
-use Rattle.fp_consts.specs.Graph.{Edge, Leads, IsCyclic}
+use Rattle.fp_consts.specs.Graph.{Edge, UsesThrough, IsCyclic}
 
 abbrev pub Among : {A : Type 0} → List A → A → Type 0
 Among [] x = ⊥
@@ -64,9 +64,9 @@ module _ (stretches : List Stretch) (targets : List ℕ) where
     pub heads_fall : Falls s.heads
     pub heads_in : (head : ℕ) → Among s.heads head → Among (places s.frames) head
     pub bottom : 0 < length s.opened → Among s.heads 0
-    pub down : (place v w : ℕ) → slice_get s.opened place ≡ Some v → slice_get s.opened (suc place) ≡ Some w → Leads stretches targets v w
+    pub down : (place v w : ℕ) → slice_get s.opened place ≡ Some v → slice_get s.opened (suc place) ≡ Some w → UsesThrough stretches targets v w
     pub up : (place v w : ℕ) → slice_get s.opened place ≡ Some v → slice_get s.opened (suc place) ≡ Some w
-        → (Among s.heads (suc place) → ⊥) → Leads stretches targets w v
+        → (Among s.heads (suc place) → ⊥) → UsesThrough stretches targets w v
     pub met : (place v at w : ℕ) (stretch : Stretch) → slice_get s.opened place ≡ Some v → slice_get stretches v ≡ Some stretch
         → stretch.first ≤ at → at < stretch.end → TargetIs at w → Waits s.frames place at ⊎ (IsMet s place w ⊎ (pending ≡ Some w))
     pub closed : (v w : ℕ) → IsDone s.marks v → Edge stretches targets v w → IsDone s.marks w

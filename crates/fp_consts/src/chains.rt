@@ -1,6 +1,6 @@
 ghost use Rattle.std.specs.Prelude.{◌≡◌, length};
 ghost use Rattle.fp_base.specs.Least.{InSome, IsLeast};
-ghost use Rattle.fp_consts.specs.Chains.{Marked, MarkedAt};
+ghost use Rattle.fp_consts.specs.Chains.{MarkedBy, MarkedAt};
 
 use crate::depths::is_flagged;
 use fp_base::{Place, Refusal, Rule, lesser, refusal_if};
@@ -19,7 +19,7 @@ fn fault_at(place: Place, cyclic: bool, deep: bool) -> Option<Refusal>
 pub fn chain_faults(places: &[Place], cyclic: &[bool], deep: &[bool]) -> Option<Refusal>
     requires cyclic { length cyclic.now ≡ length places.now }
     requires deep { length deep.now ≡ length places.now }
-    ensures { IsLeast (InSome (Marked cyclic.now deep.now) places.now) result }
+    ensures { IsLeast (InSome (MarkedBy cyclic.now deep.now) places.now) result }
 {
     let mut first = None;
     'all: for number in 0..places.len() {

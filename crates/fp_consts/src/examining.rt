@@ -2,7 +2,7 @@ ghost use Rattle.std.specs.Prelude.{IfOk};
 ghost use Rattle.fp_tree.specs.declared.expression.Form.TheVariants.{Array, Struct};
 ghost use Rattle.fp_consts.specs.Examined.{Examines, ExaminesForm};
 
-use crate::found::{Found, binary, float, minus, simple, text, used};
+use crate::found::{Examination, binary, float, minus, simple, text, used};
 use crate::gathered::{begun, extended, listed, sized, structured};
 use crate::measured::Measured;
 use fp_base::{NoMemory, Place, Value};
@@ -18,7 +18,7 @@ pub fn examine(
     table: &[Option<Measured>],
     meanings: &[u32],
     next: usize,
-) -> Result<Found, NoMemory>
+) -> Result<Examination, NoMemory>
     ensures { IfOk result (Examines table.now meanings.now expression.now next) }
 {
     let place = expression.at.first;
@@ -59,7 +59,7 @@ fn of_list(
     table: &[Option<Measured>],
     meanings: &[u32],
     next: usize,
-) -> Result<Found, NoMemory>
+) -> Result<Examination, NoMemory>
     ensures { IfOk result (ExaminesForm table.now meanings.now (Array items.now) place next) }
 {
     let mut gathered = begun(alloc, next);
@@ -79,7 +79,7 @@ fn of_struct(
     table: &[Option<Measured>],
     meanings: &[u32],
     next: usize,
-) -> Result<Found, NoMemory>
+) -> Result<Examination, NoMemory>
     ensures { IfOk result (ExaminesForm table.now meanings.now (Struct members.now) place next) }
 {
     let mut gathered = begun(alloc, next);
@@ -97,7 +97,7 @@ fn of_member(
     table: &[Option<Measured>],
     meanings: &[u32],
     next: usize,
-) -> Result<Found, NoMemory>
+) -> Result<Examination, NoMemory>
     ensures { IfOk result (Examines table.now meanings.now member.now.value next) }
 {
     examine(alloc, &member.value, table, meanings, next)

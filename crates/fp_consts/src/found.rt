@@ -12,7 +12,7 @@ use std::alloc::Global;
 
 /// What is found of an expression: its value, if it has one, the first of what is broken in it, and the number of the use behind it.
 #[derive(Drop)]
-pub struct Found {
+pub struct Examination {
     pub value: Option<Measured>,
     pub first: Option<Refusal>,
     pub next: usize,
@@ -24,14 +24,14 @@ pub fn used(
     table: &[Option<Measured>],
     meanings: &[u32],
     next: usize,
-) -> Result<Found, NoMemory>
+) -> Result<Examination, NoMemory>
     ensures { IfOk result (λ found. UsesNext table.now meanings.now next found) }
 {
     let Some(number) = meanings.get(next) else {
         return Ok(nothing(next));
     };
     let value = copy_at(alloc, table, *number)?;
-    Ok(Found {
+    Ok(Examination {
         value,
         first: None,
         next: next + 1,
@@ -52,10 +52,10 @@ fn copy_at(
     }
 }
 
-fn nothing(next: usize) -> Found
+fn nothing(next: usize) -> Examination
     ensures { result ≡ record { value = None; first = None; next = next } }
 {
-    Found {
+    Examination {
         value: None,
         first: None,
         next,
@@ -63,17 +63,17 @@ fn nothing(next: usize) -> Found
 }
 
 /// A value without parts, and nothing broken.
-pub fn simple(value: Value, next: usize) -> Found
+pub fn simple(value: Value, next: usize) -> Examination
     ensures { result ≡ record { value = Some (leaf_of value); first = None; next = next } }
 {
-    Found {
+    Examination {
         value: Some(leaf(value)),
         first: None,
         next,
     }
 }
 
-pub fn text(alloc: Global, text: &Text, next: usize) -> Result<Found, NoMemory>
+pub fn text(alloc: Global, text: &Text, next: usize) -> Result<Examination, NoMemory>
     ensures { IfOk result (λ found. found ≡ record { value = Some (leaf_of (Words text.now)); first = None; next = next }) }
 {
     let copy = text.copy(alloc)?;
@@ -81,10 +81,10 @@ pub fn text(alloc: Global, text: &Text, next: usize) -> Result<Found, NoMemory>
 }
 
 /// A float has no value and is broken by itself.
-pub fn float(place: Place, next: usize) -> Found
+pub fn float(place: Place, next: usize) -> Examination
     ensures { result ≡ record { value = None; first = Some (broken_at FloatUsed place); next = next } }
 {
-    Found {
+    Examination {
         value: None,
         first: Some(refusal_at(Rule::FloatUsed, place)),
         next,
@@ -92,7 +92,7 @@ pub fn float(place: Place, next: usize) -> Found
 }
 
 /// The negation of what was found of its operand, which stands at `inner`.
-pub fn minus(place: Place, inner: Place, operand: Found) -> Found
+pub fn minus(place: Place, inner: Place, operand: Examination) -> Examination
     ensures { MinusFound place inner operand result }
 {
     let taken = operand_in(&operand.value);
@@ -106,9 +106,9 @@ pub fn binary(
     operator: Operator,
     first: Place,
     second: Place,
-    left: Found,
-    right: Found,
-) -> Found
+    left: Examination,
+    right: Examination,
+) -> Examination
     ensures { BinaryFound place operator first second left right result }
 {
     let one = operand_in(&left.value);
@@ -124,7 +124,7 @@ pub fn binary(
 }
 
 /// What is found of an expression that an operator makes, from what is found within.
-fn operated(outcome: Outcome, kinds: Option<Refusal>, within: Option<Refusal>, next: usize) -> Found
+fn operated(outcome: Outcome, kinds: Option<Refusal>, within: Option<Refusal>, next: usize) -> Examination
     ensures value { result.value ≡ option_map (λ n. leaf_of (Int n)) outcome.number }
     ensures first { result.first ≡ lesser_of (lesser_of outcome.broken kinds) within }
     ensures next { result.next ≡ next }
@@ -133,7 +133,7 @@ fn operated(outcome: Outcome, kinds: Option<Refusal>, within: Option<Refusal>, n
         Some(number) => Some(leaf(Value::Int(number))),
         None => None,
     };
-    Found {
+    Examination {
         value,
         first: lesser(lesser(outcome.broken, kinds), within),
         next,

@@ -3,7 +3,7 @@ ghost use Rattle.fp_base.specs.declared.value.Value.TheVariants.{Array, Struct};
 ghost use Rattle.fp_meaning.specs.Values.{parts_with};
 ghost use Rattle.fp_consts.specs.Examined.{found_of, IsNext, IsSized};
 
-use crate::found::Found;
+use crate::found::Examination;
 use crate::measured::Measured;
 use fp_base::{NoMemory, Part, Place, Refusal, Row, Rule, Value, lesser, refusal_at};
 use fp_tree::Assignment;
@@ -59,7 +59,7 @@ fn joined(
 }
 
 /// With what is found of one expression more.
-pub fn extended(alloc: Global, before: Gathered, found: Found) -> Result<Gathered, NoMemory>
+pub fn extended(alloc: Global, before: Gathered, found: Examination) -> Result<Gathered, NoMemory>
     ensures { IfOk result (λ after. IsNext before found after) }
 {
     let first = lesser(before.first, found.first);
@@ -155,7 +155,7 @@ pub fn sized(place: Place, parts: Gathered) -> Whole
 }
 
 /// A list of values.
-pub fn listed(whole: Whole) -> Found
+pub fn listed(whole: Whole) -> Examination
     ensures { result ≡ found_of Array whole }
 {
     let Whole {
@@ -173,11 +173,11 @@ pub fn listed(whole: Whole) -> Found
         }),
         None => None,
     };
-    Found { value, first, next }
+    Examination { value, first, next }
 }
 
 /// A struct of values, each under its member's name.
-pub fn structured(alloc: Global, members: &[Assignment], whole: Whole) -> Result<Found, NoMemory>
+pub fn structured(alloc: Global, members: &[Assignment], whole: Whole) -> Result<Examination, NoMemory>
     ensures { IfOk result (λ found. found ≡ found_of (λ vs. Struct (parts_with members.now vs)) whole) }
 {
     let Whole {
@@ -188,7 +188,7 @@ pub fn structured(alloc: Global, members: &[Assignment], whole: Whole) -> Result
         next,
     } = whole;
     let Some(values) = values else {
-        return Ok(Found {
+        return Ok(Examination {
             value: None,
             first,
             next,
@@ -200,7 +200,7 @@ pub fn structured(alloc: Global, members: &[Assignment], whole: Whole) -> Result
         leaves,
         levels,
     });
-    Ok(Found { value, first, next })
+    Ok(Examination { value, first, next })
 }
 
 /// The values under the members' names.

@@ -28,7 +28,7 @@ pub use components::{Sorted, in_order};
 pub use depths::too_deep;
 pub use evaluating::{evaluate, evaluate_all};
 pub use examining::examine;
-pub use found::Found;
+pub use found::Examination;
 pub use laws::{never_opaque, none_on_cycle, parts_are_whole, settled_is_exact};
 pub use measured::{Measured, leaf};
 pub use operand::{Operand, Outcome, kind_fault, negation, operand_in, operation};

@@ -3,7 +3,7 @@ ghost use Rattle.fp_consts.specs.Examined.{plain};
 ghost use Rattle.fp_consts.specs.Marked.{AddsFound, Counts, Marks, MarksBasis, MarksExpression, MarksNumber, MarksPiece};
 
 use crate::examining::examine;
-use crate::found::Found;
+use crate::found::Examination;
 use crate::measured::Measured;
 use crate::pieces::{Basis, Numbered, Piece};
 use fp_base::{NoMemory, Refusal, Row, Value, lesser};
@@ -143,11 +143,11 @@ fn with_expression(
     with_found(before, found)
 }
 
-fn with_found(before: Marking, found: Found) -> Result<Marking, NoMemory>
+fn with_found(before: Marking, found: Examination) -> Result<Marking, NoMemory>
     ensures { IfOk result (AddsFound before found) }
 {
     let Marking { mut at, first, .. } = before;
-    let Found {
+    let Examination {
         value,
         first: broken,
         next,

@@ -217,8 +217,8 @@ one_reading text end last ms ns r s = same_reading end last ms ns r.rest s.rest 
 
 -- ---- answers
 
-pub Answers : List ℕ → Result Format FormatFault → Type 0
-Answers text r = MatchResult r (λ f. IsFormat text f.parts) (λ given. IsCause given text)
+pub AnswersFormat : List ℕ → Result Format FormatFault → Type 0
+AnswersFormat text r = MatchResult r (λ f. IsFormat text f.parts) (λ given. IsCause given text)
 
 pub only_format : (text : List ℕ) (r : Result Format FormatFault) → MatchResult r (λ f. IsFormat text f.parts) (λ given. IsCause given text) → (parts : List Piece) → IsFormat text parts → MatchResult r (λ f. f.parts ≡ parts) (λ given. given ≡ fault.NoMemory)
 only_format text (Ok f) a parts g =

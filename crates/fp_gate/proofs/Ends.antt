@@ -179,11 +179,11 @@ module _ {T N I : Type 0} (name : T → N) (history : T → List (Entry I)) wher
   }
 
   -- the value of the last table, which has the name of the view v, and each list that v keeps
-  abbrev pub Found : View N I → List (Option T) → Type 0
-  Found v xs = (x : T) × (get_elem? xs 0 ≡ some (Some x)) × (v.name ≡ Some (name x)) × (entries_of v.number (history x) ≡ v.left)
+  abbrev pub HasTable : View N I → List (Option T) → Type 0
+  HasTable v xs = (x : T) × (get_elem? xs 0 ≡ some (Some x)) × (v.name ≡ Some (name x)) × (entries_of v.number (history x) ≡ v.left)
       × ((i : ℕ) (o : Kept N I) → get_elem? v.others i ≡ some o → (entries_of o.number (history x) ≡ o.left) × (o.name ≡ Some (name x)))
 
-  closing : (n : N) (id : ℕ) (v : View N I) (ws : List ℕ) (xs : List (Option T)) → v.name ≢ None → v.in_turn ≡ false → 0 < v.made → KeepsAll v → Final (Seen (Rule n) id v) ws xs → Found v xs
+  closing : (n : N) (id : ℕ) (v : View N I) (ws : List ℕ) (xs : List (Option T)) → v.name ≢ None → v.in_turn ≡ false → 0 < v.made → KeepsAll v → Final (Seen (Rule n) id v) ws xs → HasTable v xs
   closing n id v ws xs is off first all f = go r.placed
     where
       s : State (Option T) (View N I)
@@ -209,7 +209,7 @@ module _ {T N I : Type 0} (name : T → N) (history : T → List (Entry I)) wher
           let it : spent ≡ u = some-injective spent u (sym q.1 ∙ (ap (get_elem? s.views) o.3 ∙ there)) in
           let f : false ≡ true = ap (λ (z : View N I). z.in_turn) it ∙ on in absurd (cc)
 
-      go : Placed name history n r.h s.homes s.views → Found v xs
+      go : Placed name history n r.h s.homes s.views → HasTable v xs
       go (inl p) = let same = p.3 in let mine = named_as v n id ok.sort live in (
         p.0,
         f.4 0 (Some p.0) (ap (λ (hs : List (maybe.Option (Option T))). get_elem? hs 0) p.1),
@@ -228,5 +228,5 @@ module _ {T N I : Type 0} (name : T → N) (history : T → List (Entry I)) wher
   pub starts_at : (x y : T) (xs : List (Option T)) → y ≡ x → xs ≡ Some x ∷ [] → history x ≡ [] → Ruled name history (name y) (opening (0 ∷ 0 ∷ []) xs (first_view (name y)))
   starts_at x y xs e f bare = subst (λ (t : T × List (Option T)). Ruled name history (name t.0) (opening (0 ∷ 0 ∷ []) t.1 (first_view (name t.0)))) (λ i. (sym e i, sym f i)) (ruled name history (name x) _ (starting x bare))
 
-  pub closes : (n : N) (id : ℕ) (v : View N I) (ws : List ℕ) (xs : List (Option T)) → v.name ≢ None → v.in_turn ≡ false → 0 < v.made → KeepsAll v → Final (Seen (Ruled name history n) id v) ws xs → Found v xs
+  pub closes : (n : N) (id : ℕ) (v : View N I) (ws : List ℕ) (xs : List (Option T)) → v.name ≢ None → v.in_turn ≡ false → 0 < v.made → KeepsAll v → Final (Seen (Ruled name history n) id v) ws xs → HasTable v xs
   closes n id v ws xs is off first all f = closing n id v ws xs is off first all (f.0, (working name history n f.0 f.1.0, f.1.1), f.2, f.3, f.4)

@@ -15,7 +15,7 @@ use Rattle.fp_gate.specs.Views.{new_view}
 use Rattle.fp_gate.specs.Rule.{Ruled}
 use Rattle.fp_gate.specs.Steps.{Known, own, both}
 use Rattle.fp_gate.specs.Passes.{view, made_at, EachAt, IsPass, IsIdle, IsNew, Closes}
-use Rattle.fp_gate.proofs.Ends.{KeepsAll, Found, closes}
+use Rattle.fp_gate.proofs.Ends.{KeepsAll, HasTable, closes}
 
 module _ {A : Type 0} where
   -- P of each element and its place, counted from k
@@ -112,7 +112,7 @@ module _ {A T N I : Type 0} (f : A → Seat (Option T) (View N I)) (name : T →
   at_end n id table seats me p after ws xs h long some_seats live is f' =
       let v : View N I = record (view (f p)) { others = owns f table seats after } in let made : (view (f p)).made ≡ seats = h.0.0.2 in
       let last : Final (Seen (Ruled name history n) id v) ws xs = subst (λ (m : Known T N I). Final (Seen (Ruled name history n) id m.0) ws xs) is f' in
-      let found : Found name history v xs = closes name history n id v ws xs live h.0.1.1 (omega (arith, made, some_seats)) (keeps_all f table seats p after h long) last in
+      let found : HasTable name history v xs = closes name history n id v ws xs live h.0.1.1 (omega (arith, made, some_seats)) (keeps_all f table seats p after h long) last in
       (found.0, found.1, all_done f name history found.0 table seats p after xs h found.2 found.3 found.4)
 
 pub same_slot : {A : Type 0} (xs : List A) (i : ℕ) (a b : A) → get_elem? xs i ≡ some a → get_elem? xs i ≡ some b → a ≡ b

@@ -59,15 +59,15 @@ module _ {N I : Type 0} where
   turn_or_not [] = inr (λ j v at. absurd (some-ne-none v (sym at)))
   turn_or_not (x ∷ xs) = go x.in_turn refl (turn_or_not xs)
     where
-      Found : Type 0
-      Found = (j : ℕ) × (v : View N I) × (get_elem? (x ∷ xs) j ≡ some v) × (v.in_turn ≡ true)
+      InTurn : Type 0
+      InTurn = (j : ℕ) × (v : View N I) × (get_elem? (x ∷ xs) j ≡ some v) × (v.in_turn ≡ true)
 
       none_here : x.in_turn ≡ false → ((j : ℕ) (v : View N I) → get_elem? xs j ≡ some v → v.in_turn ≡ false) → (j : ℕ) (v : View N I) → get_elem? (x ∷ xs) j ≡ some v → v.in_turn ≡ false
       none_here off more zero v at = ap (λ (u : View N I). u.in_turn) (sym (some-injective x v at)) ∙ off
       none_here off more (suc j) v at = more j v at
 
       go : (b : Bool) → x.in_turn ≡ b → ((j : ℕ) × (v : View N I) × (get_elem? xs j ≡ some v) × (v.in_turn ≡ true)) ⊎ ((j : ℕ) (v : View N I) → get_elem? xs j ≡ some v → v.in_turn ≡ false)
-          → Found ⊎ ((j : ℕ) (v : View N I) → get_elem? (x ∷ xs) j ≡ some v → v.in_turn ≡ false)
+          → InTurn ⊎ ((j : ℕ) (v : View N I) → get_elem? (x ∷ xs) j ≡ some v → v.in_turn ≡ false)
       go true on more = inl (0, x, refl, on)
       go false off (inl t) = inl (suc t.0, t.1, t.2, t.3)
       go false off (inr none_in) = inr (none_here off none_in)

@@ -13,7 +13,7 @@ use Rattle.fp_base.specs.declared.rule.Rule.TheVariants.{BadCharacter, OpenStrin
 use Rattle.fp_base.specs.declared.refusal.Stop.{Stop}
 use Rattle.fp_base.specs.declared.refusal.Stop.TheVariants.{Broken}
 use Rattle.fp_lexer.specs.Found.{IsSmall, IsFlawed, IsFirstFlaw}
-use Rattle.fp_lexer.specs.Tokens.{IsPiece, Piece, Cuts}
+use Rattle.fp_lexer.specs.Tokens.{IsLexeme, Lexeme, Cuts}
 use Rattle.fp_lexer.specs.Bytes.{long_text, indent_at}
 use Rattle.fp_lexer.specs.Broken.{Reached, NoneBegins, LargeBegins, BadEscapeAt, BrokenAt, IsUnbroken, ComesBefore, IsFirstBroken, IsStop, longest_text}
 use Rattle.fp_lexer.specs.declared.token.Word.TheVariants.{Number, Str}
@@ -41,7 +41,7 @@ bad_in_text text from at b =
 
 -- but the length, and the first byte that belongs to no character, nothing is broken before an offset as far as which pieces reach in
 -- which nothing is broken before it
-pub before_reached : (text : List ℕ) (to m : ℕ) (ps : List Piece) (other : Rule) (there : ℕ) → Cuts text 0 ps to → Each (IsFine text m) ps → m ≤ to → length text ≤ longest_text → BrokenAt text other there
+pub before_reached : (text : List ℕ) (to m : ℕ) (ps : List Lexeme) (other : Rule) (there : ℕ) → Cuts text 0 ps to → Each (IsFine text m) ps → m ≤ to → length text ≤ longest_text → BrokenAt text other there
     → (m ≤ there) ⊎ (there ≡ utf8_valid_len text)
 before_reached text to m ps BadCharacter there c s le short b = elim b.1 [
   | inl e ↦ inr e
@@ -125,7 +125,7 @@ large_row text at TextTooLong lt k l b = omega arith
 large_row text at _ lt k l b = absurd b
 
 -- no escape is bad where whole pieces end
-no_bad_end : (text : List ℕ) (at : ℕ) (ps : List Piece) → Cuts text 0 ps at → AllWhole text ps → BrokenAt text BadEscape at → ⊥
+no_bad_end : (text : List ℕ) (at : ℕ) (ps : List Lexeme) → Cuts text 0 ps at → AllWhole text ps → BrokenAt text BadEscape at → ⊥
 no_bad_end text at ps c s b = elim (meet (IsWhole text) text 0 0 at b.0 ps b.1.0 refl c s b.1.1) [
   | inl h ↦ let k = bad_behind text b.0 at b.2 in omega (arith, h, k)
   | inr p ↦ p.2.1 at (subst (λ (k : ℕ). BadEscapeAt text k at) (sym p.3) b.2)
@@ -135,17 +135,17 @@ no_bad_end text at ps c s b = elim (meet (IsWhole text) text 0 0 at b.0 ps b.1.0
 
 -- pieces to the end of the string, in which nothing is broken before it
 pub record FineString (text : List ℕ) (there : ℕ) : Type 0 where
-  pub ps : List Piece
+  pub ps : List Lexeme
   pub to : ℕ
   pub cuts : Cuts text 0 ps to
   pub fine : Each (IsFine text there) ps
   pub behind : there < to
 
-fine_string : (text : List ℕ) (at there : ℕ) (ps : List Piece) → Cuts text 0 ps at → AllWhole text ps → IsFlawed text at BadEscape there → FineString text there
+fine_string : (text : List ℕ) (at there : ℕ) (ps : List Lexeme) → Cuts text 0 ps at → AllWhole text ps → IsFlawed text at BadEscape there → FineString text there
 fine_string text at there ps c s f =
     let raw = f.0.0 in
     let body = f.0.2 in
-    let p : Piece = record { what = Some (Str (long_text (indent_at text at) raw)); from = at; past = at + 6 + length raw } in
+    let p : Lexeme = record { what = Some (Str (long_text (indent_at text at) raw)); from = at; past = at + 6 + length raw } in
     let w = bad_within raw f.0.1 f.0.3 in
     let e = f.0.4 in
     record {
@@ -183,7 +183,7 @@ flaw_within text at there rule h f = flaw_kinds text at there rule _ f
     (λ r e q n. omega (arith, h, e)) (λ r e q n. omega (arith, h, e)) (λ r e l. omega (arith, h, e)) (λ r g. bad_in_text text at there g.0)
 
 -- a flaw at the start of its piece
-at_start : (text : List ℕ) (at there : ℕ) (rule : Rule) (ps : List Piece) → Cuts text 0 ps at → AllWhole text ps → length text ≤ longest_text → at < utf8_valid_len text → there ≡ at
+at_start : (text : List ℕ) (at there : ℕ) (rule : Rule) (ps : List Lexeme) → Cuts text 0 ps at → AllWhole text ps → length text ≤ longest_text → at < utf8_valid_len text → there ≡ at
     → BrokenAt text rule at → ((other : Rule) → BrokenAt text other at → row rule ≤ row other) → IsFirstFlaw text (record { rule = rule; at = there })
 at_start text at there rule ps c s short lt e b h = record {
   broken = subst (λ (k : ℕ). BrokenAt text rule k) (sym e) b;
@@ -192,7 +192,7 @@ at_start text at there rule ps c s short lt e b h = record {
 }
 
 -- a flaw of the piece that begins where whole pieces end, within the characters
-pub first_flaw : (text : List ℕ) (at : ℕ) (ps : List Piece) (flaw : Flaw) → at < length text → at < utf8_valid_len text → length text ≤ longest_text → Cuts text 0 ps at → AllWhole text ps
+pub first_flaw : (text : List ℕ) (at : ℕ) (ps : List Lexeme) (flaw : Flaw) → at < length text → at < utf8_valid_len text → length text ≤ longest_text → Cuts text 0 ps at → AllWhole text ps
     → IsFlawed text at flaw.rule flaw.at → flaw.at < utf8_valid_len text → IsFirstFlaw text flaw
 first_flaw text at ps flaw h lt short c s f valid = flaw_kinds text at flaw.at flaw.rule (IsFirstFlaw text flaw) f
     (λ r e q n. as_rule r (at_start text at flaw.at BadCharacter ps c s short lt e (h, inr ((ps, c), q, n)) (λ other o. first_row text at other o)))
@@ -211,7 +211,7 @@ first_flaw text at ps flaw h lt short c s f valid = flaw_kinds text at flaw.at f
     as_rule {rule} r g = subst (λ (x : Rule). IsFirstFlaw text (record { rule = x; at = flaw.at })) (sym r) g
 
 -- the first byte that belongs to no character, where pieces reach it in which nothing is broken before it
-mangled : (text : List ℕ) (to valid : ℕ) (ps : List Piece) → valid ≡ utf8_valid_len text → valid < length text → length text ≤ longest_text → Cuts text 0 ps to → Each (IsFine text valid) ps → valid ≤ to
+mangled : (text : List ℕ) (to valid : ℕ) (ps : List Lexeme) → valid ≡ utf8_valid_len text → valid < length text → length text ≤ longest_text → Cuts text 0 ps to → Each (IsFine text valid) ps → valid ≤ to
     → IsFirstFlaw text (record { rule = BadCharacter; at = valid })
 mangled text to valid ps v h short c s le = record {
   broken = (h, inl v);
@@ -219,12 +219,12 @@ mangled text to valid ps v h short c s le = record {
   here = λ other b. first_row text valid other b;
 }
 
-pub mangled_flaw : (text : List ℕ) (at valid : ℕ) (ps : List Piece) → valid ≡ utf8_valid_len text → valid < length text → length text ≤ longest_text → Cuts text 0 ps at → AllWhole text ps → valid ≤ at
+pub mangled_flaw : (text : List ℕ) (at valid : ℕ) (ps : List Lexeme) → valid ≡ utf8_valid_len text → valid < length text → length text ≤ longest_text → Cuts text 0 ps at → AllWhole text ps → valid ≤ at
     → IsFirstFlaw text (record { rule = BadCharacter; at = valid })
 mangled_flaw text at valid ps v h short c s le = mangled text at valid ps v h short c (whole_fine text valid ps s) le
 
 -- it stands in a string, before a bad escape
-pub mangled_string : (text : List ℕ) (at valid : ℕ) (ps : List Piece) (flaw : Flaw) → valid ≡ utf8_valid_len text → valid < length text → length text ≤ longest_text → Cuts text 0 ps at → AllWhole text ps → at < valid
+pub mangled_string : (text : List ℕ) (at valid : ℕ) (ps : List Lexeme) (flaw : Flaw) → valid ≡ utf8_valid_len text → valid < length text → length text ≤ longest_text → Cuts text 0 ps at → AllWhole text ps → at < valid
     → IsFlawed text at flaw.rule flaw.at → valid ≤ flaw.at → IsFirstFlaw text (record { rule = BadCharacter; at = valid })
 mangled_string text at valid ps flaw v h short c s lt f le = flaw_kinds text at flaw.at flaw.rule _ f
     (λ r e q n. absurd (omega (arith, e, le, lt)))
@@ -262,7 +262,7 @@ long_flawed text flaw v long f z = flaw_kinds text 0 flaw.at flaw.rule (IsFirstF
     at_zero : (rule : Rule) → BrokenAt text rule 0 → BrokenAt text rule flaw.at
     at_zero rule b = subst (λ (k : ℕ). BrokenAt text rule k) (sym z) b
 
-long_row : (text : List ℕ) (p : Piece) (other : Rule) → (utf8_valid_len text ≡ 0 → ⊥) → IsPiece text p → IsSmall p.what → p.from ≡ 0 → BrokenAt text other 0 → 5 ≤ row other
+long_row : (text : List ℕ) (p : Lexeme) (other : Rule) → (utf8_valid_len text ≡ 0 → ⊥) → IsLexeme text p → IsSmall p.what → p.from ≡ 0 → BrokenAt text other 0 → 5 ≤ row other
 long_row text p BadCharacter v i small e b = elim b.1 [ inl z ↦ absurd (v (sym z)) | inr n ↦ piece_none text p 0 _ i e n.2 ]
 long_row text p OpenString v i small e b = piece_none text p 0 _ i e b.2
 long_row text p BadEscape v i small e b = absurd (no_bad_start text b)
@@ -271,7 +271,7 @@ long_row text p TextTooLong v i small e b = omega arith
 long_row text p _ v i small e b = absurd b
 
 -- its first piece has none
-pub long_first : (text : List ℕ) (p : Piece) → (utf8_valid_len text ≡ 0 → ⊥) → IsPiece text p → IsSmall p.what → p.from ≡ 0 → longest_text < length text → IsFirstFlaw text (record { rule = TextTooLong; at = 0 })
+pub long_first : (text : List ℕ) (p : Lexeme) → (utf8_valid_len text ≡ 0 → ⊥) → IsLexeme text p → IsSmall p.what → p.from ≡ 0 → longest_text < length text → IsFirstFlaw text (record { rule = TextTooLong; at = 0 })
 long_first text p v i small e long = record {
   broken = (refl, long);
   before = λ other there b. omega arith;
@@ -289,7 +289,7 @@ long_string text flaw v long f z = flaw_kinds text 0 flaw.at flaw.rule _ f
 -- ---- no flaw
 
 -- whole pieces to the end of characters: nothing is broken
-pub unbroken : (file : ℕ) (text : List ℕ) (ps : List Piece) → Cuts text 0 ps (length text) → AllWhole text ps → length text ≤ longest_text → IsUtf8 text → IsUnbroken file text
+pub unbroken : (file : ℕ) (text : List ℕ) (ps : List Lexeme) → Cuts text 0 ps (length text) → AllWhole text ps → length text ≤ longest_text → IsUtf8 text → IsUnbroken file text
 unbroken file text ps c s short utf8 rule place b =
     let v = utf8_valid_len-IsUtf8 text utf8 in
     let le : length text ≤ b.0 = elim (before_reached text (length text) (length text) ps rule b.0 c (whole_fine text (length text) ps s) (omega arith) short b.2) [ inl h ↦ h | inr e ↦ omega (arith, e, v) ] in

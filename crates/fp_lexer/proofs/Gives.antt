@@ -9,9 +9,9 @@ use Rattle.fp_base.specs.Names.{is_letter, is_digit, is_name_byte, is_name}
 use Rattle.fp_lexer.specs.Bytes.{is_hex_digit, body_text, line, newline_len, newline_at, indent_at, trimmed}
 use Rattle.fp_lexer.specs.Words.{words}
 use Rattle.fp_lexer.specs.Scan.{run_value, run_hex, hex_starts, tail_len, float_len, string_len, other, long_len}
-use Rattle.fp_lexer.specs.Found.{HasNoBadEscape, IsSmall, GivesPiece, what_of}
+use Rattle.fp_lexer.specs.Found.{HasNoBadEscape, IsSmall, GivesLexeme, what_of}
 use Rattle.fp_lexer.specs.Broken.{NoneBegins, LargeBegins, BadEscapeAt}
-use Rattle.fp_lexer.specs.Tokens.{Spells, begins_long, IsLongest, IsPiece, Piece, hex_after}
+use Rattle.fp_lexer.specs.Tokens.{Spells, begins_long, IsLongest, IsLexeme, Lexeme, hex_after}
 use Rattle.fp_lexer.specs.declared.shape.Shape.{Shape}
 use Rattle.fp_lexer.specs.declared.shape.Shape.TheVariants as shape
 use Rattle.fp_lexer.specs.declared.token.Word.{Word}
@@ -44,7 +44,7 @@ no_long text at there e b = let body = b.2 in let y : true ≡ false = sym (ap b
 -- ---- names
 
 -- from the byte at an offset and the rest to the text
-piece_at : (text : List ℕ) (at past : ℕ) (what : Option Word) (w : List ℕ) → at < length text → IsLongest (indent_at text at) (get_or text at 0 ∷ drop (at + 1) text) w what → past ≡ at + length w → IsPiece text (record { what = what; from = at; past = past })
+piece_at : (text : List ℕ) (at past : ℕ) (what : Option Word) (w : List ℕ) → at < length text → IsLongest (indent_at text at) (get_or text at 0 ∷ drop (at + 1) text) w what → past ≡ at + length w → IsLexeme text (record { what = what; from = at; past = past })
 piece_at text at past what w h l e = (w, subst (λ (xs : List ℕ). IsLongest (indent_at text at) xs w what) (sym (drop_more text at 0 h)) l, e)
 
 -- the run of bytes that begins with the byte at an offset
@@ -73,7 +73,7 @@ not_number : (w : Word) → ((n : ℕ) → Some w ≡ Some (Number (pos n)) → 
 not_number w f n e = absurd (f n e)
 
 pub gives_reserved : (text : List ℕ) (at past k : ℕ) → at < length text → is_letter (get_or text at 0) ≡ true → past ≡ at + prefix_len is_name_byte (drop at text)
-    → slice_get words k ≡ Some (take (past - at) (drop at text)) → GivesPiece text at (Ok (shape.Reserved k, past))
+    → slice_get words k ≡ Some (take (past - at) (drop at text)) → GivesLexeme text at (Ok (shape.Reserved k, past))
 gives_reserved text at past k h l e s =
     let r = run_is is_name_byte text at past h (letter_is (get_or text at 0) l) e in (
       piece_at text at past (Some (Reserved k)) _ h (name_longest (indent_at text at) (get_or text at 0) (drop (at + 1) text) (Some (Reserved k)) l (s ∙ ap Some r)) (run_past is_name_byte text at past h (letter_is (get_or text at 0) l) e),
@@ -83,7 +83,7 @@ gives_reserved text at past k h l e s =
     )
 
 pub gives_name : (text : List ℕ) (at past : ℕ) → at < length text → is_letter (get_or text at 0) ≡ true → past ≡ at + prefix_len is_name_byte (drop at text)
-    → ((k : ℕ) → slice_get words k ≡ Some (take (past - at) (drop at text)) → ⊥) → GivesPiece text at (Ok (shape.Name (record { from = at; past = past }), past))
+    → ((k : ℕ) → slice_get words k ≡ Some (take (past - at) (drop at text)) → ⊥) → GivesLexeme text at (Ok (shape.Name (record { from = at; past = past }), past))
 gives_name text at past h l e f =
     let name = take (past - at) (drop at text) in
     let r = run_is is_name_byte text at past h (letter_is (get_or text at 0) l) e in
@@ -122,27 +122,27 @@ tail_here : (text : List ℕ) (at : ℕ) → tail_len (drop (prefix_len is_digit
 tail_here text at = ap tail_len (drop-drop (prefix_len is_digit (drop at text)) at text)
 
 number_piece : (text : List ℕ) (at past : ℕ) → at < length text → is_digit (get_or text at 0) ≡ true → hex_at text at ≡ false → tail_at text at ≡ 0 → past ≡ at + prefix_len is_digit (drop at text)
-    → IsPiece text (record { what = Some (Number (pos (run_value 0 (drop at text)))); from = at; past = past })
+    → IsLexeme text (record { what = Some (Number (pos (run_value 0 (drop at text)))); from = at; past = past })
 number_piece text at past h l bare whole e =
     let xs = drop at text in
     let w = take (prefix_len is_digit xs) xs in
     let z = length-take (prefix_len is_digit xs) xs in
     let m = prefix_len-le-length is_digit xs in
-    subst (λ (n : ℕ). IsPiece text (record { what = Some (Number (pos n)); from = at; past = past })) (sym (run_value-is 0 xs))
+    subst (λ (n : ℕ). IsLexeme text (record { what = Some (Number (pos n)); from = at; past = past })) (sym (run_value-is 0 xs))
     (w, number_longest (indent_at text at) xs (digit_here text at h l) (hex_here text at ∙ bare) (tail_here text at ∙ whole), omega (arith, e, z, m))
 
 -- a number that was read
-gives_value : (text : List ℕ) (at past value n : ℕ) (z : ℤ) → z ≡ pos value → value < 2 ^ 127 → value ≡ n → HasNoBadEscape text at → IsPiece text (record { what = Some (Number (pos n)); from = at; past = past }) → GivesPiece text at (Ok (shape.Number z, past))
+gives_value : (text : List ℕ) (at past value n : ℕ) (z : ℤ) → z ≡ pos value → value < 2 ^ 127 → value ≡ n → HasNoBadEscape text at → IsLexeme text (record { what = Some (Number (pos n)); from = at; past = past }) → GivesLexeme text at (Ok (shape.Number z, past))
 gives_value text at past value n z zv small v none p =
     let same : z ≡ pos n = zv ∙ ap pos v in (
-      subst (λ (x : ℤ). IsPiece text (record { what = Some (Number x); from = at; past = past })) (sym same) p,
+      subst (λ (x : ℤ). IsLexeme text (record { what = Some (Number x); from = at; past = past })) (sym same) p,
       λ m q. let k : m ≡ value = cc in omega arith,
       λ utf8. tt,
       none,
     )
 
 pub gives_number : (text : List ℕ) (at past value : ℕ) (z : ℤ) → at < length text → is_digit (get_or text at 0) ≡ true → hex_at text at ≡ false → tail_at text at ≡ 0 → z ≡ pos value → value < 2 ^ 127 → value ≡ run_value 0 (drop at text)
-    → past ≡ at + prefix_len is_digit (drop at text) → GivesPiece text at (Ok (shape.Number z, past))
+    → past ≡ at + prefix_len is_digit (drop at text) → GivesLexeme text at (Ok (shape.Number z, past))
 gives_number text at past value z h l bare whole zv small v e = gives_value text at past value (run_value 0 (drop at text)) z zv small v (no_bad text at (λ q. let y : true ≡ false = sym l ∙ ap is_digit q in cc)) (number_piece text at past h l bare whole e)
 
 pub large_begins : (text : List ℕ) (at : ℕ) → at < length text → is_digit (get_or text at 0) ≡ true → hex_at text at ≡ false → tail_at text at ≡ 0 → 2 ^ 127 ≤ run_value 0 (drop at text) → LargeBegins text at
@@ -153,7 +153,7 @@ tail_none text at digits past d p f =
     let same = ap (λ (k : ℕ). tail_len (drop k text)) d in omega (arith, same, p, f)
 
 pub gives_float : (text : List ℕ) (at digits past : ℕ) → at < length text → is_digit (get_or text at 0) ≡ true → hex_at text at ≡ false → digits ≡ at + prefix_len is_digit (drop at text)
-    → past ≡ digits + tail_len (drop digits text) → digits < past → GivesPiece text at (Ok (shape.Float, past))
+    → past ≡ digits + tail_len (drop digits text) → digits < past → GivesLexeme text at (Ok (shape.Float, past))
 gives_float text at digits past h l bare d p more =
     let xs = drop at text in
     let tail : tail_len (drop (prefix_len is_digit xs) xs) ≡ tail_len (drop digits text) = tail_here text at ∙ ap (λ (k : ℕ). tail_len (drop k text)) (sym d) in
@@ -170,7 +170,7 @@ hex_within (x ∷ xs) zero e = omega arith
 hex_within (x ∷ xs) (suc i) e = let l = hex_within xs i e in omega (arith, l)
 
 hex_piece : (text : List ℕ) (at past : ℕ) → at < length text → hex_at text at ≡ true → past ≡ (at + 2) + prefix_len is_hex_digit (drop (at + 2) text)
-    → IsPiece text (record { what = Some (Number (pos (run_hex 0 (drop (at + 2) text)))); from = at; past = past })
+    → IsLexeme text (record { what = Some (Number (pos (run_hex 0 (drop (at + 2) text)))); from = at; past = past })
 hex_piece text at past h e p =
     let a = get_or text at 0 in let x = get_or text (at + 1) 0 in let d = get_or text (at + 2) 0 in
     let t = drop (at + 3) text in
@@ -189,14 +189,14 @@ hex_piece text at past h e p =
     let value : run_hex 0 (drop (at + 2) text) ≡ hex_after 0 (d ∷ take (prefix_len is_hex_digit t) t) = run_hex-is 0 (drop (at + 2) text) ∙ ap (hex_after 0) (ap (λ (k : ℕ). take k (drop (at + 2) text)) (sym n) ∙ part) in
     let size = run_past is_hex_digit text (at + 2) past in2 d_is p in
     let size2 = ap (λ (k : ℕ). (at + 2) + length (d ∷ take (prefix_len is_hex_digit (drop k text)) (drop k text))) three in
-    subst (λ (k : ℕ). IsPiece text (record { what = Some (Number (pos k)); from = at; past = past })) (sym value) (
+    subst (λ (k : ℕ). IsLexeme text (record { what = Some (Number (pos k)); from = at; past = past })) (sym value) (
       48 ∷ x ∷ d ∷ take (prefix_len is_hex_digit t) t,
       subst (λ (xs : List ℕ). IsLongest (indent_at text at) xs (48 ∷ x ∷ d ∷ take (prefix_len is_hex_digit t) t) (Some (Number (pos (hex_after 0 (d ∷ take (prefix_len is_hex_digit t) t)))))) (sym split) (hex_longest (indent_at text at) x d t x_is d_is),
       omega (arith, size, size2),
     )
 
 pub gives_hex : (text : List ℕ) (at past value : ℕ) (z : ℤ) → at < length text → hex_at text at ≡ true → z ≡ pos value → value < 2 ^ 127 → value ≡ run_hex 0 (drop (at + 2) text)
-    → past ≡ (at + 2) + prefix_len is_hex_digit (drop (at + 2) text) → GivesPiece text at (Ok (shape.Number z, past))
+    → past ≡ (at + 2) + prefix_len is_hex_digit (drop (at + 2) text) → GivesLexeme text at (Ok (shape.Number z, past))
 gives_hex text at past value z h e zv small v p = gives_value text at past value (run_hex 0 (drop (at + 2) text)) z zv small v (no_bad text at (λ q. let y : true ≡ false = sym e ∙ ap (λ (b : ℕ). hex_starts b (get_or text (at + 1) 0) (get_or text (at + 2) 0)) q in cc)) (hex_piece text at past h e p)
 
 pub large_hex : (text : List ℕ) (at : ℕ) → at < length text → hex_at text at ≡ true → 2 ^ 127 ≤ run_hex 0 (drop (at + 2) text) → LargeBegins text at
@@ -206,7 +206,7 @@ lead_false : (b : ℕ) → (b ≡ 35 → ⊥) → (b ≡ 64 → ⊥) → (b ≡ 
 lead_false b f g q = ap (λ (v : Bool). v || (b == 64 || b == 34)) (ne_eqb b 35 f) ∙ ap (λ (v : Bool). v || b == 34) (ne_eqb b 64 g) ∙ ne_eqb b 34 q
 
 pub gives_other : (text : List ℕ) (at n : ℕ) (s : Shape) → at < length text → is_letter (get_or text at 0) ≡ false → is_digit (get_or text at 0) ≡ false
-    → (get_or text at 0 ≡ 35 → ⊥) → (get_or text at 0 ≡ 64 → ⊥) → (get_or text at 0 ≡ 34 → ⊥) → (get_or text at 0 ≡ 36 → ⊥) → (get_or text at 0 ≡ 92 → ⊥) → other (get_or text at 0) (get_or text (at + 1) 0) ≡ Some (s, n) → GivesPiece text at (Ok (s, at + n))
+    → (get_or text at 0 ≡ 35 → ⊥) → (get_or text at 0 ≡ 64 → ⊥) → (get_or text at 0 ≡ 34 → ⊥) → (get_or text at 0 ≡ 36 → ⊥) → (get_or text at 0 ≡ 92 → ⊥) → other (get_or text at 0) (get_or text (at + 1) 0) ≡ Some (s, n) → GivesLexeme text at (Ok (s, at + n))
 gives_other text at n s h l d hash sign quote dollar slash e =
     let next : get_or (drop (at + 1) text) 0 0 ≡ get_or text (at + 1) 0 = get_or-drop (at + 1) text 0 0 ∙ ap (λ (k : ℕ). get_or text k 0) (omega arith) in
     let o = other_ok (indent_at text at) (get_or text at 0) (drop (at + 1) text) text s n (lead_false (get_or text at 0) hash sign quote) l d (ne_eqb _ 36 dollar) (ne_eqb _ 92 slash) (ap (other (get_or text at 0)) next ∙ e) in
@@ -219,7 +219,7 @@ none_begins text at h l d hash sign quote dollar slash e w more what split s =
     other_none (indent_at text at) (get_or text at 0) (drop (at + 1) text) (lead_false (get_or text at 0) hash sign quote) l d (ne_eqb _ 36 dollar) (ne_eqb _ 92 slash) (ap (other (get_or text at 0)) next ∙ e) w more what (sym (drop_more text at 0 h) ∙ split) (subst (λ (xs : List ℕ). Spells (indent_at text at) xs w what) (drop_more text at 0 h) s)
 
 -- a piece ends within the text
-pub piece_within : (text : List ℕ) (p : Piece) → IsPiece text p → p.from ≤ length text → p.past ≤ length text
+pub piece_within : (text : List ℕ) (p : Lexeme) → IsLexeme text p → p.from ≤ length text → p.past ≤ length text
 piece_within text p i h =
     let l = i.1 in
     let e = ap length l.splits in
@@ -233,7 +233,7 @@ piece_within text p i h =
 pub first_is : (text : List ℕ) (at b : ℕ) → at < length text → get_or text at 0 ≡ b → drop at text ≡ b ∷ drop (at + 1) text
 first_is text at b h e = drop_more text at 0 h ∙ ap (λ (x : ℕ). x ∷ drop (at + 1) text) e
 
-pub gives_comment : (text : List ℕ) (at past : ℕ) → at < length text → get_or text at 0 ≡ 35 → past ≡ (at + 1) + length (line (drop (at + 1) text)) → GivesPiece text at (Ok (shape.Blank, past))
+pub gives_comment : (text : List ℕ) (at past : ℕ) → at < length text → get_or text at 0 ≡ 35 → past ≡ (at + 1) + length (line (drop (at + 1) text)) → GivesLexeme text at (Ok (shape.Blank, past))
 gives_comment text at past h b e =
     let t = drop (at + 1) text in
     let d = first_is text at 35 h b in
@@ -248,7 +248,7 @@ line_note : (t note : List ℕ) (n : ℕ) → n ≡ length (line t) → note ≡
 line_note t note n e i = i ∙ ap trimmed (ap (λ (k : ℕ). take k t) e ∙ line_takes t)
 
 pub gives_after : (text : List ℕ) (at past : ℕ) → at < length text → get_or text at 0 ≡ 64 → get_or text (at + 1) 0 ≡ 60 → past ≡ (at + 2) + length (line (drop (at + 2) text)) → past ≤ length text
-    → GivesPiece text at (Ok (shape.After (record { from = at + 2; past = past }), past))
+    → GivesLexeme text at (Ok (shape.After (record { from = at + 2; past = past }), past))
 gives_after text at past h b c e le =
     let t = drop (at + 2) text in
     let note = trimmed (take (past - (at + 2)) t) in
@@ -271,7 +271,7 @@ newline_length xs = newline_forms xs _
     (λ t e n. ap (λ (k : ℕ). length (take k xs)) n ∙ ap (λ (l : List ℕ). length (take 2 l)) e ∙ sym n)
 
 pub gives_before : (text : List ℕ) (at end past : ℕ) → at < length text → get_or text at 0 ≡ 64 → (get_or text (at + 1) 0 ≡ 60 → ⊥) → end ≡ (at + 1) + length (line (drop (at + 1) text)) → end ≤ length text
-    → past ≡ end + newline_len (drop end text) → GivesPiece text at (Ok (shape.Before (record { from = at + 1; past = end }), past))
+    → past ≡ end + newline_len (drop end text) → GivesLexeme text at (Ok (shape.Before (record { from = at + 1; past = end }), past))
 gives_before text at end past h b c e le p =
     let t = drop (at + 1) text in
     let note = trimmed (take (end - (at + 1)) t) in
@@ -300,7 +300,7 @@ gives_before text at end past h b c e le p =
 next_is : (text : List ℕ) (at : ℕ) → get_or (drop (at + 1) text) 0 0 ≡ get_or text (at + 1) 0
 next_is text at = get_or-drop (at + 1) text 0 0 ∙ ap (λ (k : ℕ). get_or text k 0) (omega arith)
 
-at_first : (text : List ℕ) (at past b : ℕ) (what : Option Word) (w : List ℕ) → at < length text → get_or text at 0 ≡ b → IsLongest (indent_at text at) (b ∷ drop (at + 1) text) w what → past ≡ at + length w → IsPiece text (record { what = what; from = at; past = past })
+at_first : (text : List ℕ) (at past b : ℕ) (what : Option Word) (w : List ℕ) → at < length text → get_or text at 0 ≡ b → IsLongest (indent_at text at) (b ∷ drop (at + 1) text) w what → past ≡ at + length w → IsLexeme text (record { what = what; from = at; past = past })
 at_first text at past b what w h e l p = (w, subst (λ (xs : List ℕ). IsLongest (indent_at text at) xs w what) (sym (first_is text at b h e)) l, p)
 
 pub none_first : (text : List ℕ) (at b : ℕ) → at < length text → get_or text at 0 ≡ b → ((w more : List ℕ) (what : Option Word) → b ∷ drop (at + 1) text ≡ w ++ more → Spells (indent_at text at) (b ∷ drop (at + 1) text) w what → ⊥) → NoneBegins text at
@@ -310,7 +310,7 @@ pub dollar_begins_none : (text : List ℕ) (at : ℕ) → at < length text → g
 dollar_begins_none text at h b e = none_first text at 36 h b (dollar_none (indent_at text at) (drop (at + 1) text) (ap is_letter (next_is text at) ∙ e))
 
 pub gives_dollar : (text : List ℕ) (at past : ℕ) → at < length text → get_or text at 0 ≡ 36 → at + 1 < length text → is_letter (get_or text (at + 1) 0) ≡ true
-    → past ≡ (at + 1) + prefix_len is_name_byte (drop (at + 1) text) → GivesPiece text at (Ok (shape.Name (record { from = at + 1; past = past }), past))
+    → past ≡ (at + 1) + prefix_len is_name_byte (drop (at + 1) text) → GivesLexeme text at (Ok (shape.Name (record { from = at + 1; past = past }), past))
 gives_dollar text at past h b g l e =
     let t = drop (at + 1) text in
     let name = take (past - (at + 1)) t in
@@ -332,7 +332,7 @@ gives_dollar text at past h b g l e =
 pub slash_begins_none : (text : List ℕ) (at : ℕ) → at < length text → get_or text at 0 ≡ 92 → newline_len (drop (at + 1) text) ≡ 0 → NoneBegins text at
 slash_begins_none text at h b e = none_first text at 92 h b (slash_none (indent_at text at) (drop (at + 1) text) e)
 
-pub gives_slash : (text : List ℕ) (at n : ℕ) → at < length text → get_or text at 0 ≡ 92 → n ≡ newline_len (drop (at + 1) text) → (n ≡ 0 → ⊥) → GivesPiece text at (Ok (shape.Blank, at + 1 + n))
+pub gives_slash : (text : List ℕ) (at n : ℕ) → at < length text → get_or text at 0 ≡ 92 → n ≡ newline_len (drop (at + 1) text) → (n ≡ 0 → ⊥) → GivesLexeme text at (Ok (shape.Blank, at + 1 + n))
 gives_slash text at n h b e k =
     let s = slash_longest (indent_at text at) (drop (at + 1) text) (λ z. k (e ∙ z)) in
     let l = s.2 in
@@ -361,7 +361,7 @@ first_behind [] b more = refl
 first_behind (x ∷ raw) b more = first_behind raw b more
 
 pub gives_string : (text : List ℕ) (at end : ℕ) → at < length text → get_or text at 0 ≡ 34 → (get_or text (at + 1) 0 == 34 && get_or text (at + 2) 0 == 34) ≡ false
-    → at + 1 ≤ end → end < length text → string_len false (drop (at + 1) text) ≡ Some (end - (at + 1)) → GivesPiece text at (Ok (shape.Str (record { from = at + 1; past = end }), end + 1))
+    → at + 1 ≤ end → end < length text → string_len false (drop (at + 1) text) ≡ Some (end - (at + 1)) → GivesLexeme text at (Ok (shape.Str (record { from = at + 1; past = end }), end + 1))
 gives_string text at end h q l le lt e =
     let t = drop (at + 1) text in
     let d = first_is text at 34 h q in

@@ -4,9 +4,9 @@ use Rattle.std.specs.Prelude.{◌==◌}
 use Rattle.std.proofs.lemmas.Bool.{eqb-true}
 use Rattle.fp_lexer.specs.Bytes.{long_text, indent_at}
 use Rattle.fp_lexer.specs.Scan.{long_len, bad_len, string_len}
-use Rattle.fp_lexer.specs.Found.{IsPart, IsFlawed, GivesPiece}
+use Rattle.fp_lexer.specs.Found.{IsPart, IsFlawed, GivesLexeme}
 use Rattle.fp_lexer.specs.Broken.{NoneBegins}
-use Rattle.fp_lexer.specs.Tokens.{begins_long, IsLongBody, IsPiece}
+use Rattle.fp_lexer.specs.Tokens.{begins_long, IsLongBody, IsLexeme}
 use Rattle.fp_base.specs.declared.rule.Rule.TheVariants.{BadEscape}
 use Rattle.fp_lexer.specs.declared.shape.Shape.TheVariants as shape
 use Rattle.fp_lexer.specs.declared.token.Word.TheVariants.{Str}
@@ -48,7 +48,7 @@ unclosed text at h q l e =
     ∙ ap (long_quoted (indent_at text at) (drop 2 t)) (ap (long_len false) behind ∙ e)))
 
 -- a body at a place is a piece
-pub body_piece : (text : List ℕ) (at : ℕ) (raw : List ℕ) → IsLongBody (drop at text) raw → IsPiece text (record { what = Some (Str (long_text (indent_at text at) raw)); from = at; past = at + 6 + length raw })
+pub body_piece : (text : List ℕ) (at : ℕ) (raw : List ℕ) → IsLongBody (drop at text) raw → IsLexeme text (record { what = Some (Str (long_text (indent_at text at) raw)); from = at; past = at + 6 + length raw })
 body_piece text at raw body =
     let w = 34 ∷ 34 ∷ 34 ∷ raw ++ 34 ∷ 34 ∷ 34 ∷ [] in
     let a = length-append raw (34 ∷ 34 ∷ 34 ∷ []) in (
@@ -93,7 +93,7 @@ bad_in_text text at end n r e =
     let size = r.size in omega (arith, h, size)
 
 pub gives_long : (text : List ℕ) (at end : ℕ) → at < length text → get_or text at 0 ≡ 34 → long_at text at → at + 3 ≤ end → end + 3 ≤ length text → LongRead text at end
-    → bad_len false (take (end - (at + 3)) (drop (at + 3) text)) ≡ None → GivesPiece text at (Ok (shape.Long (record { from = at + 3; past = end }), end + 3))
+    → bad_len false (take (end - (at + 3)) (drop (at + 3) text)) ≡ None → GivesLexeme text at (Ok (shape.Long (record { from = at + 3; past = end }), end + 3))
 gives_long text at end h q l le within r none =
     let raw = take (end - (at + 3)) (drop (at + 3) text) in
     let size = r.size in
@@ -103,7 +103,7 @@ gives_long text at end h q l le within r none =
     ap (λ (k : ℕ). get_or text k 0) there ∙ sym (get_or-drop at text (3 + length raw) 0) ∙ ap (λ (x : List ℕ). get_or x (3 + length raw) 0) r.body.splits
     ∙ ap (λ (k : ℕ). get_or (34 ∷ 34 ∷ 34 ∷ raw ++ 34 ∷ 34 ∷ 34 ∷ r.body.more) k 0) behind ∙ first_behind (34 ∷ 34 ∷ 34 ∷ raw) 34 (34 ∷ 34 ∷ r.body.more) in
     let third_is = third text at l in (
-      subst (λ (k : ℕ). IsPiece text (record { what = Some (Str (long_text (indent_at text at) raw)); from = at; past = k })) (omega (arith, size)) (body_piece text at raw r.body),
+      subst (λ (k : ℕ). IsLexeme text (record { what = Some (Str (long_text (indent_at text at) raw)); from = at; past = k })) (omega (arith, size)) (body_piece text at raw r.body),
       λ n z. cc,
       λ utf8. subst (λ (k : ℕ). IsPart text (record { from = k; past = end })) (omega arith)
           (quoted_part text (at + 2) end utf8 (long_within text at l) (omega (arith, third_is)) (omega (arith, le)) (omega (arith, within)) (omega (arith, close))),

@@ -4,7 +4,7 @@ use Rattle.std.specs.List.{suffix_len}
 use Rattle.std.proofs.lemmas.Grind.{common_steps}
 use Rattle.fp_base.specs.Places.{place_at}
 use Rattle.fp_base.specs.declared.place.Place.{Place}
-use Rattle.fp_lexer.specs.Tokens.{Piece, Cuts, Lexed, Rising, tokens_of, with_token, span_at}
+use Rattle.fp_lexer.specs.Tokens.{Lexeme, Cuts, Lexed, Rising, tokens_of, with_token, span_at}
 use Rattle.fp_lexer.specs.Newlines.{kept, is_newline, ignored_by_rest, Ground, ignored, ignores, after, after_newline}
 use Rattle.fp_lexer.specs.Broken.{ComesBefore}
 use Rattle.fp_lexer.specs.declared.token.Word.{Word}
@@ -55,7 +55,7 @@ with_rises : (file : ℕ) (text : List ℕ) (what : Option Word) (from past : �
 with_rises file text None from past ts lt r = rising_from file text from past ts (omega arith) r
 with_rises file text (Some w) from past ts lt r = (from, past, omega arith, lt, refl, r)
 
-pieces_rise : (file : ℕ) (text : List ℕ) (from : ℕ) (ps : List Piece) → Cuts text from ps (length text) → Rising file text from (tokens_of file text ps)
+pieces_rise : (file : ℕ) (text : List ℕ) (from : ℕ) (ps : List Lexeme) → Cuts text from ps (length text) → Rising file text from (tokens_of file text ps)
 pieces_rise file text from [] c = omega arith
 pieces_rise file text from (p ∷ ps) c =
     subst (λ (k : ℕ). Rising file text k (tokens_of file text (p ∷ ps))) c.0

@@ -4,7 +4,7 @@ use Rattle.std.specs.Prelude.{◌==◌, slice_index}
 use Rattle.std.proofs.lemmas.Bool.{eqb-true}
 use Rattle.fp_base.specs.declared.place.Span.{Span}
 use Rattle.fp_lexer.specs.Bytes.{line, newline_of, newline_len, newline_at, trimmed, body_text, long_text, indent_at}
-use Rattle.fp_lexer.specs.Tokens.{Spells, Lined, OneLine, ManyLines, begins_long, IsPiece, Piece, Cuts, Lexed, tokens_of, with_token, span_at}
+use Rattle.fp_lexer.specs.Tokens.{Spells, Lined, OneLine, ManyLines, begins_long, IsLexeme, Lexeme, Cuts, Lexed, tokens_of, with_token, span_at}
 use Rattle.fp_lexer.specs.Newlines.{kept, is_newline, ignored_by_rest, ignored_before, ignores, Ground, counts, ignored, separated, after, after_newline}
 use Rattle.fp_lexer.specs.Alike.{bytes_of, seen, token_pieces, WrittenAlike, AllAlike, DifferInBlanks, words_of}
 use Rattle.fp_lexer.specs.declared.token.Word.{Word}
@@ -121,7 +121,7 @@ indent_alike n m (b ∷ u) f = ap (λ (v : Option Word). cond (b == 35) None (co
 -- ---- pieces that are written alike
 
 -- the bytes of a piece are those that it spells
-piece_bytes : (text : List ℕ) (p : Piece) (i : IsPiece text p) → bytes_of text p ≡ i.0
+piece_bytes : (text : List ℕ) (p : Lexeme) (i : IsLexeme text p) → bytes_of text p ≡ i.0
 piece_bytes text p i = let e = i.2 in ap (λ (xs : List ℕ). take (p.past - p.from) xs) i.1.splits ∙ take_at i.0 i.1.more (p.past - p.from) (omega (arith, e))
 
 what_alike : (n m : ℕ) (rest other w more after : List ℕ) (a b : Option Word) → rest ≡ w ++ more → other ≡ w ++ after → Spells n rest w a → Spells m other w b
@@ -131,7 +131,7 @@ what_alike n m rest other w more after a b e f s t g = elim s [
   | inr p ↦ elim t [ inl q ↦ not_spelled n rest w w more a b _ p e q | inr q ↦ sym (lined_meant n rest w a p) ∙ indent_alike n m w g ∙ lined_meant m other w b q ]
 ]
 
-piece_alike : (text other : List ℕ) (p q : Piece) → IsPiece text p → IsPiece other q → WrittenAlike text p other q → p.what ≡ q.what
+piece_alike : (text other : List ℕ) (p q : Lexeme) → IsLexeme text p → IsLexeme other q → WrittenAlike text p other q → p.what ≡ q.what
 piece_alike text other p q i j a =
     let w : i.0 ≡ j.0 = sym (piece_bytes text p i) ∙ a.0 ∙ piece_bytes other q j in
     let splits : drop q.from other ≡ i.0 ++ j.1.more = j.1.splits ∙ ap (λ (x : List ℕ). x ++ j.1.more) (sym w) in
@@ -145,7 +145,7 @@ abbrev with_word : Option Word → List Word → List Word
 with_word None ws = ws
 with_word (Some w) ws = w ∷ ws
 
-abbrev words_in : List Piece → List Word
+abbrev words_in : List Lexeme → List Word
 words_in [] = []
 words_in (p ∷ ps) = with_word p.what (words_in ps)
 
@@ -153,20 +153,20 @@ with_words : (what : Option Word) (span : Span) (ts : List Token) (ws : List Wor
 with_words None span ts ws e = e
 with_words (Some w) span ts ws e = ap (λ (x : List Word). w ∷ x) e
 
-words_are : (file : ℕ) (text : List ℕ) (ps : List Piece) → words_of (tokens_of file text ps) ≡ words_in ps
+words_are : (file : ℕ) (text : List ℕ) (ps : List Lexeme) → words_of (tokens_of file text ps) ≡ words_in ps
 words_are file text [] = refl
 words_are file text (p ∷ ps) = with_words p.what (span_at file text p.from p.past) (tokens_of file text ps) (words_in ps) (words_are file text ps)
 
 -- the pieces are pieces of the text
-abbrev AllPieces : List ℕ → List Piece → Type 0
+abbrev AllPieces : List ℕ → List Lexeme → Type 0
 AllPieces text [] = Unit {0}
-AllPieces text (p ∷ ps) = IsPiece text p × AllPieces text ps
+AllPieces text (p ∷ ps) = IsLexeme text p × AllPieces text ps
 
-cuts_pieces : (text : List ℕ) (from to : ℕ) (ps : List Piece) → Cuts text from ps to → AllPieces text ps
+cuts_pieces : (text : List ℕ) (from to : ℕ) (ps : List Lexeme) → Cuts text from ps to → AllPieces text ps
 cuts_pieces text from to [] c = tt
 cuts_pieces text from to (p ∷ ps) c = (c.1, cuts_pieces text p.past to ps c.2)
 
-seen_pieces : (text : List ℕ) (behind : Bool) (what : Option Word) (p : Piece) (rest : Bool → List Piece) → IsPiece text p → ((b : Bool) → AllPieces text (rest b)) → AllPieces text (seen behind what p rest)
+seen_pieces : (text : List ℕ) (behind : Bool) (what : Option Word) (p : Lexeme) (rest : Bool → List Lexeme) → IsLexeme text p → ((b : Bool) → AllPieces text (rest b)) → AllPieces text (seen behind what p rest)
 seen_pieces text behind None p rest i a = a behind
 seen_pieces text behind (Some w) p rest i a = by_newline (is_newline w) behind
   where
@@ -175,7 +175,7 @@ seen_pieces text behind (Some w) p rest i a = by_newline (is_newline w) behind
     by_newline true false = (i, a true)
     by_newline false b = (i, a false)
 
-token_pieces_are : (text : List ℕ) (behind : Bool) (ps : List Piece) → AllPieces text ps → AllPieces text (token_pieces behind ps)
+token_pieces_are : (text : List ℕ) (behind : Bool) (ps : List Lexeme) → AllPieces text ps → AllPieces text (token_pieces behind ps)
 token_pieces_are text behind [] a = tt
 token_pieces_are text behind (p ∷ ps) a = seen_pieces text behind p.what p (λ b. token_pieces b ps) a.0 (λ b. token_pieces_are text b ps a.1)
 
@@ -184,12 +184,12 @@ abbrev once : Bool → List Word → List Word
 once behind [] = []
 once behind (w ∷ ws) = cond (is_newline w) (cond behind (once true ws) (w ∷ once true ws)) (w ∷ once false ws)
 
-seen_words : (behind : Bool) (what : Option Word) (p : Piece) (rest : Bool → List Piece) (ws : List Word) → p.what ≡ what → ((b : Bool) → words_in (rest b) ≡ once b ws)
+seen_words : (behind : Bool) (what : Option Word) (p : Lexeme) (rest : Bool → List Lexeme) (ws : List Word) → p.what ≡ what → ((b : Bool) → words_in (rest b) ≡ once b ws)
     → words_in (seen behind what p rest) ≡ once behind (with_word what ws)
 seen_words behind None p rest ws e f = f behind
 seen_words behind (Some w) p rest ws e f = by_newline (is_newline w) behind
   where
-    with_first : (us : List Piece) (vs : List Word) → words_in us ≡ vs → words_in (p ∷ us) ≡ w ∷ vs
+    with_first : (us : List Lexeme) (vs : List Word) → words_in us ≡ vs → words_in (p ∷ us) ≡ w ∷ vs
     with_first us vs g = ap (λ (o : Option Word). with_word o (words_in us)) e ∙ ap (λ (x : List Word). w ∷ x) g
 
     by_newline : (n b : Bool) → words_in (cond n (cond b (rest true) (p ∷ rest true)) (p ∷ rest false)) ≡ cond n (cond b (once true ws) (w ∷ once true ws)) (w ∷ once false ws)
@@ -197,11 +197,11 @@ seen_words behind (Some w) p rest ws e f = by_newline (is_newline w) behind
     by_newline true false = with_first (rest true) (once true ws) (f true)
     by_newline false b = with_first (rest false) (once false ws) (f false)
 
-token_words : (behind : Bool) (ps : List Piece) → words_in (token_pieces behind ps) ≡ once behind (words_in ps)
+token_words : (behind : Bool) (ps : List Lexeme) → words_in (token_pieces behind ps) ≡ once behind (words_in ps)
 token_words behind [] = refl
 token_words behind (p ∷ ps) = seen_words behind p.what p (λ b. token_pieces b ps) (words_in ps) refl (λ b. token_words b ps)
 
-alike_words : (text other : List ℕ) (ps qs : List Piece) → AllPieces text ps → AllPieces other qs → AllAlike text ps other qs → words_in ps ≡ words_in qs
+alike_words : (text other : List ℕ) (ps qs : List Lexeme) → AllPieces text ps → AllPieces other qs → AllAlike text ps other qs → words_in ps ≡ words_in qs
 alike_words text other [] [] i j a = refl
 alike_words text other [] (q ∷ qs) i j a = absurd a
 alike_words text other (p ∷ ps) [] i j a = absurd a
@@ -293,7 +293,7 @@ kept_once b here (w ∷ ws) i = bool_cases (is_newline w) _
     ∙ sym (cond_false (is_newline w) (cond (ignores here || ends_by ws) (kept_words (after_newline here) ws) (w ∷ kept_words (after_newline here) ws)) (w ∷ plain) e))
 
 -- the words of a text by its pieces
-words_told : (file : ℕ) (text : List ℕ) (tokens : List Token) (ps : List Piece) → Lexed file text tokens → Cuts text 0 ps (length text) → words_of tokens ≡ kept_words ignored (words_in (token_pieces true ps))
+words_told : (file : ℕ) (text : List ℕ) (tokens : List Token) (ps : List Lexeme) → Lexed file text tokens → Cuts text 0 ps (length text) → words_of tokens ≡ kept_words ignored (words_in (token_pieces true ps))
 words_told file text tokens ps l c =
     let same = same_pieces text 0 0 (length text) l.0 ps refl l.1 c in
     ap words_of l.2 ∙ kept_are ignored (tokens_of file text l.0)

@@ -6,7 +6,7 @@ use Rattle.fp_base.specs.declared.place.Place.{Place}
 use Rattle.fp_base.specs.declared.place.Span.{Span}
 use Rattle.fp_lexer.specs.Bytes.{indent_at}
 use Rattle.fp_lexer.specs.Found.{IsSmall, HasNoBadEscape, resume}
-use Rattle.fp_lexer.specs.Tokens.{IsPiece, Piece, Cuts, tokens_of, Lexed, span_at}
+use Rattle.fp_lexer.specs.Tokens.{IsLexeme, Lexeme, Cuts, tokens_of, Lexed, span_at}
 use Rattle.fp_lexer.specs.Newlines.{kept, ignored}
 use Rattle.fp_lexer.specs.Broken.{IsUnbroken}
 use Rattle.fp_lexer.specs.declared.token.Word.{Word}
@@ -26,37 +26,37 @@ indent_is file text at place e = let c = ap (λ (p : Place). p.column) e in omeg
 
 -- the pieces so far, and what comes of the tokens of the rest
 pub record LexState (file : ℕ) (text : List ℕ) (tokens : List Token) (standing : Standing) (at : ℕ) : Type 0 where
-  pub ps : List Piece
+  pub ps : List Lexeme
   pub cuts : Cuts text 0 ps at
   pub whole : AllWhole text ps
-  pub told : (rest : List Piece) → kept ignored (tokens_of file text (ps ++ rest)) ≡ tokens ++ resume standing (tokens_of file text rest)
+  pub told : (rest : List Lexeme) → kept ignored (tokens_of file text (ps ++ rest)) ≡ tokens ++ resume standing (tokens_of file text rest)
 
 pub state_start : (file : ℕ) (text : List ℕ) → LexState file text [] Ignored 0
 state_start file text = record { ps = []; cuts = refl; whole = tt; told = λ rest. refl }
 
 -- a blank
 pub state_blank : (file : ℕ) (text : List ℕ) (tokens : List Token) (standing : Standing) (at past : ℕ) → LexState file text tokens standing at
-    → IsPiece text (record { what = None; from = at; past = past }) → HasNoBadEscape text at → LexState file text tokens standing past
+    → IsLexeme text (record { what = None; from = at; past = past }) → HasNoBadEscape text at → LexState file text tokens standing past
 state_blank file text tokens standing at past s i none =
-    let p : Piece = record { what = None; from = at; past = past } in
+    let p : Lexeme = record { what = None; from = at; past = past } in
     record {
       ps = s.ps ++ p ∷ [];
       cuts = cuts_push text 0 at s.ps p s.cuts refl i;
       whole = each_push (IsWhole text) s.ps p s.whole ((λ n e. cc), none);
-      told = λ rest. ap (λ (qs : List Piece). kept ignored (tokens_of file text qs)) (append_assoc s.ps (p ∷ []) rest) ∙ s.told (p ∷ rest);
+      told = λ rest. ap (λ (qs : List Lexeme). kept ignored (tokens_of file text qs)) (append_assoc s.ps (p ∷ []) rest) ∙ s.told (p ∷ rest);
     }
 
 -- a token
 pub state_token : (file : ℕ) (text : List ℕ) (old new : List Token) (before after : Standing) (at past : ℕ) (w : Word) (span : Span) → LexState file text old before at
-    → IsPiece text (record { what = Some w; from = at; past = past }) → IsSmall (Some w) → HasNoBadEscape text at → span ≡ span_at file text at past
+    → IsLexeme text (record { what = Some w; from = at; past = past }) → IsSmall (Some w) → HasNoBadEscape text at → span ≡ span_at file text at past
     → ((rest : List Token) → old ++ resume before ((record { what = w; at = span }) ∷ rest) ≡ new ++ resume after rest) → LexState file text new after past
 state_token file text old new before after at past w span s i small none e step =
-    let p : Piece = record { what = Some w; from = at; past = past } in
+    let p : Lexeme = record { what = Some w; from = at; past = past } in
     record {
       ps = s.ps ++ p ∷ [];
       cuts = cuts_push text 0 at s.ps p s.cuts refl i;
       whole = each_push (IsWhole text) s.ps p s.whole (small, none);
-      told = λ rest. ap (λ (qs : List Piece). kept ignored (tokens_of file text qs)) (append_assoc s.ps (p ∷ []) rest) ∙ s.told (p ∷ rest)
+      told = λ rest. ap (λ (qs : List Lexeme). kept ignored (tokens_of file text qs)) (append_assoc s.ps (p ∷ []) rest) ∙ s.told (p ∷ rest)
           ∙ sym (ap (λ (x : Span). old ++ resume before ((record { what = w; at = x }) ∷ tokens_of file text rest)) e) ∙ step (tokens_of file text rest);
     }
 
@@ -72,5 +72,5 @@ pub state_end : (file : ℕ) (text : List ℕ) (tokens : List Token) (standing :
 state_end file text tokens standing at s e short utf8 =
     let cuts : Cuts text 0 s.ps (length text) = subst (λ (k : ℕ). Cuts text 0 s.ps k) e s.cuts in
     let all : kept ignored (tokens_of file text s.ps) ≡ tokens =
-    ap (λ (qs : List Piece). kept ignored (tokens_of file text qs)) (sym (append-nil s.ps)) ∙ s.told [] ∙ ap (λ (ts : List Token). tokens ++ ts) (resume_none standing) ∙ append-nil tokens in
+    ap (λ (qs : List Lexeme). kept ignored (tokens_of file text qs)) (sym (append-nil s.ps)) ∙ s.told [] ∙ ap (λ (ts : List Token). tokens ++ ts) (resume_none standing) ∙ append-nil tokens in
     ((s.ps, cuts, sym all), unbroken file text s.ps cuts s.whole short utf8)

@@ -9,7 +9,7 @@ use Rattle.fp_base.specs.declared.rule.Rule.TheVariants.{BadCharacter, OpenStrin
 use Rattle.fp_base.specs.declared.refusal.Stop.{Stop}
 use Rattle.fp_base.specs.declared.refusal.Stop.TheVariants.{Broken, NoMemory}
 use Rattle.fp_lexer.specs.Bytes.{escapes, newline_len, indent_at}
-use Rattle.fp_lexer.specs.Tokens.{Spells, IsLongBody, Piece, IsPiece, Cuts}
+use Rattle.fp_lexer.specs.Tokens.{Spells, IsLongBody, Lexeme, IsLexeme, Cuts}
 use Rattle.fp_lexer.specs.declared.token.Word.{Word}
 use Rattle.fp_lexer.specs.declared.token.Word.TheVariants.{Number}
 
@@ -19,11 +19,11 @@ NoneBegins text at = (w more : List ℕ) (what : Option Word) → drop at text �
 
 -- the pieces go as far as the offset
 abbrev pub Reached : List ℕ → ℕ → Type 0
-Reached text at = (ps : List Piece) × Cuts text 0 ps at
+Reached text at = (ps : List Lexeme) × Cuts text 0 ps at
 
 -- a number too large to be a token is the longest piece there
 abbrev pub LargeBegins : List ℕ → ℕ → Type 0
-LargeBegins text at = (n past : ℕ) × IsPiece text (record { what = Some (Number (pos n)); from = at; past = past }) × (2 ^ 127 ≤ n)
+LargeBegins text at = (n past : ℕ) × IsLexeme text (record { what = Some (Number (pos n)); from = at; past = past }) × (2 ^ 127 ≤ n)
 
 -- behind so many bytes of a body stands a backslash, itself not behind one, directly before a newline; this profile: no such escape has
 -- a meaning
@@ -50,8 +50,8 @@ BrokenAt text TextTooLong at = (at ≡ 0) × (longest_text < length text)
 BrokenAt text _ at = ⊥
 
 -- a rule is broken at a place
-abbrev pub IsBroken : ℕ → List ℕ → Rule → Place → Type 0
-IsBroken file text rule place = (at : ℕ) × (place ≡ place_at file text at) × BrokenAt text rule at
+abbrev pub BreaksTokens : ℕ → List ℕ → Rule → Place → Type 0
+BreaksTokens file text rule place = (at : ℕ) × (place ≡ place_at file text at) × BrokenAt text rule at
 
 -- of two places of a file the one comes before the other: by line, then by column
 abbrev pub ComesBefore : Place → Place → Type 0
@@ -62,11 +62,11 @@ abbrev pub NotBehind : Rule → Place → Rule → Place → Type 0
 NotBehind rule place other there = ComesBefore place there ⊎ ((place.line ≡ there.line) × (place.column ≡ there.column) × (row rule ≤ row other))
 
 pub record IsFirstBroken (file : ℕ) (text : List ℕ) (rule : Rule) (place : Place) : Type 0 where
-  pub broken : IsBroken file text rule place
-  pub least : (other : Rule) (there : Place) → IsBroken file text other there → NotBehind rule place other there
+  pub broken : BreaksTokens file text rule place
+  pub least : (other : Rule) (there : Place) → BreaksTokens file text other there → NotBehind rule place other there
 
 abbrev pub IsUnbroken : ℕ → List ℕ → Type 0
-IsUnbroken file text = (rule : Rule) (place : Place) → IsBroken file text rule place → ⊥
+IsUnbroken file text = (rule : Rule) (place : Place) → BreaksTokens file text rule place → ⊥
 
 -- a stop names the first broken rule and its place, and no other place
 abbrev pub IsStop : ℕ → List ℕ → Stop → Type 0

@@ -6,7 +6,7 @@ use Rattle.fp_base.specs.Rules.{row}
 use Rattle.fp_base.specs.declared.rule.Rule.{Rule}
 use Rattle.fp_base.specs.declared.rule.Rule.TheVariants.{BadCharacter, OpenString, BadEscape, NumberTooLarge}
 use Rattle.fp_lexer.specs.Bytes.{body_text, long_text, indent_at, trimmed}
-use Rattle.fp_lexer.specs.Tokens.{IsPiece}
+use Rattle.fp_lexer.specs.Tokens.{IsLexeme}
 use Rattle.fp_lexer.specs.Newlines.{kept, ignored_by_rest, Ground, counts, ignored, separated}
 use Rattle.fp_lexer.specs.Broken.{NoneBegins, LargeBegins, BadEscapeAt, BrokenAt}
 use Rattle.fp_lexer.specs.declared.token.Token.{Token}
@@ -14,13 +14,13 @@ use Rattle.fp_lexer.specs.declared.token.Word.{Word}
 use Rattle.fp_lexer.specs.declared.token.Word.TheVariants.{Name, Reserved, Number, Float, Str, Mark, Newline, Before, After}
 use Rattle.fp_lexer.specs.declared.newlines.Standing.{Standing}
 use Rattle.fp_lexer.specs.declared.newlines.Standing.TheVariants.{Counts, Ignored, Separated, Pending}
-use Rattle.fp_lexer.specs.declared.shape.Part.{Part}
+use Rattle.fp_lexer.specs.declared.shape.Extent.{Extent}
 use Rattle.fp_lexer.specs.declared.shape.Shape.{Shape}
 use Rattle.fp_lexer.specs.declared.shape.Shape.TheVariants as shape
 use Rattle.fp_lexer.specs.declared.pieces.Flaw.{Flaw}
 
 -- the bytes of a part of a text
-abbrev pub part_of : List ℕ → Part → List ℕ
+abbrev pub part_of : List ℕ → Extent → List ℕ
 part_of text part = take (part.past - part.from) (drop part.from text)
 
 -- what a shape in a text is, before which so many bytes stand in its line
@@ -38,7 +38,7 @@ what_of indent text (shape.Before part) = Some (Before (trimmed (part_of text pa
 what_of indent text (shape.After part) = Some (After (trimmed (part_of text part)))
 
 -- it begins and ends between two characters
-abbrev pub IsPart : List ℕ → Part → Type 0
+abbrev pub IsPart : List ℕ → Extent → Type 0
 IsPart text part = (part.from ≤ part.past) × IsCharBoundary text part.from × IsCharBoundary text part.past
 
 -- a shape's part begins and ends between two characters
@@ -67,11 +67,11 @@ IsFlawed text at NumberTooLarge there = (there ≡ at) × LargeBegins text at
 IsFlawed text at _ there = ⊥
 
 -- the longest piece at an offset: what it is, and where it ends
-abbrev pub GivesPiece : List ℕ → ℕ → Result (Shape × ℕ) Flaw → Type 0
-GivesPiece text at (Ok p) =
+abbrev pub GivesLexeme : List ℕ → ℕ → Result (Shape × ℕ) Flaw → Type 0
+GivesLexeme text at (Ok p) =
     let what = what_of (indent_at text at) text p.0 in
-    IsPiece text (record { what = what; from = at; past = p.1 }) × IsSmall what × (IsUtf8 text → HasPart text p.0) × HasNoBadEscape text at
-GivesPiece text at (Err flaw) = IsFlawed text at flaw.rule flaw.at
+    IsLexeme text (record { what = what; from = at; past = p.1 }) × IsSmall what × (IsUtf8 text → HasPart text p.0) × HasNoBadEscape text at
+GivesLexeme text at (Err flaw) = IsFlawed text at flaw.rule flaw.at
 
 -- a rule is broken at an offset of a text, and all that is broken lies behind it, or there and not before it in the table
 pub record IsFirstFlaw (text : List ℕ) (flaw : Flaw) : Type 0 where

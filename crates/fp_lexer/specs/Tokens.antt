@@ -118,7 +118,7 @@ abbrev pub Spells : ℕ → List ℕ → List ℕ → Option Word → Type 0
 Spells indent rest w what = Spelled w what ⊎ Lined indent rest w what
 
 -- a piece, and the offsets of its first byte and of the byte after its last
-pub record Piece : Type 0 where
+pub record Lexeme : Type 0 where
   pub what : Option Word
   pub from : ℕ
   pub past : ℕ
@@ -131,13 +131,13 @@ pub record IsLongest (indent : ℕ) (rest w : List ℕ) (what : Option Word) : T
   pub longest : (v after : List ℕ) (other : Option Word) → rest ≡ v ++ after → Spells indent rest v other → length v ≤ length w
 
 -- the longest piece that begins at its place
-abbrev pub IsPiece : List ℕ → Piece → Type 0
-IsPiece text p = (w : List ℕ) × IsLongest (indent_at text p.from) (drop p.from text) w p.what × (p.past ≡ p.from + length w)
+abbrev pub IsLexeme : List ℕ → Lexeme → Type 0
+IsLexeme text p = (w : List ℕ) × IsLongest (indent_at text p.from) (drop p.from text) w p.what × (p.past ≡ p.from + length w)
 
 -- from an offset to another the text is these pieces
-abbrev pub Cuts : List ℕ → ℕ → List Piece → ℕ → Type 0
+abbrev pub Cuts : List ℕ → ℕ → List Lexeme → ℕ → Type 0
 Cuts text from [] to = from ≡ to
-Cuts text from (p ∷ ps) to = (p.from ≡ from) × IsPiece text p × Cuts text p.past ps to
+Cuts text from (p ∷ ps) to = (p.from ≡ from) × IsLexeme text p × Cuts text p.past ps to
 
 -- ---- tokens
 
@@ -149,13 +149,13 @@ with_token None span ts = ts
 with_token (Some w) span ts = (record { what = w; at = span }) ∷ ts
 
 -- the tokens of pieces
-abbrev pub tokens_of : ℕ → List ℕ → List Piece → List Token
+abbrev pub tokens_of : ℕ → List ℕ → List Lexeme → List Token
 tokens_of file text [] = []
 tokens_of file text (p ∷ ps) = with_token p.what (span_at file text p.from p.past) (tokens_of file text ps)
 
 -- these are the tokens of the text
 abbrev pub Lexed : ℕ → List ℕ → List Token → Type 0
-Lexed file text tokens = (ps : List Piece) × Cuts text 0 ps (length text) × (tokens ≡ kept ignored (tokens_of file text ps))
+Lexed file text tokens = (ps : List Lexeme) × Cuts text 0 ps (length text) × (tokens ≡ kept ignored (tokens_of file text ps))
 
 -- the tokens stand on stretches of the text, each behind the one before, from an offset on
 abbrev pub Rising : ℕ → List ℕ → ℕ → List Token → Type 0

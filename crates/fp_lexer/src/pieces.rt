@@ -1,7 +1,7 @@
 ghost use Rattle.std.specs.Prelude.{◌≡◌, ◌≢◌, ◌+◌, ◌<◌, drop, length, slice_index, true, false, ◌==◌, ◌&&◌};
 ghost use Rattle.std.specs.List.{prefix_len};
 ghost use Rattle.fp_base.specs.Names.{is_letter, is_digit};
-ghost use Rattle.fp_lexer.specs.Found.{GivesPiece};
+ghost use Rattle.fp_lexer.specs.Found.{GivesLexeme};
 ghost use Rattle.fp_lexer.specs.Scan.{hex_starts, other, tail_len};
 
 use crate::bytes::{byte_at, is_digit, is_letter, line_end, name_end, newline_len};
@@ -10,7 +10,7 @@ use crate::scan::{
     bad_escape, digits_end, hex_number, hex_starts, long_end, number, one_mark, string_end,
     tail_end,
 };
-use crate::shape::{Part, Shape};
+use crate::shape::{Extent, Shape};
 use crate::words::reserved;
 use fp_base::Rule;
 
@@ -65,12 +65,12 @@ fn too_large(at: usize) -> Flaw
 fn name_piece(text: &[u8], at: usize) -> Result<(Shape, usize), Flaw>
     requires within { at < length text.now }
     requires letter { is_letter (slice_index text.now at) ≡ true }
-    ensures { GivesPiece text.now at result }
+    ensures { GivesLexeme text.now at result }
 {
     let past = name_end(text, at);
     match reserved(&text[at..past]) {
         Some(number) => Ok((Shape::Reserved(number), past)),
-        None => Ok((Shape::Name(Part { from: at, past }), past)),
+        None => Ok((Shape::Name(Extent { from: at, past }), past)),
     }
 }
 
@@ -78,7 +78,7 @@ fn name_piece(text: &[u8], at: usize) -> Result<(Shape, usize), Flaw>
 fn hex_piece(text: &[u8], at: usize) -> Result<(Shape, usize), Flaw>
     requires within { at < length text.now }
     requires hex { hex_starts (slice_index text.now at) (slice_index text.now (at + 1)) (slice_index text.now (at + 2)) ≡ true }
-    ensures { GivesPiece text.now at result }
+    ensures { GivesLexeme text.now at result }
 {
     match hex_number(text, at + 2) {
         Some((value, past)) => Ok((Shape::Number(value as i128), past)),
@@ -92,7 +92,7 @@ fn decimal_piece(text: &[u8], at: usize) -> Result<(Shape, usize), Flaw>
     requires digit { is_digit (slice_index text.now at) ≡ true }
     requires bare { hex_starts (slice_index text.now at) (slice_index text.now (at + 1)) (slice_index text.now (at + 2)) ≡ false }
     requires whole { tail_len (drop (at + prefix_len is_digit (drop at text.now)) text.now) ≡ 0 }
-    ensures { GivesPiece text.now at result }
+    ensures { GivesLexeme text.now at result }
 {
     match number(text, at) {
         Some((value, past)) => Ok((Shape::Number(value as i128), past)),
@@ -104,7 +104,7 @@ fn decimal_piece(text: &[u8], at: usize) -> Result<(Shape, usize), Flaw>
 fn number_piece(text: &[u8], at: usize) -> Result<(Shape, usize), Flaw>
     requires within { at < length text.now }
     requires digit { is_digit (slice_index text.now at) ≡ true }
-    ensures { GivesPiece text.now at result }
+    ensures { GivesLexeme text.now at result }
 {
     if hex_starts(text[at], byte_at(text, at + 1), byte_at(text, at + 2)) {
         return hex_piece(text, at);
@@ -122,20 +122,20 @@ fn number_piece(text: &[u8], at: usize) -> Result<(Shape, usize), Flaw>
 fn dollar_piece(text: &[u8], at: usize) -> Result<(Shape, usize), Flaw>
     requires within { at < length text.now }
     requires dollar { slice_index text.now at ≡ 36 }
-    ensures { GivesPiece text.now at result }
+    ensures { GivesLexeme text.now at result }
 {
     if !is_letter(byte_at(text, at + 1)) {
         return Err(bad(at));
     }
     let past = name_end(text, at + 1);
-    Ok((Shape::Name(Part { from: at + 1, past }), past))
+    Ok((Shape::Name(Extent { from: at + 1, past }), past))
 }
 
 /// The backslash and newline at an offset.
 fn continuation_piece(text: &[u8], at: usize) -> Result<(Shape, usize), Flaw>
     requires within { at < length text.now }
     requires backslash { slice_index text.now at ≡ 92 }
-    ensures { GivesPiece text.now at result }
+    ensures { GivesLexeme text.now at result }
 {
     let newline = newline_len(text, at + 1);
     if newline == 0 {
@@ -149,7 +149,7 @@ fn continuation_piece(text: &[u8], at: usize) -> Result<(Shape, usize), Flaw>
 fn comment_piece(text: &[u8], at: usize) -> Result<(Shape, usize), Flaw>
     requires within { at < length text.now }
     requires hash { slice_index text.now at ≡ 35 }
-    ensures { GivesPiece text.now at result }
+    ensures { GivesLexeme text.now at result }
 {
     Ok((Shape::Blank, line_end(text, at + 1)))
 }
@@ -158,15 +158,15 @@ fn comment_piece(text: &[u8], at: usize) -> Result<(Shape, usize), Flaw>
 fn annotation_piece(text: &[u8], at: usize) -> Result<(Shape, usize), Flaw>
     requires within { at < length text.now }
     requires sign { slice_index text.now at ≡ 64 }
-    ensures { GivesPiece text.now at result }
+    ensures { GivesLexeme text.now at result }
 {
     if byte_at(text, at + 1) == b'<' {
         let past = line_end(text, at + 2);
-        Ok((Shape::After(Part { from: at + 2, past }), past))
+        Ok((Shape::After(Extent { from: at + 2, past }), past))
     } else {
         let past = line_end(text, at + 1);
         Ok((
-            Shape::Before(Part { from: at + 1, past }),
+            Shape::Before(Extent { from: at + 1, past }),
             past + newline_len(text, past),
         ))
     }
@@ -185,14 +185,14 @@ fn long_piece(text: &[u8], at: usize) -> Result<(Shape, usize), Flaw>
     requires within { at < length text.now }
     requires quote { slice_index text.now at ≡ 34 }
     requires long { (slice_index text.now (at + 1) == 34 && slice_index text.now (at + 2) == 34) ≡ true }
-    ensures { GivesPiece text.now at result }
+    ensures { GivesLexeme text.now at result }
 {
     let Some(past) = long_end(text, at + 3) else {
         return Err(open_string(at));
     };
     match bad_escape(&text[at + 3..past]) {
         Some(before) => Err(bad_escape_at(at + 3 + before)),
-        None => Ok((Shape::Long(Part { from: at + 3, past }), past + 3)),
+        None => Ok((Shape::Long(Extent { from: at + 3, past }), past + 3)),
     }
 }
 
@@ -200,13 +200,13 @@ fn long_piece(text: &[u8], at: usize) -> Result<(Shape, usize), Flaw>
 fn string_piece(text: &[u8], at: usize) -> Result<(Shape, usize), Flaw>
     requires within { at < length text.now }
     requires quote { slice_index text.now at ≡ 34 }
-    ensures { GivesPiece text.now at result }
+    ensures { GivesLexeme text.now at result }
 {
     if begins_long(text, at) {
         return long_piece(text, at);
     }
     match string_end(text, at + 1) {
-        Some(past) => Ok((Shape::Str(Part { from: at + 1, past }), past + 1)),
+        Some(past) => Ok((Shape::Str(Extent { from: at + 1, past }), past + 1)),
         None => Err(open_string(at)),
     }
 }
@@ -241,7 +241,7 @@ fn other_piece(text: &[u8], at: usize) -> Result<(Shape, usize), Flaw>
     requires no_quote { slice_index text.now at ≢ 34 }
     requires no_dollar { slice_index text.now at ≢ 36 }
     requires no_backslash { slice_index text.now at ≢ 92 }
-    ensures { GivesPiece text.now at result }
+    ensures { GivesLexeme text.now at result }
 {
     match other(text[at], byte_at(text, at + 1)) {
         Some((shape, length)) => Ok((shape, at + length)),
@@ -252,7 +252,7 @@ fn other_piece(text: &[u8], at: usize) -> Result<(Shape, usize), Flaw>
 /// The longest piece at an offset.
 pub fn piece(text: &[u8], at: usize) -> Result<(Shape, usize), Flaw>
     requires { at < length text.now }
-    ensures { GivesPiece text.now at result }
+    ensures { GivesLexeme text.now at result }
 {
     let b = text[at];
     if is_letter(b) {

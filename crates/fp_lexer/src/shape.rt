@@ -12,7 +12,7 @@ use std::alloc::Global;
 
 /// A part of a text, from an offset to another.
 #[derive(Clone, Copy)]
-pub struct Part {
+pub struct Extent {
     pub from: usize,
     pub past: usize,
 }
@@ -22,20 +22,20 @@ pub struct Part {
 pub enum Shape {
     /// A blank, a comment, or a backslash and a newline.
     Blank,
-    Name(Part),
+    Name(Extent),
     Reserved(u8),
     Number(i128),
     Float,
     /// A string on one line: what stands between its `"`.
-    Str(Part),
+    Str(Extent),
     /// A string on more lines: what stands between its `"""`.
-    Long(Part),
+    Long(Extent),
     Mark(u8),
     Newline,
     /// An annotation of what follows it.
-    Before(Part),
+    Before(Extent),
     /// An annotation of what stands before it.
-    After(Part),
+    After(Extent),
 }
 
 /// How many blanks a line begins with.

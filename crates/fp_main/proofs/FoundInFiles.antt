@@ -8,7 +8,7 @@ use Rattle.fp_base.specs.declared.refusal.Refusal.{Refusal}
 use Rattle.fp_base.specs.declared.rule.Rule.{Rule}
 use Rattle.fp_base.specs.declared.rule.Rule.TheVariants.{TextTooLong}
 use Rattle.fp_lexer.proofs.Unique.{one_lexing}
-use Rattle.fp_lexer.specs.Broken.{IsBroken, IsFirstBroken, NotBehind, IsUnbroken as IsWhole}
+use Rattle.fp_lexer.specs.Broken.{BreaksTokens, IsFirstBroken, NotBehind, IsUnbroken as IsWhole}
 use Rattle.fp_lexer.specs.Tokens.{Lexed}
 use Rattle.fp_lexer.specs.declared.token.Token.{Token}
 use Rattle.fp_tree.specs.declared.member.Member.{Member}
@@ -20,7 +20,7 @@ use Rattle.fp_main.specs.gathering.Gathered.{InFiles}
 use Rattle.fp_main.specs.gathering.Reading.{Reading, BreaksText, BreaksTokens, HasTokens, Passes}
 use Rattle.fp_main.specs.gathering.Walks.{Walked, with_reading}
 
-no_later_of : (number : ℕ) (text : List ℕ) (f g : Refusal) → IsBroken number text f.rule f.place → IsBroken number text g.rule g.place → NotBehind f.rule f.place g.rule g.place → NoLater f g
+no_later_of : (number : ℕ) (text : List ℕ) (f g : Refusal) → BreaksTokens number text f.rule f.place → BreaksTokens number text g.rule g.place → NotBehind f.rule f.place g.rule g.place → NoLater f g
 no_later_of number text f g p q n =
     let same : f.place.file ≡ g.place.file = ap (λ (x : Place). x.file) p.1 ∙ sym (ap (λ (x : Place). x.file) q.1) in
     elim n [

@@ -12,7 +12,7 @@ use Rattle.fp_main.specs.gathering.Answers.{IsFound, Knows, room_left}
 use Rattle.fp_main.specs.gathering.Reading.{Reading, Gives, Passes, most_bytes}
 use Rattle.fp_main.specs.gathering.Walks.{Walked, bytes_of, has_some, is_included, next_reading, nothing_read, with_reading, with_refused}
 use Rattle.fp_main.specs.declared.gathering.progress.Progress.{Progress}
-use Rattle.fp_main.specs.declared.gathering.reading.Found.{Found}
+use Rattle.fp_main.specs.declared.gathering.reading.FileFound.{FileFound}
 
 none_there : {X : Type 0} (x : X) → Contains [] x → ⊥
 none_there x h = let lt = h.1 in absurd (omega (arith, lt))
@@ -66,7 +66,7 @@ sum_more : (f : Reading → ℕ) (readings : List Reading) (r : Reading) → sum
 sum_more f readings r = sum_by-append f readings (r ∷ []) ∙ ap (λ (n : ℕ). sum_by f readings + n) (zero_add (f r))
 
 -- what is kept, with a reading more
-pub known_more : (old new : Progress) (before : Walked) (r : Reading) (found : Found) → Knows old before → IsFound r found
+pub known_more : (old new : Progress) (before : Walked) (r : Reading) (found : FileFound) → Knows old before → IsFound r found
     → new.names ≡ old.names ++ r.name ∷ [] → new.room ≡ room_left old.room (length r.text) → new.inclusions ≡ old.inclusions + cond (has_some r.round) 1 0
     → new.tokens ≡ lesser_of old.tokens found.tokens → new.grammar ≡ lesser_of old.grammar found.grammar → new.includes ≡ old.includes
     → Knows new (with_reading before r)
@@ -99,7 +99,7 @@ known_refused old new before f known e = subst (λ (p : Progress). Knows p (with
 })
 
 -- what is given of a file that is taken in, and what is kept then
-pub taken : (old : Progress) (before : Walked) (round : List (List ℕ)) (name copied text : List ℕ) (number inclusions : ℕ) (passes : Bool) (found : Found)
+pub taken : (old : Progress) (before : Walked) (round : List (List ℕ)) (name copied text : List ℕ) (number inclusions : ℕ) (passes : Bool) (found : FileFound)
     (names : List (List ℕ)) (room : Option ℕ) (tokens grammar : Option Refusal) → Knows old before
     → number ≡ length old.names → inclusions ≡ old.inclusions + cond (has_some round) 1 0
     → MatchBool passes (IsSomeAnd old.room (λ left. left < length text)) (IsSomeAnd old.room (λ left. left < length text) → ⊥)

@@ -16,7 +16,7 @@ use Rattle.fp_meaning.specs.Broken.{HasEarlier, IsTwice, IsUnmeant}
 use Rattle.fp_base.specs.Least.{broken_at, no_later, IsLeast, lesser_of, InFirst}
 use Rattle.fp_base.proofs.Calculus.{least_none, least_only, least_flag}
 use Rattle.fp_base.proofs.Elements.{least_in_one, least_first_next}
-use Rattle.fp_names.specs.declared.lookups.Found.{Found}
+use Rattle.fp_names.specs.declared.lookups.LookedUp.{LookedUp}
 use Rattle.fp_names.specs.declared.tree.Node.{Node}
 use Rattle.fp_names.specs.Answers.{AreFound, Notes}
 use Rattle.fp_names.specs.Tree.{IsTable, looked_up}
@@ -106,7 +106,7 @@ module _ (ds : List Definition) (m : Mention) where
   pub meant_unbroken : (number : ℕ) → Means ds m.scope m.name m.group number → IsLeast (IsUnmeant ds m) None
   meant_unbroken number means = least_none (λ f q. elim q [ inl u ↦ u.1 m.group (number, means) | inr w ↦ w.2 (number, means) ])
 
-  pub notes_meant : (before after : Found) (number : ℕ) → Means ds m.scope m.name m.group number → after.first ≡ before.first → after.meanings ≡ before.meanings ++ number ∷ [] → Notes ds m before after
+  pub notes_meant : (before after : LookedUp) (number : ℕ) → Means ds m.scope m.name m.group number → after.first ≡ before.first → after.meanings ≡ before.meanings ++ number ∷ [] → Notes ds m before after
   notes_meant before after number means first meanings = record {
     said = None;
     least = meant_unbroken number means;
@@ -118,7 +118,7 @@ module _ (ds : List Definition) (m : Mention) where
       no_other None = refl
       no_other (Some f) = refl
 
-  pub notes_broken : (before after : Found) (f : Refusal) → IsLeast (IsUnmeant ds m) (Some f) → after.first ≡ lesser_of before.first (Some f) → Notes ds m before after
+  pub notes_broken : (before after : LookedUp) (f : Refusal) → IsLeast (IsUnmeant ds m) (Some f) → after.first ≡ lesser_of before.first (Some f) → Notes ds m before after
   notes_broken before after f l first = record { said = Some f; least = l; first = first; meant = λ e. cc }
 
 pub on_ok : {A E : Type 0} (r : Result A E) (P Q : Type 0) → (P → Q) → OnOk r P → OnOk r Q
@@ -160,7 +160,7 @@ meanings_push ds ms m ns n are means = record { each = lengths; meant = each }
     ]
 
 -- one use more
-module _ (ds : List Definition) (ms : List Mention) (n : ℕ) (m : Mention) (before after : Found) (at : slice_get ms n ≡ Some m) (notes : Notes ds m before after) where
+module _ (ds : List Definition) (ms : List Mention) (n : ℕ) (m : Mention) (before after : LookedUp) (at : slice_get ms n ≡ Some m) (notes : Notes ds m before after) where
   pub least_next : IsLeast (InFirst n (λ _. IsUnmeant ds) ms) before.first → IsLeast (InFirst (n + 1) (λ _. IsUnmeant ds) ms) after.first
   least_next l =
       subst (λ (o : Option Refusal). IsLeast (InFirst (n + 1) (λ _. IsUnmeant ds) ms) o) (sym notes.first)

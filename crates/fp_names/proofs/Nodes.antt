@@ -6,7 +6,7 @@ use Rattle.std.proofs.lemmas.Option.{slice_get_read}
 use Rattle.std.proofs.lemmas.List.{length-set, length-append}
 use Rattle.std.proofs.lemmas.Slice.Eq.{bytes_eq-Decides}
 use Rattle.fp_names.specs.declared.tree.Node.{Node}
-use Rattle.fp_names.specs.Tree.{next_of, meaning_of, step, meaning_at, IsLeaf, Leads, Grows}
+use Rattle.fp_names.specs.Tree.{next_of, meaning_of, step, meaning_at, IsLeaf, LeadsOn, Grows}
 use Rattle.fp_names.proofs.Lists.{nat_or_not}
 
 pub get_set_same : {A : Type 0} (xs : List A) (i : ℕ) (v : A) → i < length xs → slice_get (set xs i v) i ≡ Some v
@@ -46,7 +46,7 @@ other_text s t d = go (bytes_eq s t) refl
 
 -- a leaf at the end, and a name that leads to it
 pub grows : (old pushed : List Node) (leaf node after : Node) (from to : ℕ) (name key : List ℕ)
-    → step old from name ≡ None → pushed ≡ old ++ leaf ∷ [] → IsLeaf leaf → node ≡ get_or pushed from node → from < length old → Leads node after key to → key ≡ name → to ≡ length old
+    → step old from name ≡ None → pushed ≡ old ++ leaf ∷ [] → IsLeaf leaf → node ≡ get_or pushed from node → from < length old → LeadsOn node after key to → key ≡ name → to ≡ length old
     → Grows old (set pushed from after) from name
 grows old pushed leaf node after from to name key none is l value small leads same last = record {
   absent = none;

@@ -8,7 +8,7 @@ use Rattle.fp_meaning.specs.declared.names.Mention.{Mention}
 use Rattle.fp_meaning.specs.Broken.{IsUnmeant}
 use Rattle.fp_base.specs.Least.{IsLeast, lesser_of}
 use Rattle.fp_meaning.specs.Meaning.{AreMeanings, Means}
-use Rattle.fp_names.specs.declared.lookups.Found.{Found}
+use Rattle.fp_names.specs.declared.lookups.LookedUp.{LookedUp}
 
 -- a stop names the least of what is broken; for want of memory it may come at any time
 abbrev pub IsStop : (Refusal → Type 0) → Stop → Type 0
@@ -16,11 +16,11 @@ IsStop broken (Broken f) = IsLeast broken (Some f)
 IsStop broken NoMemory = Unit {0}
 
 -- where nothing was found to be broken, the numbers are those of what the uses mean
-abbrev pub AreFound : List Definition → List Mention → Found → Type 0
+abbrev pub AreFound : List Definition → List Mention → LookedUp → Type 0
 AreFound ds ms found = found.first ≡ None → AreMeanings ds ms found.meanings
 
 -- one use more: what it means, or what it breaks
-pub record Notes (ds : List Definition) (m : Mention) (before after : Found) : Type 0 where
+pub record Notes (ds : List Definition) (m : Mention) (before after : LookedUp) : Type 0 where
   pub said : Option Refusal
   pub least : IsLeast (IsUnmeant ds m) said
   pub first : after.first ≡ lesser_of before.first said

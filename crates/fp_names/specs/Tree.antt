@@ -119,7 +119,7 @@ pub record IsLeaf (node : Node) : Type 0 where
   pub meaning : node.meaning ≡ None
 
 -- a name leads from the node after to a number, and each other where it led before
-pub record Leads (before after : Node) (name : List ℕ) (to : ℕ) : Type 0 where
+pub record LeadsOn (before after : Node) (name : List ℕ) (to : ℕ) : Type 0 where
   pub next : (other : List ℕ) → get_by_text after.next other ≡ cond (bytes_eq name other) (Some to) (get_by_text before.next other)
   pub meaning : after.meaning ≡ before.meaning
 

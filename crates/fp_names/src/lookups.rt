@@ -14,17 +14,17 @@ use std::alloc::Global;
 
 /// The numbers of what uses mean, and the least of what they break.
 #[derive(Drop)]
-pub struct Found {
+pub struct LookedUp {
     pub meanings: Row<u32>,
     pub first: Option<Refusal>,
 }
 
 /// Looks up uses. Each use is looked up where several definitions have one qualified name, too.
-pub fn look_up(alloc: Global, names: &Names, mentions: &[Mention]) -> Result<Found, NoMemory>
+pub fn look_up(alloc: Global, names: &Names, mentions: &[Mention]) -> Result<LookedUp, NoMemory>
     ensures least { IfOk result (λ found. IsLeast (InSome (λ _. IsUnmeant names.now) mentions.now) found.first) }
     ensures meant { IfOk result (AreFound names.now mentions.now) }
 {
-    let mut found = Found {
+    let mut found = LookedUp {
         meanings: Row::new(alloc),
         first: None,
     };
@@ -34,7 +34,7 @@ pub fn look_up(alloc: Global, names: &Names, mentions: &[Mention]) -> Result<Fou
     Ok(found)
 }
 
-fn note(found: &mut Found, names: &Names, mention: &Mention) -> Result<(), NoMemory>
+fn note(found: &mut LookedUp, names: &Names, mention: &Mention) -> Result<(), NoMemory>
     ensures { OnOk result (Notes names.now mention.now found.old found.new) }
 {
     match names.find(&mention.scope, &mention.name, mention.group) {

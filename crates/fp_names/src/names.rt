@@ -7,7 +7,7 @@ ghost use Rattle.fp_names.specs.Answers.{AreFound, IsStop};
 ghost use Rattle.fp_names.specs.Tree.{looked_up};
 
 use crate::definitions::definitions_of;
-use crate::lookups::{Found, look_up};
+use crate::lookups::{LookedUp, look_up};
 use crate::mentions::mentions_of;
 use crate::table::{Table, table_of};
 use crate::tree::{Node, longest_from, meaning_from, walk_from};
@@ -140,7 +140,7 @@ fn by_name(alloc: Global, source: &Source) -> Result<Named, NoMemory>
     })
 }
 
-fn found_in(alloc: Global, source: &Source, names: &Names) -> Result<Found, NoMemory>
+fn found_in(alloc: Global, source: &Source, names: &Names) -> Result<LookedUp, NoMemory>
     requires { names.now ≡ definitions source.now }
     ensures least { IfOk result (λ found. IsLeast (BrokenByUses source.now) found.first) }
     ensures meant { IfOk result (AreFound (definitions source.now) (mentions source.now)) }

@@ -2,7 +2,7 @@ ghost use Rattle.std.specs.Prelude.{◌≡◌, ◌<◌, ℕ, List, [], length, c
 ghost use Rattle.std.specs.HashMap.{get_by_text};
 ghost use Rattle.std.specs.Str.{bytes_eq};
 ghost use Rattle.std.specs.String.{string_bytes};
-ghost use Rattle.fp_names.specs.Tree.{AreRoots, Enters, Grows, IsLeaf, Leads, Says, longest, meaning_at, or_number, root, step, walk};
+ghost use Rattle.fp_names.specs.Tree.{AreRoots, Enters, Grows, IsLeaf, LeadsOn, Says, longest, meaning_at, or_number, root, step, walk};
 
 use fp_base::{NoMemory, Text};
 use fp_meaning::Group;
@@ -100,7 +100,7 @@ fn grow(alloc: Global, nodes: &mut Vec<Node>, from: usize, name: &Text) -> Resul
 }
 
 fn lead(node: &mut Node, name: String, to: usize) -> Result<(), NoMemory>
-    ensures { OnOk result (Leads node.old node.new (string_bytes name) to) }
+    ensures { OnOk result (LeadsOn node.old node.new (string_bytes name) to) }
 {
     node.next.insert(name, to)?;
     Ok(())

@@ -20,7 +20,7 @@ use Rattle.fp_parse_defs.specs.Language.{expr, expression}
 use Rattle.fp_tree.specs.declared.definition.Def.{Def}
 use Rattle.fp_parse_defs.specs.Definitions.{definition}
 use Rattle.fp_parse_defs.proofs.DefinitionsFit.{definition_fits}
-use Rattle.fp_parse_defs.specs.Reading.{limit, unexpected, Deeper, BeginsAt, NodeOf, Reads, Answers}
+use Rattle.fp_parse_defs.specs.Reading.{limit, unexpected, Deeper, BeginsAt, NodeOf, Reads, AnswersNode}
 use Rattle.fp_parse_defs.proofs.WordsFit.{each_kind}
 use Rattle.fp_parse_defs.proofs.Levels.{kept}
 
@@ -63,13 +63,13 @@ module _ {X : Type 0} (g : ℕ → Grammar Token X) where
       let h = v'.longest (w ++ t ∷ []) (s, e ∙ sym (append_assoc w (t ∷ []) s)) viable in
       omega (arith, l, h, length-append w (t ∷ []))
 
-  pub answer_deeper : (tokens : List Token) (from to to' : ℕ) (found more : Option X) (r : Refusal) → Reads (g limit) tokens from found to → Reads (g (limit + 1)) tokens from more to' → to < to' → r.rule ≡ NestingTooDeep → r.other ≡ None → BeginsAt (take to tokens) (drop to tokens) r.place → Answers g tokens from (Err (Broken r))
+  pub answer_deeper : (tokens : List Token) (from to to' : ℕ) (found more : Option X) (r : Refusal) → Reads (g limit) tokens from found to → Reads (g (limit + 1)) tokens from more to' → to < to' → r.rule ≡ NestingTooDeep → r.other ≡ None → BeginsAt (take to tokens) (drop to tokens) r.place → AnswersNode g tokens from (Err (Broken r))
   answer_deeper tokens from to to' found more r (w, v, e, n) (w', v', e', _) l rule other place =
       (w, v, subst (λ m. BeginsAt (take m tokens) (drop m tokens) r.place) e place, other, inl (deeper (drop from tokens) w w' v v' (omega (arith, l, e, e')), rule))
 
-  pub answer_node : (tokens : List Token) (from to to' : ℕ) (found more : Option X) (x : X) → found ≡ Some x → Reads (g limit) tokens from found to → Reads (g (limit + 1)) tokens from more to' → to' ≤ to → Answers g tokens from (Ok (x, to))
+  pub answer_node : (tokens : List Token) (from to to' : ℕ) (found more : Option X) (x : X) → found ≡ Some x → Reads (g limit) tokens from found to → Reads (g (limit + 1)) tokens from more to' → to' ≤ to → AnswersNode g tokens from (Ok (x, to))
   answer_node tokens from to to' found more x is (w, v, e, n) (w', v', e', _) l = (w, v, subst (λ o. NodeOf (g limit) w o) is n, e, not_deeper (drop from tokens) w w' v' (omega (arith, l, e, e')))
 
-  pub answer_none : (tokens : List Token) (from to to' : ℕ) (found more : Option X) (r : Refusal) → found ≡ None → Reads (g limit) tokens from found to → Reads (g (limit + 1)) tokens from more to' → to' ≤ to → r.rule ≡ unexpected (drop to tokens) → r.other ≡ None → BeginsAt (take to tokens) (drop to tokens) r.place → Answers g tokens from (Err (Broken r))
+  pub answer_none : (tokens : List Token) (from to to' : ℕ) (found more : Option X) (r : Refusal) → found ≡ None → Reads (g limit) tokens from found to → Reads (g (limit + 1)) tokens from more to' → to' ≤ to → r.rule ≡ unexpected (drop to tokens) → r.other ≡ None → BeginsAt (take to tokens) (drop to tokens) r.place → AnswersNode g tokens from (Err (Broken r))
   answer_none tokens from to to' found more r is (w, v, e, n) (w', v', e', _) l rule other place =
       (w, v, subst (λ m. BeginsAt (take m tokens) (drop m tokens) r.place) e place, other, inr (not_deeper (drop from tokens) w w' v' (omega (arith, l, e, e')), subst (λ o. NodeOf (g limit) w o) is n, rule ∙ ap (λ m. unexpected (drop m tokens)) e))

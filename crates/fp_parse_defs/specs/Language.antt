@@ -10,7 +10,7 @@ use Rattle.fp_tree.specs.declared.expression.Operator.{Operator}
 use Rattle.fp_parse_defs.specs.declared.measured.Measured.{Measured}
 use Rattle.fp_parse_defs.specs.declared.measured.Setting.{Setting}
 use Rattle.fp_parse_defs.specs.declared.measured.Items.{Items}
-use Rattle.fp_parse_defs.specs.declared.measured.Members.{Members}
+use Rattle.fp_parse_defs.specs.declared.measured.Assignments.{Assignments}
 use Rattle.fp_grammar.specs.Grammar.{Grammar, Language, Spells}
 use Rattle.fp_grammar.specs.Grammar.Grammar.{seq, map, alt, optional, chain, ref}
 use Rattle.fp_grammar.specs.Seal.{seal}
@@ -107,28 +107,28 @@ made_setting p = record { name = p.0; value = p.1.1 }
 abbrev pub setting_of : Grammar Token Measured → Grammar Token Setting
 setting_of expr = map made_setting (seq name (seq (at k_equals) expr))
 
-abbrev pub with_member : Members → Setting → List (List ℕ) → Members
+abbrev pub with_member : Assignments → Setting → List (List ℕ) → Assignments
 with_member members s lines = record {
   row = members.row ++ (record { name = s.name; value = s.value.expr; at = between s.name.at s.value.expr.at; note = joined lines }) ∷ [];
   height = max members.height s.value.height;
 }
 
-abbrev pub no_members : Members
+abbrev pub no_members : Assignments
 no_members = record { row = []; height = 0 }
 
-abbrev pub or_no_members : Option Members → Members
+abbrev pub or_no_members : Option Assignments → Assignments
 or_no_members None = no_members
 or_no_members (Some members) = members
 
 -- (name '=' Expr)+,
-abbrev pub some_members_of : Grammar Token Measured → Grammar Token Members
+abbrev pub some_members_of : Grammar Token Measured → Grammar Token Assignments
 some_members_of expr = some_of commas with_member no_members (setting_of expr)
 
 -- (name '=' Expr)*,
-abbrev pub members_of : Grammar Token Measured → Grammar Token Members
+abbrev pub members_of : Grammar Token Measured → Grammar Token Assignments
 members_of expr = map or_no_members (optional (some_members_of expr))
 
-abbrev pub made_struct : Span × (Members × Span) → Measured
+abbrev pub made_struct : Span × (Assignments × Span) → Measured
 made_struct p = record { expr = bare (form.Struct p.1.0.row) (between p.0 p.1.1); height = p.1.0.height + 1 }
 
 -- '{' (name '=' Expr)*, '}'
@@ -183,10 +183,10 @@ items depth = items_of (expr depth)
 abbrev pub setting : ℕ → Grammar Token Setting
 setting depth = setting_of (expr depth)
 
-abbrev pub some_members : ℕ → Grammar Token Members
+abbrev pub some_members : ℕ → Grammar Token Assignments
 some_members depth = some_members_of (expr depth)
 
-abbrev pub members : ℕ → Grammar Token Members
+abbrev pub members : ℕ → Grammar Token Assignments
 members depth = members_of (expr depth)
 
 -- Expr, of which at most so much nests

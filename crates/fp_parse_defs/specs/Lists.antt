@@ -34,22 +34,22 @@ abbrev pub after_lines : Grammar Token (List (List ℕ))
 after_lines = many after_line
 
 -- an element with the lines of its annotation, or the lines behind a separator
-pub data Piece (X : Type 0) : Type 0 where
-  element : X → List (List ℕ) → Piece X
-  separator : List (List ℕ) → Piece X
+pub data ListPiece (X : Type 0) : Type 0 where
+  element : X → List (List ℕ) → ListPiece X
+  separator : List (List ℕ) → ListPiece X
 
 -- one beside the lines of the annotations before it and behind it
 abbrev pub noted : {X : Type 0} → Grammar Token X → Grammar Token (X × List (List ℕ))
 noted a = map (λ p. (p.1.0, p.0 ++ p.1.1)) (seq before_lines (seq a after_lines))
 
-abbrev pub annotated : {X : Type 0} → Grammar Token X → Grammar Token (Piece X)
+abbrev pub annotated : {X : Type 0} → Grammar Token X → Grammar Token (ListPiece X)
 annotated a = map (λ p. element p.0 p.1) (noted a)
 
-abbrev pub separated_by : {X : Type 0} → List ℕ → Grammar Token (Piece X)
+abbrev pub separated_by : {X : Type 0} → List ℕ → Grammar Token (ListPiece X)
 separated_by ks = map (λ p. separator p.1) (seq (one_of ks) after_lines)
 
 -- what comes of the pieces, where add takes an element and all the lines of its annotation to what there is
-abbrev pub gathered : {X Z : Type 0} → (Z → X → List (List ℕ) → Z) → Z → List (Piece X) → Z
+abbrev pub gathered : {X Z : Type 0} → (Z → X → List (List ℕ) → Z) → Z → List (ListPiece X) → Z
 gathered add z [] = z
 gathered add z (separator lines ∷ pieces) = gathered add z pieces
 gathered add z (element x lines ∷ []) = add z x lines

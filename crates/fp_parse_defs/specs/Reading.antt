@@ -42,10 +42,10 @@ abbrev pub BreaksRule : {X : Type 0} → (ℕ → Grammar Token X) → List Toke
 BreaksRule {X = X} g rest w later rule = (Deeper g rest w × (rule ≡ NestingTooDeep)) ⊎ ((Deeper g rest w → ⊥) × ((x : X) → Spells kind (g limit) w x → ⊥) × (rule ≡ unexpected later))
 
 -- what a parse of tokens from a position on answers, by the grammar at each depth of nesting
-abbrev pub Answers : {X : Type 0} → (ℕ → Grammar Token X) → List Token → ℕ → Result (X × ℕ) Stop → Type 0
-Answers g tokens from (Ok p) = (w : List Token) × IsLongestViable kind (g limit) (drop from tokens) w × Spells kind (g limit) w p.0 × (p.1 ≡ from + length w) × (Deeper g (drop from tokens) w → ⊥)
-Answers g tokens from (Err (Broken r)) = (w : List Token) × IsLongestViable kind (g limit) (drop from tokens) w × BeginsAt (take (from + length w) tokens) (drop (from + length w) tokens) r.place × (r.other ≡ None) × BreaksRule g (drop from tokens) w (drop (from + length w) tokens) r.rule
-Answers g tokens from (Err NoMemory) = Unit {0}
+abbrev pub AnswersNode : {X : Type 0} → (ℕ → Grammar Token X) → List Token → ℕ → Result (X × ℕ) Stop → Type 0
+AnswersNode g tokens from (Ok p) = (w : List Token) × IsLongestViable kind (g limit) (drop from tokens) w × Spells kind (g limit) w p.0 × (p.1 ≡ from + length w) × (Deeper g (drop from tokens) w → ⊥)
+AnswersNode g tokens from (Err (Broken r)) = (w : List Token) × IsLongestViable kind (g limit) (drop from tokens) w × BeginsAt (take (from + length w) tokens) (drop (from + length w) tokens) r.place × (r.other ≡ None) × BreaksRule g (drop from tokens) w (drop (from + length w) tokens) r.rule
+AnswersNode g tokens from (Err NoMemory) = Unit {0}
 
 -- the node that the list spells, or that it spells none
 abbrev pub NodeOf : {X : Type 0} → Grammar Token X → List Token → Option X → Type 0

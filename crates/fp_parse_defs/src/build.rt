@@ -2,7 +2,7 @@ ghost use Rattle.std.specs.Prelude.{◌≡◌, ◌-◌, ◌^◌, ◌<◌, max, I
 ghost use Rattle.fp_parse_defs.specs.Words as W;
 ghost use Rattle.fp_parse_defs.specs.Language;
 
-use crate::measured::{Items, Measured, Members, Setting};
+use crate::measured::{Items, Measured, Assignments, Setting};
 use crate::notes::join;
 use fp_base::{Boxed, NoMemory, Row, Span, Text};
 use fp_tree::{Assignment, Expr, Form, Operator};
@@ -105,13 +105,13 @@ pub fn array(alloc: Global, opening: Span, items: Items, closing: Span) -> Measu
     Measured { expr, height }
 }
 
-pub fn structure(alloc: Global, opening: Span, members: Members, closing: Span) -> Measured
+pub fn structure(alloc: Global, opening: Span, members: Assignments, closing: Span) -> Measured
     requires { members.height < 2 ^ 32 - 1 }
     ensures { result ≡ Language.made_struct (opening, (members, closing)) }
 {
     let height = members.height + 1;
     let at = between(opening, closing);
-    let Members { row, height: _ } = members;
+    let Assignments { row, height: _ } = members;
     let expr = bare(alloc, Form::Struct(row), at);
     Measured { expr, height }
 }
@@ -137,16 +137,16 @@ pub fn with_item(
 /// Adds a member with the lines of its annotation.
 pub fn with_member(
     alloc: Global,
-    members: Members,
+    members: Assignments,
     setting: Setting,
     lines: Row<Text>,
-) -> Result<Members, NoMemory>
+) -> Result<Assignments, NoMemory>
     ensures { IfOk result (λ more. more ≡ Language.with_member members setting lines) }
 {
     let note = join(alloc, lines.as_slice())?;
     let Setting { name, value } = setting;
     let height = taller(members.height, value.height);
-    let Members { mut row, height: _ } = members;
+    let Assignments { mut row, height: _ } = members;
     let Measured {
         expr: value,
         height: _,
@@ -158,7 +158,7 @@ pub fn with_member(
         at,
         note,
     })?;
-    Ok(Members { row, height })
+    Ok(Assignments { row, height })
 }
 
 pub fn no_items(alloc: Global) -> Items
@@ -170,10 +170,10 @@ pub fn no_items(alloc: Global) -> Items
     }
 }
 
-pub fn no_members(alloc: Global) -> Members
+pub fn no_members(alloc: Global) -> Assignments
     ensures { result ≡ Language.no_members }
 {
-    Members {
+    Assignments {
         row: Row::new(alloc),
         height: 0,
     }

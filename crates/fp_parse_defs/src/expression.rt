@@ -7,7 +7,7 @@ ghost use Rattle.fp_parse_defs.specs.Language;
 use crate::build::{
     array, combined, grouped, negative, no_items, no_members, structure, with_item, with_member,
 };
-use crate::measured::{Items, Measured, Members, Setting};
+use crate::measured::{Items, Measured, Assignments, Setting};
 use crate::notes::{after_lines, appended, before_lines};
 use crate::words::{
     comma_at, expect_mark, expect_name, literal, mark_at, name_at, named, nested_at, plus_minus_at,
@@ -287,7 +287,7 @@ fn some_members(
     tokens: &[Token],
     from: usize,
     depth: u32,
-) -> Result<(Members, usize), Halt>
+) -> Result<(Assignments, usize), Halt>
     ensures parses { Parses kind (Language.some_members depth) tokens.now from result }
     ensures within { IfOk result (λ p. p.0.height ≤ depth) }
 {
@@ -327,7 +327,7 @@ fn members(
     tokens: &[Token],
     from: usize,
     depth: u32,
-) -> Result<(Members, usize), Halt>
+) -> Result<(Assignments, usize), Halt>
     ensures parses { Parses kind (Language.members depth) tokens.now from result }
     ensures within { IfOk result (λ p. p.0.height ≤ depth) }
 {

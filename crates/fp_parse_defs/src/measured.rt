@@ -22,9 +22,9 @@ pub struct Items {
     pub height: u32,
 }
 
-/// Members of a struct expression, and how deep the deepest nests.
+/// Assignments of a struct expression, and how deep the deepest nests.
 #[derive(Drop)]
-pub struct Members {
+pub struct Assignments {
     pub row: Row<Assignment>,
     pub height: u32,
 }

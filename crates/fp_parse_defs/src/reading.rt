@@ -6,7 +6,7 @@ ghost use Rattle.fp_parse_defs.specs.Kinds.{kind};
 ghost use Rattle.fp_parse_defs.specs.Language;
 ghost use Rattle.fp_parse_defs.specs.Definitions as D;
 ghost use Rattle.fp_tree.specs.declared.definition.Def.{Def};
-ghost use Rattle.fp_parse_defs.specs.Reading.{Answers, BeginsAt, Reads, left_out, limit, unexpected};
+ghost use Rattle.fp_parse_defs.specs.Reading.{AnswersNode, BeginsAt, Reads, left_out, limit, unexpected};
 
 use crate::definition::definition;
 use crate::expression::expression;
@@ -28,7 +28,7 @@ pub fn parse_expr(alloc: Global, tokens: &Row<Token>, from: u32) -> Result<(Expr
     requires some { 0 < length tokens.now }
     requires short { length tokens.now < 2 ^ 32 }
     requires within { from ≤ length tokens.now }
-    ensures { Answers Language.expression tokens.now from result }
+    ensures { AnswersNode Language.expression tokens.now from result }
 {
     let tokens = tokens.as_slice();
     let from = from as usize;
@@ -72,7 +72,7 @@ pub fn parse_def(alloc: Global, tokens: &Row<Token>, from: u32) -> Result<(Def, 
     requires some { 0 < length tokens.now }
     requires short { length tokens.now < 2 ^ 32 }
     requires within { from ≤ length tokens.now }
-    ensures { Answers D.definition tokens.now from result }
+    ensures { AnswersNode D.definition tokens.now from result }
 {
     let tokens = tokens.as_slice();
     let from = from as usize;

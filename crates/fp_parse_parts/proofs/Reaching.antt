@@ -17,7 +17,7 @@ use Rattle.fp_grammar.proofs.LongestLemmas.{answers_longest}
 use Rattle.fp_parse_defs.specs.Kinds.{kind}
 use Rattle.fp_parse_defs.specs.Reading.{limit}
 use Rattle.fp_parse_parts.specs.Files.{ReachesTo}
-use Rattle.fp_parse_parts.specs.Units.{unit, SpellsUnit, StopsUnit, Answers}
+use Rattle.fp_parse_parts.specs.Units.{unit, SpellsUnit, StopsUnit, AnswersInside}
 use Rattle.fp_parse_parts.specs.declared.parsing.Inside.{Inside}
 use Rattle.fp_parse_parts.specs.declared.parsing.Inside.TheVariants as inside
 use Rattle.fp_parse_parts.specs.declared.parsing.Members.TheVariants as found
@@ -65,8 +65,8 @@ unit_refused tokens to p = refused_broken (unit_fits limit) p
 pub unit_halted : (tokens : List Token) (halt : Halt) (to : ℕ) → halt ≡ Unexpected to → RefusesBy kind (unit limit) tokens 0 halt → IsBroken kind (unit limit) tokens (take to tokens) (drop to tokens)
 unit_halted tokens halt to e p = unit_refused tokens to (subst (λ h. RefusesBy kind (unit limit) tokens 0 h) e p)
 
-pub members_answered : (tokens slice : List Token) (i : Inside) (xs : List Member) → slice ≡ tokens → SpellsUnit slice xs → Answers tokens i (Ok (found.Unit xs))
+pub members_answered : (tokens slice : List Token) (i : Inside) (xs : List Member) → slice ≡ tokens → SpellsUnit slice xs → AnswersInside tokens i (Ok (found.Unit xs))
 members_answered tokens slice inside.Unit xs e s = subst (λ l. SpellsUnit l xs) e s
 
-pub stop_answered : (tokens slice : List Token) (i : Inside) (stop : Stop) → slice ≡ tokens → StopsUnit slice stop → Answers tokens i (Err stop)
+pub stop_answered : (tokens slice : List Token) (i : Inside) (stop : Stop) → slice ≡ tokens → StopsUnit slice stop → AnswersInside tokens i (Err stop)
 stop_answered tokens slice inside.Unit stop e s = subst (λ l. StopsUnit l stop) e s

@@ -9,7 +9,7 @@ use Rattle.fp_grammar.proofs.Walk.{begin, next, done, stop}
 use Rattle.fp_grammar.proofs.Steps.{one_of_accepts, map_accepts, map_refuses}
 use Rattle.fp_parse_defs.specs.Kinds.{kind}
 use Rattle.fp_parse_defs.specs.Lists.{after_lines, separated_by}
-use Rattle.fp_parse_defs.specs.Lists.Piece.{separator}
+use Rattle.fp_parse_defs.specs.Lists.ListPiece.{separator}
 use Rattle.fp_parse_defs.proofs.WordsFit.{each_kind}
 use Rattle.fp_parse_parts.specs.Members.{semicolons}
 

@@ -49,6 +49,6 @@ AnswersUnit tokens (Ok xs) = SpellsUnit tokens xs
 AnswersUnit tokens (Err stop) = StopsUnit tokens stop
 
 -- what a parse of all the tokens answers: the members that they spell, or why it stops
-abbrev pub Answers : List Token → Inside → Result Members Stop → Type 0
-Answers tokens inside.Unit (Ok (found.Unit xs)) = SpellsUnit tokens xs
-Answers tokens inside.Unit (Err stop) = StopsUnit tokens stop
+abbrev pub AnswersInside : List Token → Inside → Result Members Stop → Type 0
+AnswersInside tokens inside.Unit (Ok (found.Unit xs)) = SpellsUnit tokens xs
+AnswersInside tokens inside.Unit (Err stop) = StopsUnit tokens stop

@@ -1,4 +1,4 @@
-ghost use Rattle.fp_parse_parts.specs.Units.{Answers, AnswersUnit};
+ghost use Rattle.fp_parse_parts.specs.Units.{AnswersInside, AnswersUnit};
 
 use crate::members::members;
 use crate::refusing::refused;
@@ -26,7 +26,7 @@ pub enum Members {
 
 /// Reads the members that all the tokens are, or says where and how they break the grammar of what they stand in.
 pub fn parse(alloc: Global, tokens: &Row<Token>, inside: Inside) -> Result<Members, Stop>
-    ensures { Answers tokens.now inside result }
+    ensures { AnswersInside tokens.now inside result }
 {
     match inside {
         Inside::Unit => match unit(alloc, tokens.as_slice()) {

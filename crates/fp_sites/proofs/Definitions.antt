@@ -26,7 +26,7 @@ use Rattle.fp_base.proofs.Lists.{InOption, each_append, each_push, each_mapped, 
 use Rattle.fp_sites.specs.Names.{names_in_type_form, names_in_type, names_in_field, names_in_constant, names_in_formal, names_in_definition}
 use Rattle.fp_sites.proofs.Preserving.{gives_anything, gives_map, gives_seq, gives_alt, gives_optional, gives_seal, gives_after, gives_before}
 use Rattle.fp_sites.proofs.Lists.{each_or_none, gives_some_of}
-use Rattle.fp_sites.proofs.Words.{Yields, Found, at_yields, name_yields, qual_yields}
+use Rattle.fp_sites.proofs.Words.{Yields, SitedName, at_yields, name_yields, qual_yields}
 use Rattle.fp_sites.proofs.Expressions.{Stand, Holds, StandIn, same_stand, same_names, flat_uses, flat_names, optional_uses, optional_names, expression_yields}
 
 module _ (G : Place → Type 0) (N : Name → Type 0) where
@@ -89,13 +89,13 @@ module _ (G : Place → Type 0) (N : Name → Type 0) where
   sized_yields : (depth : ℕ) → Yields G N (sized depth) (StandIn G N)
   sized_yields depth = gives_before k_close_bracket (expression_yields G N depth)
 
-  constant_sited : (p : Span × (Name × Expr)) → G p.0.first × (Found G N p.1.0 × StandIn G N p.1.1) → Sited (made_constant p)
+  constant_sited : (p : Span × (Name × Expr)) → G p.0.first × (SitedName G N p.1.0 × StandIn G N p.1.1) → Sited (made_constant p)
   constant_sited (at, (name, value)) h = record { given = λ scope. (h.1.0.begins, tt); uses = h.1.1.uses; names = (h.1.0.named, h.1.1.names) }
 
   constant_yields : (depth : ℕ) → Yields G N (constant depth) Sited
   constant_yields depth = gives_map Sited made_constant constant_sited (gives_seq (at_yields G N k_constant) (gives_seq (name_yields G N) (gives_after k_equals (expression_yields G N depth))))
 
-  type_sited : (p : Span × (Name × Option TypeName)) → G p.0.first × (Found G N p.1.0 × InOption StandInType p.1.1) → Sited (made_type p)
+  type_sited : (p : Span × (Name × Option TypeName)) → G p.0.first × (SitedName G N p.1.0 × InOption StandInType p.1.1) → Sited (made_type p)
   type_sited (at, (name, None)) h = record { given = λ scope. (h.1.0.begins, tt); uses = λ scope. tt; names = (h.1.0.named, tt) }
   type_sited (at, (name, Some target)) h = record { given = λ scope. (h.1.0.begins, tt); uses = h.1.1.uses; names = (h.1.0.named, h.1.1.names) }
 
@@ -103,7 +103,7 @@ module _ (G : Place → Type 0) (N : Name → Type 0) where
   alias_yields depth = gives_map Sited made_type type_sited (gives_seq (at_yields G N k_type) (gives_seq (name_yields G N) (gives_optional (gives_after k_equals (type_yields depth)))))
 
   array_sited : (p : Span × (Name × (Expr × (TypeName × (Option Expr × Option Str)))))
-      → G p.0.first × (Found G N p.1.0 × (StandIn G N p.1.1.0 × (StandInType p.1.1.1.0 × (InOption (StandIn G N) p.1.1.1.1.0 × Unit {0})))) → Sited (made_array p)
+      → G p.0.first × (SitedName G N p.1.0 × (StandIn G N p.1.1.0 × (StandInType p.1.1.1.0 × (InOption (StandIn G N) p.1.1.1.1.0 × Unit {0})))) → Sited (made_array p)
   array_sited (at, (name, (size, (element, (default, format))))) h = record {
     given = λ scope. (h.1.0.begins, tt);
     uses = λ scope. each_append _ _ _ (each_append _ _ _ (h.1.1.0.uses scope) (h.1.1.1.0.uses scope)) (optional_uses G N _ _ default h.1.1.1.1.0 scope);
@@ -118,7 +118,7 @@ module _ (G : Place → Type 0) (N : Name → Type 0) where
   abbrev StandInField : Field → Type 0
   StandInField f = Holds G N in_field names_in_field f
 
-  field_stands : (p : Name × (Option Expr × (TypeName × Option Str))) → Found G N p.0 × (InOption (StandIn G N) p.1.0 × (StandInType p.1.1.0 × Unit {0})) → StandInField (made_field p)
+  field_stands : (p : Name × (Option Expr × (TypeName × Option Str))) → SitedName G N p.0 × (InOption (StandIn G N) p.1.0 × (StandInType p.1.1.0 × Unit {0})) → StandInField (made_field p)
   field_stands (name, (size, (of, format))) h = record {
     uses = λ scope. each_append _ _ _ (optional_uses G N _ _ size h.1.0 scope) (h.1.1.0.uses scope);
     names = (h.0.named, each_append N _ _ (optional_names G N _ _ size h.1.0) h.1.1.0.names);
@@ -133,7 +133,7 @@ module _ (G : Place → Type 0) (N : Name → Type 0) where
       (gives_optional (gives_some_of StandInField (Each StandInField) with_field (λ fs f lines h k. each_push StandInField fs _ h (record { uses = k.uses; names = k.names })) commas [] tt (field_yields depth)))
 
   struct_sited : (p : Span × (Name × (List Field × (Span × Option Expr))))
-      → G p.0.first × (Found G N p.1.0 × (Each StandInField p.1.1.0 × (G p.1.1.1.0.first × InOption (StandIn G N) p.1.1.1.1))) → Sited (made_struct p)
+      → G p.0.first × (SitedName G N p.1.0 × (Each StandInField p.1.1.0 × (G p.1.1.1.0.first × InOption (StandIn G N) p.1.1.1.1))) → Sited (made_struct p)
   struct_sited (at, (name, (fields, (closing, default)))) h = record {
     given = λ scope. (h.1.0.begins, tt);
     uses = λ scope. each_append _ _ _ (flat_uses G N _ _ fields h.1.1.0 scope) (optional_uses G N _ _ default h.1.1.1.1 scope);
@@ -148,7 +148,7 @@ module _ (G : Place → Type 0) (N : Name → Type 0) where
     begins : G c.name.at.first
     inside : Holds G N in_constant names_in_constant c
 
-  enum_const_sited : (p : Name × Option Expr) → Found G N p.0 × InOption (StandIn G N) p.1 → SitedConstant (made_enum_const p)
+  enum_const_sited : (p : Name × Option Expr) → SitedName G N p.0 × InOption (StandIn G N) p.1 → SitedConstant (made_enum_const p)
   enum_const_sited (name, value) h = record { begins = h.0.begins; inside = record { uses = optional_uses G N _ _ value h.1; names = (h.0.named, optional_names G N _ _ value h.1) } }
 
   enum_const_yields : (depth : ℕ) → Yields G N (enum_const depth) SitedConstant
@@ -166,7 +166,7 @@ module _ (G : Place → Type 0) (N : Name → Type 0) where
   constants_inside cs hs = each_weaker SitedConstant (Holds G N in_constant names_in_constant) (λ c h. h.inside) cs hs
 
   enum_sited : (p : Span × (Name × (Option TypeName × (List EnumConst × (Span × Option Expr)))))
-      → G p.0.first × (Found G N p.1.0 × (InOption StandInType p.1.1.0 × (Each SitedConstant p.1.1.1.0 × (G p.1.1.1.1.0.first × InOption (StandIn G N) p.1.1.1.1.1)))) → Sited (made_enum p)
+      → G p.0.first × (SitedName G N p.1.0 × (InOption StandInType p.1.1.0 × (Each SitedConstant p.1.1.1.0 × (G p.1.1.1.1.0.first × InOption (StandIn G N) p.1.1.1.1.1)))) → Sited (made_enum p)
   enum_sited (at, (name, (repr, (constants, (closing, default))))) h = record {
     given = λ scope. (h.1.0.begins, constants_named (scope ++ name.text ∷ []) constants h.1.1.1.0);
     uses = λ scope. each_append _ _ _ (each_append _ _ _ (optional_uses G N _ _ repr h.1.1.0 scope) (flat_uses G N _ _ constants (constants_inside constants h.1.1.1.0) scope)) (optional_uses G N _ _ default h.1.1.1.1.1 scope);
@@ -181,7 +181,7 @@ module _ (G : Place → Type 0) (N : Name → Type 0) where
   abbrev StandInFormal : Formal → Type 0
   StandInFormal f = Holds G N in_formal names_in_formal f
 
-  formal_stands : (p : Option Span × (Name × TypeName)) → Unit {0} × (Found G N p.1.0 × StandInType p.1.1) → StandInFormal (made_formal p)
+  formal_stands : (p : Option Span × (Name × TypeName)) → Unit {0} × (SitedName G N p.1.0 × StandInType p.1.1) → StandInFormal (made_formal p)
   formal_stands (None, (name, of)) h = record { uses = h.1.1.uses; names = (h.1.0.named, h.1.1.names) }
   formal_stands (Some ref, (name, of)) h = record { uses = h.1.1.uses; names = (h.1.0.named, h.1.1.names) }
 
@@ -196,7 +196,7 @@ module _ (G : Place → Type 0) (N : Name → Type 0) where
   formals_yield depth = gives_optional (gives_after k_open (gives_seq (formal_list_yields depth) (at_yields G N k_close)))
 
   port_sited : (p : Span × (Name × (Option (List Formal × Span) × Option TypeName)))
-      → G p.0.first × (Found G N p.1.0 × (InOption (λ (q : List Formal × Span). Each StandInFormal q.0 × G q.1.first) p.1.1.0 × InOption StandInType p.1.1.1)) → Sited (made_port p)
+      → G p.0.first × (SitedName G N p.1.0 × (InOption (λ (q : List Formal × Span). Each StandInFormal q.0 × G q.1.first) p.1.1.0 × InOption StandInType p.1.1.1)) → Sited (made_port p)
   port_sited (at, (name, (None, answer))) h = record { given = λ scope. (h.1.0.begins, tt); uses = λ scope. optional_uses G N _ _ answer h.1.1.1 scope; names = (h.1.0.named, optional_names G N _ _ answer h.1.1.1) }
   port_sited (at, (name, (Some (formals, closing), answer))) h = record {
     given = λ scope. (h.1.0.begins, tt);

@@ -29,7 +29,7 @@ use Rattle.fp_sites.specs.Names.{names_in_expression, names_in_form, names_in_as
 use Rattle.fp_sites.proofs.Preserving.{LanguageGives, gives_anything, gives_map, gives_seq, gives_alt, gives_optional, gives_chain, gives_ref, gives_seal}
 use Rattle.fp_sites.proofs.Lists.{gives_some_of}
 use Rattle.fp_sites.proofs.Walks.{whole_uses, assigned_uses, number_uses, float_uses, text_uses, truth_uses, use_uses, minus_uses, parentheses_uses, binary_uses, array_uses, struct_uses, whole_names, assigned_names, number_names, float_names, text_names, truth_names, use_names, minus_names, parentheses_names, binary_names, array_names, struct_names}
-use Rattle.fp_sites.proofs.Words.{IsTold, Yields, FoundAll, at_yields, name_yields, qual_yields}
+use Rattle.fp_sites.proofs.Words.{IsTold, Yields, SitedQual, at_yields, name_yields, qual_yields}
 
 module _ (G : Place → Type 0) (N : Name → Type 0) where
   -- each of these uses stands at such a place
@@ -89,7 +89,7 @@ module _ (G : Place → Type 0) (N : Name → Type 0) where
   literal_yields : Yields G N literal (λ m. StandIn m.expr)
   literal_yields = gives_map (λ m. StandIn m.expr) (λ t. leaf (literal_form t.what) t.at) (λ t h. of_form (bare (literal_form t.what) t.at) (literal_stands t.what)) gives_anything
 
-  named_stands : (q : Qual) → FoundAll G N q → StandIn (leaf (form.Use q) q.at).expr
+  named_stands : (q : Qual) → SitedQual G N q → StandIn (leaf (form.Use q) q.at).expr
   named_stands q h = of_form (bare (form.Use q) q.at) (record { uses = λ scope. same_stand _ _ (use_uses scope q) (h.begins, tt); names = same_names _ _ (use_names q) h.named })
 
   named_yields : Yields G N named (λ m. StandIn m.expr)

@@ -4,19 +4,19 @@ use Rattle.std.specs.List.{AllByRecursion as Each}
 use Rattle.fp_lexer.specs.declared.token.Token.{Token}
 use Rattle.fp_grammar.specs.Grammar.{Grammar}
 use Rattle.fp_parse_defs.specs.Kinds.{kind}
-use Rattle.fp_parse_defs.specs.Lists.{Piece, annotated, gathered, separated_by, some_of}
-use Rattle.fp_parse_defs.specs.Lists.Piece.{element, separator}
+use Rattle.fp_parse_defs.specs.Lists.{ListPiece, annotated, gathered, separated_by, some_of}
+use Rattle.fp_parse_defs.specs.Lists.ListPiece.{element, separator}
 use Rattle.fp_parse_defs.specs.Definitions.{or_none}
 use Rattle.fp_base.proofs.Lists.{InOption}
 use Rattle.fp_sites.proofs.Preserving.{Gives, gives_anything, gives_seq, gives_map, gives_turns}
 
 -- of the element of a piece
-abbrev pub InPiece : {X : Type 0} → (X → Type 0) → Piece X → Type 0
+abbrev pub InPiece : {X : Type 0} → (X → Type 0) → ListPiece X → Type 0
 InPiece Q (element x lines) = Q x
 InPiece Q (separator lines) = Unit {0}
 
 module _ {X Z : Type 0} (Q : X → Type 0) (R : Z → Type 0) (add : Z → X → List (List ℕ) → Z) (step : (z : Z) (x : X) (lines : List (List ℕ)) → R z → Q x → R (add z x lines)) where
-  gathered_given : (z : Z) (pieces : List (Piece X)) → R z → Each (InPiece Q) pieces → R (gathered add z pieces)
+  gathered_given : (z : Z) (pieces : List (ListPiece X)) → R z → Each (InPiece Q) pieces → R (gathered add z pieces)
   gathered_given z [] h hs = h
   gathered_given z (separator lines ∷ pieces) h hs = gathered_given z pieces h hs.1
   gathered_given z (element x lines ∷ []) h hs = step z x lines h hs.0

@@ -28,7 +28,7 @@ use Rattle.fp_base.proofs.Lists.{each_push, each_flat, each_weaker}
 use Rattle.fp_sites.proofs.Preserving.{LanguageGives, gives_anything, gives_map, gives_seq, gives_alt, gives_optional, gives_ref, gives_seal, gives_after}
 use Rattle.fp_sites.proofs.Lists.{each_or_none, gives_some_of}
 use Rattle.fp_sites.proofs.Walks.{in_module, in_definition, in_include, in_locate, module_includes, definition_includes, include_includes, locate_includes, module_names, definition_names, include_names, locate_names}
-use Rattle.fp_sites.proofs.Words.{IsTold, Yields, Found, FoundAll, at_yields, name_yields, qual_yields}
+use Rattle.fp_sites.proofs.Words.{IsTold, Yields, SitedName, SitedQual, at_yields, name_yields, qual_yields}
 use Rattle.fp_sites.proofs.Expressions.{Stand, same_stand, same_names}
 use Rattle.fp_sites.proofs.Definitions.{Sited, definition_yields}
 
@@ -122,13 +122,13 @@ module _ (G : Place → Type 0) (N : Name → Type 0) where
   include_yields : Yields G N include SitedBare
   include_yields = gives_map SitedBare made_include included_sited (gives_seq (at_yields G N k_include) gives_anything)
 
-  located_sited : (p : Span × (Qual × (Span × Str))) → Unit {0} × (FoundAll G N p.1.0 × Unit {0}) → SitedBare (made_locate p)
+  located_sited : (p : Span × (Qual × (Span × Str))) → Unit {0} × (SitedQual G N p.1.0 × Unit {0}) → SitedBare (made_locate p)
   located_sited (at, (of, (before_file, file))) h = locate_sited of file _ h.1.0.named
 
   locate_yields : Yields G N locate SitedBare
   locate_yields = gives_map SitedBare made_locate located_sited (gives_seq gives_anything (gives_seq (qual_yields G N) gives_anything))
 
-  moduled_sited : (p : Span × (Name × (List Member × Span))) → G p.0.first × (Found G N p.1.0 × (Each SitedMember p.1.1.0 × G p.1.1.1.first)) → SitedBare (made_module p)
+  moduled_sited : (p : Span × (Name × (List Member × Span))) → G p.0.first × (SitedName G N p.1.0 × (Each SitedMember p.1.1.0 × G p.1.1.1.first)) → SitedBare (made_module p)
   moduled_sited (at, (name, (inner, closing))) h note = module_sited _ h.1.0.named h.1.1.0
 
   -- of what modules are

@@ -40,24 +40,24 @@ module _ (G : Place → Type 0) (N : Name → Type 0) where
   at_yields k = gives_map (λ s. G s.first) (λ t. t.at) (λ t h. h.0.begins) (gives_token k)
 
   -- a name's place and the name
-  pub record Found (n : Name) : Type 0 where
+  pub record SitedName (n : Name) : Type 0 where
     pub begins : G n.at.first
     pub named : N n
 
-  pub name_yields : Yields name Found
-  name_yields = gives_map Found (λ t. record { text = name_text t.what; at = t.at })
+  pub name_yields : Yields name SitedName
+  name_yields = gives_map SitedName (λ t. record { text = name_text t.what; at = t.at })
       (λ t h. record { begins = h.0.begins; named = h.0.named (name_text t.what) (named_word t.what h.1) }) (gives_token k_name)
 
   -- those of a qualified name
-  pub record FoundAll (q : Qual) : Type 0 where
+  pub record SitedQual (q : Qual) : Type 0 where
     pub begins : G q.at.first
     pub named : Each N q.names
 
-  one_found : (n : Name) → Found n → FoundAll (one_name n)
+  one_found : (n : Name) → SitedName n → SitedQual (one_name n)
   one_found n h = record { begins = h.begins; named = (h.named, tt) }
 
-  longer_found : (q : Qual) (n : Name) → FoundAll q → Found n → FoundAll (longer q n)
+  longer_found : (q : Qual) (n : Name) → SitedQual q → SitedName n → SitedQual (longer q n)
   longer_found q n h k = record { begins = h.begins; named = each_push N q.names n h.named k.named }
 
-  pub qual_yields : Yields qual FoundAll
-  qual_yields = gives_chain (λ _. true) longer longer_found (gives_map FoundAll one_name one_found name_yields) (gives_after k_dot name_yields)
+  pub qual_yields : Yields qual SitedQual
+  qual_yields = gives_chain (λ _. true) longer longer_found (gives_map SitedQual one_name one_found name_yields) (gives_after k_dot name_yields)

@@ -9,7 +9,7 @@ use Rattle.fp_lexer.specs.declared.token.Word.TheVariants as word
 use Rattle.fp_lexer.specs.declared.token.Token.{Token}
 use Rattle.fp_lexer.specs.Bytes.{indent_at}
 use Rattle.fp_lexer.specs.Newlines.{Ground, ignores, ignored, after, after_newline, is_newline, ignored_by_rest, kept}
-use Rattle.fp_lexer.specs.Tokens.{Spells, Spelled, Piece, Cuts, Lexed, tokens_of, with_token, span_at, IsPiece}
+use Rattle.fp_lexer.specs.Tokens.{Spells, Spelled, Lexeme, Cuts, Lexed, tokens_of, with_token, span_at, IsLexeme}
 use Rattle.fp_tree.specs.declared.member.Member.{Member}
 use Rattle.fp_parse_defs.specs.Reading.{limit}
 use Rattle.fp_parse_parts.specs.Units.{SpellsUnit}
@@ -38,7 +38,7 @@ only_spelled : (indent : ℕ) (rest w s : List ℕ) → Spells indent rest w (So
 only_spelled indent rest w s (inl h) = h
 only_spelled indent rest w s (inr h) = absurd h
 
-one_written : (file : ℕ) (text : List ℕ) (p : Piece) (v : Word) → p.what ≡ Some v → IsPiece text p → HasName file text (record { what = v; at = span_at file text p.from p.past })
+one_written : (file : ℕ) (text : List ℕ) (p : Lexeme) (v : Word) → p.what ≡ Some v → IsLexeme text p → HasName file text (record { what = v; at = span_at file text p.from p.past })
 one_written file text p v e piece s f =
     let named : p.what ≡ Some (word.Name s) = e ∙ ap (λ (u : Word). Some u) f in
     record {
@@ -50,11 +50,11 @@ one_written file text p v e piece s f =
       place = refl;
     }
 
-with_written : (file : ℕ) (text : List ℕ) (p : Piece) (o : Option Word) (ts : List Token) → p.what ≡ o → IsPiece text p → Each (HasName file text) ts → Each (HasName file text) (with_token o (span_at file text p.from p.past) ts)
+with_written : (file : ℕ) (text : List ℕ) (p : Lexeme) (o : Option Word) (ts : List Token) → p.what ≡ o → IsLexeme text p → Each (HasName file text) ts → Each (HasName file text) (with_token o (span_at file text p.from p.past) ts)
 with_written file text p None ts e piece h = h
 with_written file text p (Some v) ts e piece h = (one_written file text p v e piece, h)
 
-all_written : (file : ℕ) (text : List ℕ) (from to : ℕ) (ps : List Piece) → Cuts text from ps to → Each (HasName file text) (tokens_of file text ps)
+all_written : (file : ℕ) (text : List ℕ) (from to : ℕ) (ps : List Lexeme) → Cuts text from ps to → Each (HasName file text) (tokens_of file text ps)
 all_written file text from to [] c = tt
 all_written file text from to (p ∷ ps) c = with_written file text p p.what _ refl c.1 (all_written file text p.past to ps c.2)
 

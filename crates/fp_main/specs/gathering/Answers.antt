@@ -9,10 +9,10 @@ use Rattle.fp_main.specs.gathering.Gathered.{InFiles, names_read}
 use Rattle.fp_main.specs.declared.gathering.Halt.{Halt}
 use Rattle.fp_main.specs.declared.gathering.Halt.TheVariants as halt
 use Rattle.fp_main.specs.declared.gathering.progress.Progress.{Progress}
-use Rattle.fp_main.specs.declared.gathering.reading.Found.{Found}
+use Rattle.fp_main.specs.declared.gathering.reading.FileFound.{FileFound}
 
 -- what was found in a file
-pub record IsFound (r : Reading) (found : Found) : Type 0 where
+pub record IsFound (r : Reading) (found : FileFound) : Type 0 where
   pub tokens : IsLeast (BreaksTokens r) found.tokens
   pub grammar : IsLeast (BreaksGrammar r) found.grammar
   pub gives : Gives r found.members

@@ -3,7 +3,7 @@ use Rattle.std.specs.Prelude.{ℕ, ◌≡◌, ◌+◌, ◌<◌, ◌≤◌, ◌�
 use Rattle.fp_base.specs.Places.{place_at}
 use Rattle.fp_base.specs.declared.refusal.Refusal.{Refusal}
 use Rattle.fp_base.specs.declared.rule.Rule.TheVariants.{TextTooLong}
-use Rattle.fp_lexer.specs.Broken.{IsBroken}
+use Rattle.fp_lexer.specs.Broken.{BreaksTokens}
 use Rattle.fp_lexer.specs.Tokens.{Lexed}
 use Rattle.fp_lexer.specs.declared.token.Token.{Token}
 use Rattle.fp_tree.specs.declared.member.Member.{Member}
@@ -30,7 +30,7 @@ Passes r = (r.bytes_before ≤ most_bytes) × (most_bytes < r.bytes_before + len
 
 -- a rule of tokens is broken in the file
 abbrev pub BreaksText : Reading → Refusal → Type 0
-BreaksText r f = (f.other ≡ None) × IsBroken r.number r.text f.rule f.place
+BreaksText r f = (f.other ≡ None) × BreaksTokens r.number r.text f.rule f.place
 
 abbrev pub BreaksTokens : Reading → Refusal → Type 0
 BreaksTokens r = Either (BreaksText r) (λ f. (f ≡ broken_at TextTooLong (place_at r.number r.text 0)) × Passes r)

@@ -12,17 +12,17 @@ use std::alloc::Global;
 
 /// The members that a file gives, and the least rules of tokens and of the grammar that it breaks.
 #[derive(Drop)]
-pub struct Found {
+pub struct FileFound {
     pub members: Row<Member>,
     pub tokens: Option<Refusal>,
     pub grammar: Option<Refusal>,
 }
 
 /// What is found where a rule of tokens is broken.
-fn broken(alloc: Global, tokens: Option<Refusal>) -> Found
+fn broken(alloc: Global, tokens: Option<Refusal>) -> FileFound
     ensures { result ≡ record { members = []; tokens = tokens; grammar = None } }
 {
-    Found {
+    FileFound {
         members: Row::new(alloc),
         tokens,
         grammar: None,
@@ -39,7 +39,7 @@ fn members_of(found: Members) -> Row<Member>
 }
 
 /// What is found in the tokens of a file that breaks no rule of tokens.
-fn parsed(alloc: Global, tokens: &Row<Token>) -> Result<Found, NoMemory>
+fn parsed(alloc: Global, tokens: &Row<Token>) -> Result<FileFound, NoMemory>
     ensures { IfOk result (λ found. (r : Reading) → HasTokens r tokens.now → IsFound r found) }
 {
     // A token list breaks the grammar in one way, and then spells nothing.
@@ -47,13 +47,13 @@ fn parsed(alloc: Global, tokens: &Row<Token>) -> Result<Found, NoMemory>
     match parse(alloc, tokens, Inside::Unit) {
         Ok(found) => {
             let members = members_of(found);
-            Ok(Found {
+            Ok(FileFound {
                 members,
                 tokens: None,
                 grammar: None,
             })
         }
-        Err(Stop::Broken(refusal)) => Ok(Found {
+        Err(Stop::Broken(refusal)) => Ok(FileFound {
             members: Row::new(alloc),
             tokens: None,
             grammar: Some(refusal),
@@ -63,7 +63,7 @@ fn parsed(alloc: Global, tokens: &Row<Token>) -> Result<Found, NoMemory>
 }
 
 /// What is found in the text of the file with a number. `passes` says that with it all files have more bytes than they may.
-pub fn read_text(alloc: Global, number: u32, passes: bool, text: &[u8]) -> Result<Found, NoMemory>
+pub fn read_text(alloc: Global, number: u32, passes: bool, text: &[u8]) -> Result<FileFound, NoMemory>
     ensures { IfOk result (λ found. (r : Reading) → r.number ≡ number → r.text ≡ text.now → MatchBool passes (Passes r) (Passes r → ⊥) → IsFound r found) }
 {
     let limit = refusal_if(passes, Rule::TextTooLong, place_of(number, text, 0));

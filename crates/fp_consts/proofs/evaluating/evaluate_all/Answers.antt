@@ -7,7 +7,7 @@ use Rattle.fp_meaning.specs.Meaning.{AreMeanings}
 use Rattle.fp_meaning.specs.Names.{in_source, definitions, mentions}
 use Rattle.fp_consts.specs.declared.measured.Measured.{Measured}
 use Rattle.fp_consts.specs.declared.stretch.Stretch.{Stretch}
-use Rattle.fp_consts.specs.Chains.{Marked}
+use Rattle.fp_consts.specs.Chains.{MarkedBy}
 use Rattle.fp_consts.specs.Laid.{spans_from}
 use Rattle.fp_consts.specs.Marked.{Marks}
 use Rattle.fp_consts.specs.Pieces.{pieces_in}
@@ -81,9 +81,9 @@ returns-clause-first c =
     subst (λ (xs : List Stretch). (s : Source) → IsLaidOut s pieces xs spots meanings → AreExact s table) (sym c.as_slice-spans.ensures) c.in_ok-table.ensures in
     let order = c.in_ok-sorted.sorted.order.items in
     let places = c.as_slice-places.result.now in
-    let chains : IsLeast (InSome (Marked c.in_ok-sorted.sorted.cyclic.items c.in_ok-deep.deep.items) places) c.chain_faults-chains.result =
-    subst (λ (xs : List Bool). IsLeast (InSome (Marked c.in_ok-sorted.sorted.cyclic.items xs) places) c.chain_faults-chains.result) c.as_slice-flags.ensures.value
-    (subst (λ (xs : List Bool). IsLeast (InSome (Marked xs c.as_slice-flags.result.now) places) c.chain_faults-chains.result) c.as_slice-cyclic.ensures.value c.chain_faults-chains.ensures) in
+    let chains : IsLeast (InSome (MarkedBy c.in_ok-sorted.sorted.cyclic.items c.in_ok-deep.deep.items) places) c.chain_faults-chains.result =
+    subst (λ (xs : List Bool). IsLeast (InSome (MarkedBy c.in_ok-sorted.sorted.cyclic.items xs) places) c.chain_faults-chains.result) c.as_slice-flags.ensures.value
+    (subst (λ (xs : List Bool). IsLeast (InSome (MarkedBy xs c.as_slice-flags.result.now) places) c.chain_faults-chains.result) c.as_slice-cyclic.ensures.value c.chain_faults-chains.ensures) in
     subst (λ (o : Option Refusal). IsLeast (ConstantsBroken source) o) (sym c.lesser.ensures)
     (all_broken source meanings pieces spans meant parts spanned spots table marking c.in_ok-laid.ensures.spots tables marks order c.in_ok-sorted.sorted.cyclic.items c.in_ok-deep.deep.items places
     c.chain_faults-chains.result c.in_ok-sorted.ensures c.in_ok-deep.ensures (c.as_slice-places.ensures ∙ c.in_ok-laid.ensures.places) chains)

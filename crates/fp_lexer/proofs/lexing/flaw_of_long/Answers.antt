@@ -1,6 +1,6 @@
 use Rattle.std.proofs.Common.{sym, ◌∙◌, refl}
 use Rattle.fp_lexer.specs.Bytes.{indent_at}
-use Rattle.fp_lexer.specs.Tokens.{Piece}
+use Rattle.fp_lexer.specs.Tokens.{Lexeme}
 use Rattle.fp_lexer.specs.Found.{what_of}
 use Rattle.fp_lexer.proofs.First.{long_mangled, long_flawed, long_first, long_string}
 use Rattle.fp_lexer.proofs.lexing.flaw_of_long.Goals as goal
@@ -10,7 +10,7 @@ returns-then-valid_len-eq0 c = long_mangled c.args.text.now (sym c.valid_len.ens
 
 pub returns-in-Ok : goal.returns-in-Ok
 returns-in-Ok c =
-    let p : Piece = record { what = what_of (indent_at c.args.text.now 0) c.args.text.now c.in-Ok.field-0.0; from = 0; past = c.in-Ok.field-0.1 } in
+    let p : Lexeme = record { what = what_of (indent_at c.args.text.now 0) c.args.text.now c.in-Ok.field-0.0; from = 0; past = c.in-Ok.field-0.1 } in
     let e = c.in-Ok.ensures in
     long_first c.args.text.now p (λ z. c.if-valid_len-eq0.false (c.valid_len.ensures ∙ z)) e.0 e.1 refl c.requires
 

@@ -1,7 +1,7 @@
 use Rattle.std.proofs.Common.{◌≤◌, arith}
 use Rattle.std.specs.Str.Lossy.{utf8_valid_len}
 use Rattle.fp_lexer.specs.Bytes.{indent_at}
-use Rattle.fp_lexer.specs.Tokens.{Piece}
+use Rattle.fp_lexer.specs.Tokens.{Lexeme}
 use Rattle.fp_lexer.specs.Found.{what_of}
 use Rattle.fp_lexer.proofs.Gives.{piece_within}
 use Rattle.fp_lexer.proofs.Cuts.{fine_push, piece_grows}
@@ -9,11 +9,11 @@ use Rattle.fp_lexer.proofs.First.{first_flaw, mangled_flaw, mangled_string}
 use Rattle.fp_lexer.proofs.lexing.flaw_of_mangled.Goals as goal
 
 pub pieces-smaller : goal.pieces-smaller
-pieces-smaller c = let p : Piece = record { what = what_of (indent_at c.args.text.now c.pieces.at) c.args.text.now c.in-Ok.field-0-0; from = c.pieces.at; past = c.in-Ok.past } in let h = piece_grows c.args.text.now p c.in-Ok.ensures.0 in omega (arith, h)
+pieces-smaller c = let p : Lexeme = record { what = what_of (indent_at c.args.text.now c.pieces.at) c.args.text.now c.in-Ok.field-0-0; from = c.pieces.at; past = c.in-Ok.past } in let h = piece_grows c.args.text.now p c.in-Ok.ensures.0 in omega (arith, h)
 
 pub pieces-preserved : goal.pieces-preserved
 pieces-preserved c =
-    let p : Piece = record { what = what_of (indent_at c.args.text.now c.pieces.at) c.args.text.now c.in-Ok.field-0-0; from = c.pieces.at; past = c.in-Ok.past } in
+    let p : Lexeme = record { what = what_of (indent_at c.args.text.now c.pieces.at) c.args.text.now c.in-Ok.field-0-0; from = c.pieces.at; past = c.in-Ok.past } in
     let e = c.in-Ok.ensures in
     record {
       within = piece_within c.args.text.now p e.0 c.pieces.invariant.within;

@@ -3,7 +3,7 @@ use Rattle.std.proofs.lemmas.Str.{utf8_valid_len-IsUtf8}
 use Rattle.fp_base.specs.Places.{place_at}
 use Rattle.fp_base.specs.declared.place.Place.{Place}
 use Rattle.fp_lexer.specs.Bytes.{indent_at}
-use Rattle.fp_lexer.specs.Tokens.{IsPiece, Piece, Lexed}
+use Rattle.fp_lexer.specs.Tokens.{IsLexeme, Lexeme, Lexed}
 use Rattle.fp_lexer.specs.Broken.{IsStop, IsUnbroken}
 use Rattle.fp_lexer.specs.Found.{IsSmall, HasPart, what_of}
 use Rattle.fp_lexer.specs.declared.token.Word.{Word}
@@ -16,7 +16,7 @@ use Rattle.fp_lexer.proofs.lexing.lex_valid.Goals as goal
 pub place_after-there-requires : goal.place_after-there-requires
 place_after-there-requires c =
     let bytes = c.as_bytes-bytes.result.now in
-    let p : Piece = record { what = what_of (indent_at bytes c.pieces.at) bytes c.in-Ok.shape; from = c.pieces.at; past = c.in-Ok.past } in
+    let p : Lexeme = record { what = what_of (indent_at bytes c.pieces.at) bytes c.in-Ok.shape; from = c.pieces.at; past = c.in-Ok.past } in
     let g = piece_grows bytes p c.in-Ok.ensures.0 in
     let w = piece_within bytes p c.in-Ok.ensures.0 (omega arith) in
     record {
@@ -46,7 +46,7 @@ pieces-preserved-in_ok-standing-in-Some c =
       here = here;
       state = state_token c.args.file bytes c.pieces.tokens c.add.new.tokens c.pieces.standing c.in_ok-standing-in-Some.standing c.pieces.at c.in-Ok.past c.in-Some.word _
           c.pieces.invariant.state
-          (subst (λ (x : Option Word). IsPiece bytes (record { what = x; from = c.pieces.at; past = c.in-Ok.past })) is c.in-Ok.ensures.0)
+          (subst (λ (x : Option Word). IsLexeme bytes (record { what = x; from = c.pieces.at; past = c.in-Ok.past })) is c.in-Ok.ensures.0)
           (subst (λ (x : Option Word). IsSmall x) is c.in-Ok.ensures.1)
           c.in-Ok.ensures.3
           (let a = c.pieces.invariant.here in cc)
@@ -63,7 +63,7 @@ pieces-preserved c =
       within = (let h = piece_within bytes (record { what = what_of (indent_at bytes c.pieces.at) bytes c.in-Ok.shape; from = c.pieces.at; past = c.in-Ok.past }) c.in-Ok.ensures.0 (omega arith) in omega (arith, h));
       here = c.place_after-there.ensures ∙ ap (λ (f : ℕ). place_at f bytes c.in-Ok.past) (ap (λ (p : Place). p.file) c.pieces.invariant.here);
       state = state_blank c.args.file bytes c.pieces.tokens c.pieces.standing c.pieces.at c.in-Ok.past c.pieces.invariant.state
-          (subst (λ (x : Option Word). IsPiece bytes (record { what = x; from = c.pieces.at; past = c.in-Ok.past })) is c.in-Ok.ensures.0)
+          (subst (λ (x : Option Word). IsLexeme bytes (record { what = x; from = c.pieces.at; past = c.in-Ok.past })) is c.in-Ok.ensures.0)
           c.in-Ok.ensures.3;
     }
 

@@ -5,7 +5,7 @@ use Rattle.fp_grammar.proofs.Walk.{begin, under, next, done, stop, stop_first, a
 use Rattle.fp_grammar.proofs.Steps.{map_accepts, map_refuses}
 use Rattle.fp_grammar.proofs.TurnSteps.{turn_next, turn_absent, turn_refuses}
 use Rattle.fp_parse_defs.specs.Lists.{gathered, separated_by, commas}
-use Rattle.fp_parse_defs.specs.Lists.Piece.{element}
+use Rattle.fp_parse_defs.specs.Lists.ListPiece.{element}
 use Rattle.fp_parse_defs.specs.Definitions as D
 use Rattle.fp_parse_defs.proofs.WordsFit.{each_kind}
 use Rattle.fp_parse_defs.proofs.DefinitionsFit as F

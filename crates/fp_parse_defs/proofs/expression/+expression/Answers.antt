@@ -11,7 +11,7 @@ use Rattle.fp_grammar.proofs.ChainSteps.{chain_begin, chain_first_refused, chain
 use Rattle.fp_parse_defs.specs.Kinds.{k_name, k_minus, k_open, k_open_bracket}
 use Rattle.fp_parse_defs.specs.Words.{nesting, literal, named}
 use Rattle.fp_parse_defs.specs.Lists.{gathered, separated_by, commas}
-use Rattle.fp_parse_defs.specs.Lists.Piece.{element}
+use Rattle.fp_parse_defs.specs.Lists.ListPiece.{element}
 use Rattle.fp_parse_defs.specs.Language
 use Rattle.fp_parse_defs.specs.Language.{with_item, with_member}
 use Rattle.fp_parse_defs.proofs.WordsFit.{each_kind, building_as}

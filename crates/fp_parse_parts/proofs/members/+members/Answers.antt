@@ -6,7 +6,7 @@ use Rattle.fp_grammar.proofs.Walk.{begin, under, next, done, stop, stop_first, a
 use Rattle.fp_grammar.proofs.Steps.{map_accepts, map_refuses, alt_first_accepts, alt_first_refuses, alt_second_accepts, alt_second_refuses, optional_absent, optional_accepts, optional_refuses}
 use Rattle.fp_grammar.proofs.TurnSteps.{turn_next, turn_absent, turn_refuses}
 use Rattle.fp_parse_defs.specs.Lists.{gathered, separated_by}
-use Rattle.fp_parse_defs.specs.Lists.Piece.{element}
+use Rattle.fp_parse_defs.specs.Lists.ListPiece.{element}
 use Rattle.fp_parse_defs.proofs.WordsFit.{each_kind}
 use Rattle.fp_parse_parts.specs.Members as M
 use Rattle.fp_parse_parts.specs.Members.{k_include, k_locate, k_module, semicolons, with_member}

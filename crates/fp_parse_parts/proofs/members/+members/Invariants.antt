@@ -3,7 +3,7 @@ use Rattle.fp_grammar.specs.Grammar.Grammar.{alternating}
 use Rattle.fp_grammar.proofs.Walk.{Reached}
 use Rattle.fp_parse_defs.specs.Kinds.{kind}
 use Rattle.fp_parse_defs.specs.Lists.{gathered, annotated, separated_by}
-use Rattle.fp_parse_defs.specs.Lists.Piece.{element}
+use Rattle.fp_parse_defs.specs.Lists.ListPiece.{element}
 use Rattle.fp_parse_parts.specs.Members as M
 use Rattle.fp_parse_parts.specs.Members.{semicolons, with_member}
 use Rattle.fp_parse_parts.proofs.members.+members.Given as goal

@@ -5,13 +5,13 @@ use Rattle.fp_base.specs.declared.refusal.Refusal.{Refusal}
 use Rattle.fp_base.specs.declared.rule.Rule.TheVariants.{TextTooLong}
 use Rattle.fp_base.specs.Least.{broken_at}
 use Rattle.fp_main.specs.gathering.Answers.{IsFound}
-use Rattle.fp_main.specs.declared.gathering.reading.Found.{Found}
+use Rattle.fp_main.specs.declared.gathering.reading.FileFound.{FileFound}
 use Rattle.fp_main.proofs.FoundInFiles.{found_in_broken, found_in_long, has_tokens}
 use Rattle.fp_main.proofs.gathering.reading.read_text.Goals as goal
 
 pub returns-then-passes : goal.returns-then-passes
 returns-then-passes c = λ r en et p.
-    subst (λ (f : Found). IsFound r f) (sym c.broken.ensures)
+    subst (λ (f : FileFound). IsFound r f) (sym c.broken.ensures)
     (found_in_long r c.args.number c.args.text.now en et c.refusal_if-limit.result c.place_of.result (MatchBool-at_true _ _ c.if-passes.true p)
     (c.refusal_if-limit.ensures ∙ ap (λ (b : Bool). cond b (Some (broken_at TextTooLong c.place_of.result)) None) c.if-passes.true) c.place_of.ensures c.in-Ok.ensures.1)
 
@@ -23,5 +23,5 @@ returns-in-Ok c =
 pub returns-in-Err-Broken : goal.returns-in-Err-Broken
 returns-in-Err-Broken c = λ r en et p.
     let stop = (rw c.in-Err-Broken.field-0-is at c.in-Err-Broken.ensures) in
-    subst (λ (f : Found). IsFound r f) (sym (c.broken-in-Err-Broken.ensures ∙ ap (λ (o : Option Refusal). record { members = []; tokens = o; grammar = None }) c.lesser.ensures))
+    subst (λ (f : FileFound). IsFound r f) (sym (c.broken-in-Err-Broken.ensures ∙ ap (λ (o : Option Refusal). record { members = []; tokens = o; grammar = None }) c.lesser.ensures))
     (found_in_broken r c.args.number c.args.text.now en et c.args.passes c.refusal_if-limit.result c.place_of.result c.in-Err-Broken.refusal p c.refusal_if-limit.ensures c.place_of.ensures stop.0 stop.1)
