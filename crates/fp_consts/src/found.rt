@@ -124,7 +124,12 @@ pub fn binary(
 }
 
 /// What is found of an expression that an operator makes, from what is found within.
-fn operated(outcome: Outcome, kinds: Option<Refusal>, within: Option<Refusal>, next: usize) -> Examination
+fn operated(
+    outcome: Outcome,
+    kinds: Option<Refusal>,
+    within: Option<Refusal>,
+    next: usize,
+) -> Examination
     ensures value { result.value ≡ option_map (λ n. leaf_of (Int n)) outcome.number }
     ensures first { result.first ≡ lesser_of (lesser_of outcome.broken kinds) within }
     ensures next { result.next ≡ next }

@@ -177,7 +177,11 @@ pub fn listed(whole: Whole) -> Examination
 }
 
 /// A struct of values, each under its member's name.
-pub fn structured(alloc: Global, members: &[Assignment], whole: Whole) -> Result<Examination, NoMemory>
+pub fn structured(
+    alloc: Global,
+    members: &[Assignment],
+    whole: Whole,
+) -> Result<Examination, NoMemory>
     ensures { IfOk result (λ found. found ≡ found_of (λ vs. Struct (parts_with members.now vs)) whole) }
 {
     let Whole {

@@ -2,7 +2,7 @@ ghost use Rattle.std.specs.Prelude.{◌≡◌, ◌-◌, ◌^◌, ◌<◌, max, I
 ghost use Rattle.fp_parse_defs.specs.Words as W;
 ghost use Rattle.fp_parse_defs.specs.Language;
 
-use crate::measured::{Items, Measured, Assignments, Setting};
+use crate::measured::{Assignments, Items, Measured, Setting};
 use crate::notes::join;
 use fp_base::{Boxed, NoMemory, Row, Span, Text};
 use fp_tree::{Assignment, Expr, Form, Operator};

@@ -7,7 +7,7 @@ ghost use Rattle.fp_parse_defs.specs.Language;
 use crate::build::{
     array, combined, grouped, negative, no_items, no_members, structure, with_item, with_member,
 };
-use crate::measured::{Items, Measured, Assignments, Setting};
+use crate::measured::{Assignments, Items, Measured, Setting};
 use crate::notes::{after_lines, appended, before_lines};
 use crate::words::{
     comma_at, expect_mark, expect_name, literal, mark_at, name_at, named, nested_at, plus_minus_at,

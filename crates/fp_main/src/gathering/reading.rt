@@ -63,7 +63,12 @@ fn parsed(alloc: Global, tokens: &Row<Token>) -> Result<FileFound, NoMemory>
 }
 
 /// What is found in the text of the file with a number. `passes` says that with it all files have more bytes than they may.
-pub fn read_text(alloc: Global, number: u32, passes: bool, text: &[u8]) -> Result<FileFound, NoMemory>
+pub fn read_text(
+    alloc: Global,
+    number: u32,
+    passes: bool,
+    text: &[u8],
+) -> Result<FileFound, NoMemory>
     ensures { IfOk result (λ found. (r : Reading) → r.number ≡ number → r.text ≡ text.now → MatchBool passes (Passes r) (Passes r → ⊥) → IsFound r found) }
 {
     let limit = refusal_if(passes, Rule::TextTooLong, place_of(number, text, 0));
