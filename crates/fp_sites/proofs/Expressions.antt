@@ -19,7 +19,7 @@ use Rattle.fp_meaning.specs.Names.{Path, in_form, in_expression, in_assignment, 
 use Rattle.fp_parse_defs.specs.declared.measured.Measured.{Measured}
 use Rattle.fp_parse_defs.specs.declared.measured.Setting.{Setting}
 use Rattle.fp_parse_defs.specs.declared.measured.Items.{Items}
-use Rattle.fp_parse_defs.specs.declared.measured.Members.{Members}
+use Rattle.fp_parse_defs.specs.declared.measured.Members.{Assignments}
 use Rattle.fp_parse_defs.specs.Kinds.{k_open, k_close, k_open_bracket, k_close_bracket, k_open_brace, k_close_brace, k_dot, k_times, k_over, k_plus, k_minus, k_equals}
 use Rattle.fp_parse_defs.specs.Words.{bare, leaf, literal, literal_form, named}
 use Rattle.fp_parse_defs.specs.Lists.{joined, commas}
@@ -134,7 +134,7 @@ module _ (G : Place → Type 0) (N : Name → Type 0) where
   abbrev StandInValue : Assignment → Type 0
   StandInValue a = Holds in_assignment names_in_assignment a
 
-  struct_stands : (p : Span × (Members × Span)) → Each StandInValue p.1.0.row → StandIn (made_struct p).expr
+  struct_stands : (p : Span × (Assignments × Span)) → Each StandInValue p.1.0.row → StandIn (made_struct p).expr
   struct_stands p h = of_form (made_struct p).expr (record { uses = λ scope. same_stand _ _ (struct_uses scope p.1.0.row) (flat_uses _ _ p.1.0.row h scope); names = same_names _ _ (struct_names p.1.0.row) (flat_names _ _ p.1.0.row h) })
 
   item_stands : (items : Items) (x : Measured) (lines : List (List ℕ)) → Each StandIn items.row → StandIn x.expr → Each StandIn (with_item items x lines).row
@@ -145,11 +145,11 @@ module _ (G : Place → Type 0) (N : Name → Type 0) where
     name : N s.name
     value : StandIn s.value.expr
 
-  member_stands : (members : Members) (s : Setting) (lines : List (List ℕ)) → Each StandInValue members.row → Set s → Each StandInValue (with_member members s lines).row
+  member_stands : (members : Assignments) (s : Setting) (lines : List (List ℕ)) → Each StandInValue members.row → Set s → Each StandInValue (with_member members s lines).row
   member_stands members s lines h k =
       each_push StandInValue members.row _ h (record { uses = λ scope. same_stand _ _ (assigned_uses scope _) (k.value.uses scope); names = same_names _ _ (assigned_names _) (k.name, k.value.names) })
 
-  no_members_stand : (o : Option Members) → InOption (λ (members : Members). Each StandInValue members.row) o → Each StandInValue (or_no_members o).row
+  no_members_stand : (o : Option Assignments) → InOption (λ (members : Assignments). Each StandInValue members.row) o → Each StandInValue (or_no_members o).row
   no_members_stand None h = tt
   no_members_stand (Some members) h = h
 
