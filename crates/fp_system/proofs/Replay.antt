@@ -4,7 +4,8 @@ use Rattle.std.proofs.lemmas.Bool.Decides.{nat_tests}
 use Rattle.fp_system.specs.System.{System, IsTaking}
 use Rattle.fp_system.specs.Run.{World, Step, Run, IsRun, opening}
 use Rattle.fp_system.specs.Schedule.{turn, schedule, replayed}
-use Rattle.fp_system.proofs.Scheduled.{mapped_some, schedule_run}
+use Rattle.fp_system.proofs.Scheduled.{schedule_run}
+use Rattle.fp_base.proofs.Options.{mapped_some}
 
 module _ {S A Q E : Type 0} (y : System S A Q E) where
   step_turn : (w v : World S A) (e : E) → Step y w e v → turn y w (y.actor e) ≡ Some (e, v)

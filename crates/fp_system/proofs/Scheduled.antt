@@ -4,14 +4,7 @@ use Rattle.std.proofs.lemmas.Bool.Decides.{nat_tests}
 use Rattle.fp_system.specs.System.{System, IsTaking}
 use Rattle.fp_system.specs.Run.{World, after, Step, Run}
 use Rattle.fp_system.specs.Schedule.{taken, turn, schedule}
-
-pub mapped_some : {T U : Type 0} (f : T → U) (o : Option T) (u : U) → option_map f o ≡ Some u → (t : T) × (o ≡ Some t) × (f t ≡ u)
-mapped_some f None u h = absurd (cc)
-mapped_some f (Some t) u h = (t, refl, cc)
-
-pub and_then_some : {T U : Type 0} (f : T → Option U) (o : Option T) (u : U) → option_and_then f o ≡ Some u → (t : T) × (o ≡ Some t) × (f t ≡ Some u)
-and_then_some f None u h = absurd (cc)
-and_then_some f (Some t) u h = (t, refl, h)
+use Rattle.fp_base.proofs.Options.{mapped_some, then_some}
 
 pub cond_some : {U : Type 0} (b : Bool) (o : Option U) (u : U) → cond b o None ≡ Some u → (b ≡ true) × (o ≡ Some u)
 cond_some true o u h = (refl, h)
@@ -34,9 +27,9 @@ module _ {S A Q E : Type 0} (y : System S A Q E) (taking : IsTaking y) where
 
   turn_step : (w v : World S A) (a : ℕ) (e : E) → turn y w a ≡ Some (e, v) → Step y w e v
   turn_step w v a e h =
-      let asked = and_then_some (λ (d : ℕ × Q). option_and_then (taken y w a) (y.instance_part d.0 (w.instances d.0) a d.1 (y.actor_stamp (w.actors a)))) (y.due a (w.actors a)) (e, v) h in
+      let asked = then_some (λ (d : ℕ × Q). option_and_then (taken y w a) (y.instance_part d.0 (w.instances d.0) a d.1 (y.actor_stamp (w.actors a)))) (y.due a (w.actors a)) (e, v) h in
       let d : ℕ × Q = asked.0 in
-      let gave = and_then_some (taken y w a) (y.instance_part d.0 (w.instances d.0) a d.1 (y.actor_stamp (w.actors a))) (e, v) asked.2 in
+      let gave = then_some (taken y w a) (y.instance_part d.0 (w.instances d.0) a d.1 (y.actor_stamp (w.actors a))) (e, v) asked.2 in
       let r : E × S = gave.0 in
       let low = cond_some (nat_le (y.stamp r.0) y.steps) (option_map (λ x. (r.0, after y w r.0 r.1 x)) (y.actor_part a (w.actors a) r.0)) (e, v) gave.2 in
       let took = mapped_some (λ x. (r.0, after y w r.0 r.1 x)) (y.actor_part a (w.actors a) r.0) (e, v) low.1 in
@@ -53,7 +46,7 @@ module _ {S A Q E : Type 0} (y : System S A Q E) (taking : IsTaking y) where
       let same : ◌≡◌ {A = List E × World S A} ([], w) (es, v) = cc in
       subst (λ (p : List E × World S A). Run y w p.0 p.1) same refl
   schedule_run (a ∷ order) w v es h =
-      let first = and_then_some (λ (r : E × World S A). option_map (λ (rest : List E × World S A). (r.0 ∷ rest.0, rest.1)) (schedule y r.1 order)) (turn y w a) (es, v) h in
+      let first = then_some (λ (r : E × World S A). option_map (λ (rest : List E × World S A). (r.0 ∷ rest.0, rest.1)) (schedule y r.1 order)) (turn y w a) (es, v) h in
       let r : E × World S A = first.0 in
       let rest = mapped_some (λ (rest : List E × World S A). (r.0 ∷ rest.0, rest.1)) (schedule y r.1 order) (es, v) first.2 in
       let tail : Run y r.1 rest.0.0 rest.0.1 = schedule_run order r.1 rest.0.1 rest.0.0 rest.1 in
