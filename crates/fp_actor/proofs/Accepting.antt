@@ -23,9 +23,9 @@ use Rattle.fp_actor.specs.Placed.{AreKept, Goes}
 use Rattle.fp_actor.specs.Awaited.{IsAwaited, is_assert}
 use Rattle.fp_actor.proofs.Awaiting.{awaited}
 use Rattle.fp_actor.proofs.Growing.{frames_grown}
-use Rattle.fp_actor.proofs.Stacking.{at_end}
 use Rattle.fp_actor.proofs.Keeping.{before_all}
 use Rattle.fp_actor.proofs.Closing.{follows_halted}
+use Rattle.fp_base.proofs.Lists.{get_last}
 
 pub rooms : (a b c d e f : ℕ) → (nat_lt a b && nat_lt c d && nat_lt e f) ≡ true → (a < b) × (c < d) × (e < f)
 rooms a b c d e f h =
@@ -106,7 +106,7 @@ module _ (t : Described) (program : Program) (number : ℕ) (trace : List Entry)
             went : Goes t program number (trace ++ e ∷ []) e bs ls cs ms
             went =
                 let whole : seen ≡ trace ++ e ∷ [] = same ∙ pushed in
-                let there : slice_get seen at ≡ Some e = (λ j. slice_get (whole j) (end j)) ∙ at_end trace e in
+                let there : slice_get seen at ≡ Some e = (λ j. slice_get (whole j) (end j)) ∙ get_last trace e in
                 subst (λ es. Goes t program number es e bs ls cs ms) whole (follow e there (subst (λ es. IsAwaited (frames t program number es bs ls) e.what) (sym whole) awaits))
 
             pub kept_after : AreKept t program number grown cs ms

@@ -19,9 +19,9 @@ use Rattle.fp_actor.specs.declared.level.Binding.{Binding}
 use Rattle.fp_actor.specs.declared.stack.First.{First}
 use Rattle.fp_actor.specs.Levels.{opening_of, advanced, raised, settled, entry_of, lists_in, action_of, level_of_entry, AreUpTo, IsFirst, IsBindable}
 use Rattle.fp_actor.specs.Placed.{IsBefore, IsBaseBefore, AreBefore, IsBeginning, HasList, Stands, AreStanding, AreKept}
-use Rattle.fp_actor.proofs.Stacking.{at_end}
 use Rattle.fp_actor.proofs.Dueness.{settled_within}
 use Rattle.fp_actor.proofs.Growing.{lists_grown}
+use Rattle.fp_base.proofs.Lists.{get_last}
 
 module _ {A : Type 0} where
   got_in : (n : ℕ) (xs : List A) (k : ℕ) (x : A) → slice_get (take n xs) k ≡ Some x → (slice_get xs k ≡ Some x) × (take k (take n xs) ≡ take k xs)
@@ -89,7 +89,7 @@ module _ (t : Described) (program : Program) (number : ℕ) (trace : List Entry)
   standing_below n xs x h = subst (λ (ls : List Level). AllStand n ls) (take-append_seam xs (x ∷ [])) (standing_take n (length xs) (xs ++ x ∷ []) h)
 
   standing_last : (n : ℕ) (xs : List Level) (x : Level) → AllStand n (xs ++ x ∷ []) → StandsSo n xs x
-  standing_last n xs x h = subst (λ (lower : List Level). StandsSo n lower x) (take-append_seam xs (x ∷ [])) (h (length xs) x (at_end xs x))
+  standing_last n xs x h = subst (λ (lower : List Level). StandsSo n lower x) (take-append_seam xs (x ∷ [])) (h (length xs) x (get_last xs x))
 
   stands_settled : (n : ℕ) (lower : List Level) (l : Level) (p : Position) → p.source ≡ l.next.source → StandsSo n lower l → StandsSo n lower (settled l p)
   stands_settled n lower l p e s = record {

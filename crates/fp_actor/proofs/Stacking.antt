@@ -21,21 +21,13 @@ use Rattle.fp_actor.specs.declared.stack.First.{First}
 use Rattle.fp_actor.specs.declared.stack.Bottom.{Bottom}
 use Rattle.fp_actor.specs.Levels.{reached, begun, settled, advanced, lists_in, action_at, action_of, bound_in, binding, made, left, over, stacked, frames, framed, IsFirst, IsBottom}
 use Rattle.fp_actor.proofs.Settling.{Settled, settle, spent}
+use Rattle.fp_base.proofs.Lists.{get_last, get_front}
 
 pub drop_all : {A : Type 0} (n : ℕ) (xs : List A) → drop n (take n xs) ≡ []
 drop_all zero [] = refl
 drop_all zero (x ∷ xs) = refl
 drop_all (suc n) [] = refl
 drop_all (suc n) (x ∷ xs) = drop_all n xs
-
-pub at_end : {A : Type 0} (xs : List A) (x : A) → slice_get (xs ++ x ∷ []) (length xs) ≡ Some x
-at_end [] x = refl
-at_end (y ∷ ys) x = at_end ys x
-
-pub in_front : {A : Type 0} (xs ys : List A) (k : ℕ) (x : A) → slice_get xs k ≡ Some x → slice_get (xs ++ ys) k ≡ Some x
-in_front [] ys k x e = absurd (cc)
-in_front (y ∷ xs) ys zero x e = e
-in_front (y ∷ xs) ys (suc k) x e = in_front xs ys k x e
 
 module _ (t : Described) (program : Program) (number : ℕ) (trace : List Entry) (bindings : List Binding) where
   abbrev lists : Level → List Doing
@@ -140,7 +132,7 @@ module _ (t : Described) (program : Program) (number : ℕ) (trace : List Entry)
       let here = top l p.list p.action x e l.base fs refl in
       record {
         level = l;
-        there = at_end xs l;
+        there = get_last xs l;
         from = refl;
         source = refl;
         few = few;
@@ -175,7 +167,7 @@ module _ (t : Described) (program : Program) (number : ℕ) (trace : List Entry)
         let le : f.below ≤ length xs = omega arith in
         record {
           level = i.level;
-          there = in_front xs (l ∷ []) f.below i.level i.there;
+          there = get_front xs (l ∷ []) f.below i.level i.there;
           from = i.from;
           source = i.source;
           few = i.few;
@@ -216,7 +208,7 @@ module _ (t : Described) (program : Program) (number : ℕ) (trace : List Entry)
 
   pub bottom_here : (xs : List Level) (l : Level) → (l.base ≡ base.Inside → ⊥) → IsBottom t program number trace bindings (xs ++ l ∷ []) (record { below = length xs; level = l })
   bottom_here xs l other = record {
-    there = at_end xs l;
+    there = get_last xs l;
     doing = left t program number trace bindings l;
     is =
         snoc [] xs l ∙ bottom_of l.base l (stacked t program number trace bindings [] xs) other
@@ -242,7 +234,7 @@ module _ (t : Described) (program : Program) (number : ℕ) (trace : List Entry)
       let lt : b.below < length xs = slice_get_within xs b.below b.level i.there in
       let le : b.below ≤ length xs = omega arith in
       record {
-        there = in_front xs (l ∷ []) b.below b.level i.there;
+        there = get_front xs (l ∷ []) b.below b.level i.there;
         doing = left t program number trace bindings l ++ i.doing;
         is =
             snoc [] xs l ∙ ap (λ c. on c l (stacked t program number trace bindings [] xs)) h ∙ ap (on base.Inside l) i.is

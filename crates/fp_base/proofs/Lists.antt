@@ -1,7 +1,7 @@
 -- What a list has at an index, and what holds of each of its items.
 use Rattle.std.proofs.Common.{◌≡◌, ℕ, zero, suc, ◌+◌, ◌<◌, Bool, true, List, [], ◌∷◌, ◌++◌, length, map, flat_map, take, slice_get, Option, Some, None, refl, sym, ap, ◌∙◌, subst, arith}
 use Rattle.std.specs.Prelude.{is_some, nat_lt}
-use Rattle.std.specs.List.{AllByRecursion, Contains, list_all, slice_index_or}
+use Rattle.std.specs.List.{AllByRecursion, Contains, list_all, list_any, slice_index_or}
 use Rattle.std.proofs.lemmas.Bool.Decides.{nat_tests}
 use Rattle.std.proofs.lemmas.List.Elements.{All-contains, All-from_recursion, Contains-get_or, recursion_from_All}
 use Rattle.std.proofs.lemmas.Option.{get_or_from_slice_get, slice_get_within}
@@ -40,6 +40,10 @@ pub all_get : {A : Type 0} (p : A → Bool) (xs : List A) (k : ℕ) (x : A) → 
 all_get p [] k x h e = absurd (cc)
 all_get p (y ∷ xs) zero x h e = subst (λ z. p z ≡ true) (same_some e) (both (p y) (list_all p xs) h).0
 all_get p (y ∷ xs) (suc k) x h e = all_get p xs k x (both (p y) (list_all p xs) h).1 e
+
+pub any_same : {A : Type 0} (p q : A → Bool) → ((x : A) → p x ≡ q x) → (xs : List A) → list_any p xs ≡ list_any q xs
+any_same p q same [] = refl
+any_same p q same (x ∷ xs) = rw (same x, any_same p q same xs) refl
 
 -- of what an option holds
 abbrev pub InOption : {A : Type 0} → (A → Type 0) → Option A → Type 0

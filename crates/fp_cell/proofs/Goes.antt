@@ -1,7 +1,6 @@
 -- What an instance tells for what may be asked fits, and what it leaves is kinded.
-use Rattle.std.proofs.Common.{◌≡◌, ℕ, suc, Bool, true, false, cond, nat_lt, length, List, [], ◌∷◌, ◌++◌, map, set, get_or, Option, Some, None, option_map, option_and_then, unwrap_or, is_some, refl, sym, ap, ◌∙◌, subst, slice_get, int_lt, ◌⊎◌, inl, inr}
+use Rattle.std.proofs.Common.{◌≡◌, ℕ, suc, Bool, true, false, cond, nat_lt, length, List, [], ◌∷◌, ◌++◌, map, set, get_or, Option, Some, None, option_map, option_and_then, unwrap_or, is_some, refl, sym, ap, ◌∙◌, subst, slice_get, int_lt, ◌⊎◌, inl, inr, ◌==◌}
 use Rattle.std.specs.List.{list_all}
-use Rattle.std.proofs.Common.{◌==◌}
 use Rattle.fp_tables.specs.Specials.{component}
 use Rattle.fp_base.proofs.Options.{mapped_some, then_some, same_some, some_of}
 use Rattle.fp_base.proofs.Lists.{all_get, get_below}
@@ -49,6 +48,7 @@ use Rattle.fp_machine_flat.specs.Moving.{is_leaf}
 use Rattle.fp_cell.specs.Kinded.{IsKinded}
 use Rattle.fp_cell.proofs.KindsOf.{mapped_test_of, kind_at, there_at, kinds_set, Sets, set_value, set_read}
 use Rattle.fp_cell.proofs.Parts.{HasGoodParts}
+use Rattle.fp_events.proofs.Fitting.{kind_there}
 
 -- ---- the queue
 
@@ -364,10 +364,6 @@ module _ (t : Described) (program : Program) (i a : ℕ) (s : Inside) (good : Ha
   manner_known r (Some (sets k)) how h = refl
   manner_known r (Some (saves k)) how h = saved_there r.point k how
 
-  kind_there : {X : Type 0} (f : X → Kind) (o : Option X) (v : Value) → value_fits t program (option_map f o) v ≡ true → is_some o ≡ true
-  kind_there f None v h = absurd (cc)
-  kind_there f (Some x) v h = refl
-
   -- what may be asked is there
   pub asked_there : (q : Ask) → ask_fits t program i q ≡ true → is_there t i s q ≡ true
   unfolding ask_fits is_there
@@ -379,7 +375,7 @@ module _ (t : Described) (program : Program) (i a : ℕ) (s : Inside) (good : Ha
   asked_there ask.Take can = refl
   asked_there ask.Dispatch can = refl
   asked_there (ask.Emit event with) can = ap is_some (mapped_test_of (event_takes t program with) (slice_get (component t i).events event) can).1
-  asked_there (ask.Write channel v) can = kind_there (λ (x : Channel). x.kind) (slice_get (component t i).channels channel) v can
+  asked_there (ask.Write channel v) can = kind_there t program (λ (x : Channel). x.kind) (slice_get (component t i).channels channel) v can
   asked_there (ask.Read param) can = sym (there_at t.model.types (component t i).params s.params param is.params) ∙ can
   asked_there (ask.Advance running signal v) can =
       let named = some_of (signal_at t program i running signal) can in

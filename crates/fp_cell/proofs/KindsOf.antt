@@ -1,11 +1,9 @@
 -- Values of given kinds: one of them, one replaced, and the one of a set command.
 use Rattle.std.proofs.Common.{◌≡◌, ℕ, zero, suc, Bool, true, false, List, [], ◌∷◌, map, set, get_or, Option, Some, None, option_map, unwrap_or, is_some, refl, sym, ap, ◌∙◌, slice_get, ◌⊎◌, inl, inr}
 use Rattle.std.proofs.lemmas.Bool.{false≢true}
-use Rattle.fp_base.proofs.Sameness.{nat_same}
 use Rattle.fp_base.specs.declared.value.Value.{Value}
 use Rattle.fp_base.proofs.Bools.{both, join}
 use Rattle.fp_tables.specs.Components.{same_kind, takes_its_value}
-use Rattle.fp_tables.specs.Lists.{some_and}
 use Rattle.fp_tables.specs.Types.{has_kind, have_kinds}
 use Rattle.fp_tables.specs.declared.component.Command.{Command}
 use Rattle.fp_tables.specs.declared.component.Param.{Param}
@@ -14,28 +12,12 @@ use Rattle.fp_tables.specs.declared.kind.Formal.{Formal}
 use Rattle.fp_tables.specs.declared.kind.Kind.{Kind}
 use Rattle.fp_tables.specs.declared.kind.Kind.TheVariants as kind
 use Rattle.fp_tables.specs.declared.kind.TypeDef.{TypeDef}
-
-pub some_and_of : {X : Type 0} (p : X → Bool) (o : Option X) → some_and p o ≡ true → (x : X) × (o ≡ Some x) × (p x ≡ true)
-some_and_of p None h = absurd (cc)
-some_and_of p (Some x) h = (x, refl, h)
+use Rattle.fp_tables.proofs.Optional.{some_and_of}
+use Rattle.fp_tables.proofs.OneKind.{same_kind_is}
 
 pub mapped_test_of : {X : Type 0} (p : X → Bool) (o : Option X) → unwrap_or (option_map p o) false ≡ true → (x : X) × (o ≡ Some x) × (p x ≡ true)
 mapped_test_of p None h = absurd (cc)
 mapped_test_of p (Some x) h = (x, refl, h)
-
-same_kind_is : (j k : Kind) → same_kind j k ≡ true → j ≡ k
-same_kind_is kind.U8 kind.U8 h = refl
-same_kind_is kind.U16 kind.U16 h = refl
-same_kind_is kind.U32 kind.U32 h = refl
-same_kind_is kind.U64 kind.U64 h = refl
-same_kind_is kind.I8 kind.I8 h = refl
-same_kind_is kind.I16 kind.I16 h = refl
-same_kind_is kind.I32 kind.I32 h = refl
-same_kind_is kind.I64 kind.I64 h = refl
-same_kind_is kind.Bool kind.Bool h = refl
-same_kind_is (kind.Str m) (kind.Str n) h = ap kind.Str (nat_same.equal m n h)
-same_kind_is (kind.Named m) (kind.Named n) h = ap kind.Named (nat_same.equal m n h)
-same_kind_is _ _ h = absurd (cc)
 
 module _ (types : List TypeDef) where
   -- the value at a place has the kind that stands there

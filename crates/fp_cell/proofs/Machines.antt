@@ -1,5 +1,5 @@
 -- The machines of an instance of a sound model.
-use Rattle.std.proofs.Common.{◌≡◌, ℕ, Bool, true, false, not, List, length, None, Some, slice_get, refl}
+use Rattle.std.proofs.Common.{◌≡◌, ℕ, Bool, true, not, List, length, None, Some, slice_get}
 use Rattle.fp_base.proofs.Lists.{all_get}
 use Rattle.fp_tables.specs.Components.{runs_no_external}
 use Rattle.fp_tables.specs.Lists.{some_and}
@@ -18,7 +18,8 @@ use Rattle.fp_machine_flat.proofs.FittingMoves.{starts_are, moves_on, fitting}
 use Rattle.fp_machine_flat.proofs.SoundMachines.{machine_is_sound, running_given}
 use Rattle.fp_cell.specs.Settled.{IsRunnable}
 use Rattle.fp_cell.proofs.Goes.{EndsWell, MachinesGoWell}
-use Rattle.fp_cell.proofs.KindsOf.{some_and_of}
+use Rattle.fp_tables.proofs.Optional.{some_and_of}
+use Rattle.fp_base.proofs.Bools.{not_true}
 
 pub machines_go_well : (t : Described) (program : Program) (i : ℕ) → IsSound t.model → MachinesGoWell t program i
 machines_go_well t program i sound =
@@ -40,14 +41,10 @@ machines_go_well t program i sound =
         (moves_on t.model.types m (running_given t i running m sound runs) answers c signal named leaf is) in
         record { fits = f.fits; leaf = f.ends_at_a_leaf }
 
-has_body : (b : Bool) → not b ≡ true → b ≡ false
-has_body true h = absurd (cc)
-has_body false h = refl
-
 -- each machine instance of a component of the model
 pub runnable : (model : Model) (n : ℕ) (c : Component) → IsSound model → slice_get model.components n ≡ Some c → (k : ℕ) (r : Running) → slice_get c.machines k ≡ Some r → IsRunnable model.machines r
 runnable model n c sound found k r at =
     let each = all_get (runs_no_external model.machines) model.components n c sound.components.no_external_machine_runs found in
     let m = some_and_of (λ (m : Machine). not m.external) (slice_get model.machines r.machine)
     (all_get (λ (r : Running). some_and (λ (m : Machine). not m.external) (slice_get model.machines r.machine)) c.machines k r each at) in
-    record { runs = m.0; found = m.1; sound = machine_is_sound model r.machine m.0 sound m.1 (has_body m.0.external m.2) }
+    record { runs = m.0; found = m.1; sound = machine_is_sound model r.machine m.0 sound m.1 (not_true m.0.external m.2) }

@@ -7,7 +7,7 @@ use Rattle.fp_tables.specs.declared.machine.Step.{Step}
 use Rattle.fp_events.specs.Machine.{Walk, climb, parent, node, answer, ask, upward, target_of, onward, goes, crossing, first_these, IsRanked}
 
 module _ (m : Machine) where
-  climb_none : (n : ℕ) → climb m n None ≡ []
+  pub climb_none : (n : ℕ) → climb m n None ≡ []
   climb_none zero = refl
   climb_none (suc n) = refl
 

@@ -30,9 +30,10 @@ use Rattle.fp_events.specs.Due.{first_action, first_in}
 use Rattle.fp_events.specs.Lookup.{handler}
 use Rattle.fp_base.proofs.Options.{same_some}
 use Rattle.fp_logtext.specs.Fitting.{is_special_end, is_special_role}
-use Rattle.fp_typing.proofs.Lists.{find_passes, some_and_of}
+use Rattle.fp_typing.proofs.Lists.{find_passes}
 use Rattle.fp_logtext.proofs.Listed as listed
 use Rattle.fp_logtext.proofs.Bridge.{listed_handlers}
+use Rattle.fp_tables.proofs.Optional.{some_and_of}
 
 module _ (t : Described) where
   -- of a handler's actions those along a wire begin at a general port, and a response has a name

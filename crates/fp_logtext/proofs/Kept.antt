@@ -31,7 +31,6 @@ use Rattle.fp_events.specs.Follows.{without_first, bind, in_frame, replaced, rem
 use Rattle.fp_events.specs.Lookup.{handler}
 use Rattle.fp_events.specs.Manners.{Manner, by, sets, saves, manner}
 use Rattle.fp_base.proofs.Lists.{all_get}
-use Rattle.fp_tables.specs.declared.kind.Kind.{Kind}
 use Rattle.fp_events.specs.declared.event.Fate.{Fate}
 use Rattle.fp_events.specs.declared.event.Fate.TheVariants.{Sent, Held, Same, Unwired}
 use Rattle.fp_events.specs.declared.event.Point.{Point}
@@ -43,6 +42,7 @@ use Rattle.fp_logtext.proofs.Components.{names_at}
 use Rattle.fp_logtext.proofs.Commands.{implied, of_save, saves_part}
 use Rattle.fp_logtext.proofs.AtHome.{InnermostAt}
 use Rattle.fp_logtext.proofs.Frames.{action_is_good, frame_is_good, frames_are_good, handler_good, without_first_passes, bind_passes, more_pass}
+use Rattle.fp_events.proofs.Fitting.{kind_there}
 
 module _ (t : Described) (program : Program) (sound : IsSound t.model) (good : IsSoundProgram t program) where
   acts_good : (i : ℕ) (place : Spot) → list_all (action_is_good t false i) (acts_at t program i place) ≡ true
@@ -225,11 +225,7 @@ module _ (t : Described) (program : Program) (sound : IsSound t.model) (good : I
       join _ (frames_are_good t (removed x.frames)) (join (list_all (action_is_good t false i) (handling t program i point vs).actions) true (handling_good i point vs) refl) (removed_good x.frames h)
   follows_good i x what.Empty fit at h = removed_good x.frames h
   follows_good i x (what.Emit event became text) fit at h = sent_as_good i became special.Event _ x.frames (event_named i event fit) h
-  follows_good i x (what.Write channel became v) fit at h = sent_as_good i became special.Tlm _ x.frames (channel_named i channel (kind_there (λ (c : Channel). c.kind) (slice_get (component t i).channels channel) v fit)) h
-    where
-      kind_there : {X : Type 0} (f : X → Kind) (o : Option X) (v : Value) → value_fits t program (option_map f o) v ≡ true → is_some o ≡ true
-      kind_there f None v h = absurd (cc)
-      kind_there f (Some x) v h = refl
+  follows_good i x (what.Write channel became v) fit at h = sent_as_good i became special.Tlm _ x.frames (channel_named i channel (kind_there t program (λ (c : Channel). c.kind) (slice_get (component t i).channels channel) v fit)) h
   follows_good i x (what.Read param v) fit at h = read_good (λ old. bound_name t program (first_action old)) v x.frames h
   follows_good i x (what.Start running actions leaf) fit at h = performing_good i running actions (λ old. value_in (first_action old)) (λ old. old) x.frames (λ p ds k. k) at h
   follows_good i x (what.Move running signal actions leaf) fit at h = performing_good i running actions (λ old. value_in (first_action old)) without_first x.frames without_first_passes at h

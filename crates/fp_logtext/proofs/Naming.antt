@@ -31,9 +31,11 @@ use Rattle.fp_base.proofs.Options.{mapped_some, then_some, some_of}
 use Rattle.fp_logtext.specs.Names.{action_of, vertex_of, signal_of, machine_at, signal_name}
 use Rattle.fp_logtext.specs.Named.{point_is_named, origin_is_named, arrival_is_named, going_is_named, what_is_named}
 use Rattle.fp_logtext.specs.Fitting.{is_of, suit_point, values_fit}
-use Rattle.fp_typing.proofs.Lists.{some_and_of, all_implied, mapped_test, some_mapped, some_and_at}
+use Rattle.fp_typing.proofs.Lists.{all_implied, mapped_test, some_mapped, some_and_at}
 use Rattle.fp_typing.proofs.Parts.{port_in, command_in, event_in, channel_in, param_in}
 use Rattle.fp_logtext.proofs.Components.{machine_in}
+use Rattle.fp_tables.proofs.Optional.{some_and_of}
+use Rattle.fp_events.proofs.Fitting.{kind_there}
 
 module _ (t : Described) (program : Program) where
   point_kinds : (i : ℕ) (point : Point) (vs : List Value) → point_fits t program i point vs ≡ true → suit_point t program i point vs ≡ true
@@ -89,10 +91,6 @@ module _ (t : Described) (program : Program) where
   of_kind None v h = h
   of_kind (Some k) v h = h
 
-  kind_there : {X : Type 0} (f : X → Kind) (o : Option X) (v : Value) → value_fits t program (option_map f o) v ≡ true → is_some o ≡ true
-  kind_there f None v h = absurd (cc)
-  kind_there f (Some x) v h = refl
-
   going_named : (k : Option Kind) (o : Option Machine) (actions : List ℕ) (leaf : ℕ) → going_fits t program k o actions leaf ≡ true → some_and (going_is_named t.model actions leaf) o ≡ true
   going_named k None actions leaf h = absurd (cc)
   going_named k (Some x) actions leaf h =
@@ -120,8 +118,8 @@ module _ (t : Described) (program : Program) where
   fit_named i (what.Take number point vs) h = point_named i point vs h
   fit_named i what.Empty h = refl
   fit_named i (what.Emit event became text) h = some_mapped _ _ ∙ ap is_some (sym (event_in t i event)) ∙ h
-  fit_named i (what.Write channel became v) h = some_mapped _ _ ∙ ap is_some (sym (channel_in t i channel)) ∙ kind_there (λ (c : Channel). c.kind) (slice_get (component t i).channels channel) v h
-  fit_named i (what.Read param v) h = some_mapped _ _ ∙ ap is_some (sym (param_in t i param)) ∙ kind_there (λ (p : Param). p.kind) (slice_get (component t i).params param) v h
+  fit_named i (what.Write channel became v) h = some_mapped _ _ ∙ ap is_some (sym (channel_in t i channel)) ∙ kind_there t program (λ (c : Channel). c.kind) (slice_get (component t i).channels channel) v h
+  fit_named i (what.Read param v) h = some_mapped _ _ ∙ ap is_some (sym (param_in t i param)) ∙ kind_there t program (λ (p : Param). p.kind) (slice_get (component t i).params param) v h
   fit_named i (what.Start running actions leaf) h =
       ap (some_and (going_is_named t.model actions leaf)) (sym (machine_in t i running)) ∙ going_named None (machine t i running) actions leaf h
   fit_named i (what.Move running signal actions leaf) h =

@@ -21,7 +21,7 @@ use Rattle.fp_machine_flat.specs.Layout.{transition_node, start_node, transition
 use Rattle.fp_machine_flat.specs.Walking.{walk}
 use Rattle.fp_machine_flat.specs.Moving.{has_no_initial, is_leaf, target_walk, Starts}
 use Rattle.fp_machine_flat.specs.Placed.{Grows, HasBranches, StandFor, StandForLeaves, found, IsTarget, IsFlat}
-use Rattle.fp_machine_flat.proofs.Climbing.{climb_none}
+use Rattle.fp_events.proofs.Room.{climb_none}
 use Rattle.fp_machine_flat.proofs.SoundParts.{get_some, node_within, initial_low, on_low, on_target_low}
 use Rattle.fp_machine_flat.proofs.Ranks.{rank, is_ranked, rank_low}
 use Rattle.fp_machine_flat.proofs.Followed.{step_follows, transition_follows}

@@ -1,5 +1,5 @@
 -- What actions and guards want, and what they are given.
-use Rattle.std.proofs.Common.{◌≡◌, ℕ, Bool, true, false, cond, ◌&&◌, eqb, List, Option, None, Some, refl, sym, ap, ap₂, subst, ◌∙◌, arith}
+use Rattle.std.proofs.Common.{◌≡◌, Bool, true, false, cond, ◌&&◌, List, Option, None, Some, refl, sym, ap, ap₂, subst, ◌∙◌, arith}
 use Rattle.std.proofs.lemmas.Bool.Decides.{nat_tests}
 use Rattle.fp_tables.specs.Components.{same_kind}
 use Rattle.fp_tables.specs.Machines.{target, is_given}
@@ -11,25 +11,7 @@ use Rattle.fp_tables.specs.declared.machine.Named.{Named}
 use Rattle.fp_tables.specs.declared.machine.Machine.{Machine}
 use Rattle.fp_sound_machines.specs.declared.wanted.Wanted.{Wanted}
 use Rattle.fp_sound_machines.specs.declared.wanted.Wanted.TheVariants.{Nothing, One, Never}
-
--- ---- kinds that are the same
-
-same_numbers : (m n : ℕ) → eqb m n ≡ true → m ≡ n
-same_numbers m n h = grind (arith, nat_tests)
-
-same_kind_true : (j k : Kind) → same_kind j k ≡ true → j ≡ k
-same_kind_true kind.U8 kind.U8 h = refl
-same_kind_true kind.U16 kind.U16 h = refl
-same_kind_true kind.U32 kind.U32 h = refl
-same_kind_true kind.U64 kind.U64 h = refl
-same_kind_true kind.I8 kind.I8 h = refl
-same_kind_true kind.I16 kind.I16 h = refl
-same_kind_true kind.I32 kind.I32 h = refl
-same_kind_true kind.I64 kind.I64 h = refl
-same_kind_true kind.Bool kind.Bool h = refl
-same_kind_true (kind.Str m) (kind.Str n) h = ap kind.Str (same_numbers m n h)
-same_kind_true (kind.Named m) (kind.Named n) h = ap kind.Named (same_numbers m n h)
-same_kind_true j k h = absurd (cc)
+use Rattle.fp_tables.proofs.OneKind.{same_kind_is}
 
 same_kind_refl : (k : Kind) → same_kind k k ≡ true
 same_kind_refl (kind.Str n) = grind (arith, nat_tests)
@@ -52,8 +34,8 @@ and_self false = refl
 
 not_both : (g j k : Kind) → same_kind j k ≡ false → (a b : Bool) → same_kind g j ≡ a → same_kind g k ≡ b → false ≡ (a && b)
 not_both g j k h true true p q =
-    let first : g ≡ j = same_kind_true g j p in
-    let second : g ≡ k = same_kind_true g k q in
+    let first : g ≡ j = same_kind_is g j p in
+    let second : g ≡ k = same_kind_is g k q in
     let same : j ≡ k = sym first ∙ second in
     let here : same_kind j k ≡ true = subst (λ (i : Kind). same_kind j i ≡ true) same (same_kind_refl j) in
     absurd (cc)
@@ -61,7 +43,7 @@ not_both g j k h true false p q = refl
 not_both g j k h false b p q = refl
 
 one_both : (g j k : Kind) (b : Bool) → same_kind j k ≡ b → cond b (same_kind g j) false ≡ (same_kind g j && same_kind g k)
-one_both g j k true h = and_self (same_kind g j) ∙ ap (λ (i : Kind). same_kind g j && same_kind g i) (same_kind_true j k h)
+one_both g j k true h = and_self (same_kind g j) ∙ ap (λ (i : Kind). same_kind g j && same_kind g i) (same_kind_is j k h)
 one_both g j k false h = not_both g j k h (same_kind g j) (same_kind g k) refl refl
 
 module _ (types : List TypeDef) (given : Option Kind) where

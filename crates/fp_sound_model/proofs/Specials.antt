@@ -1,16 +1,12 @@
 -- The kinds of special ports, compared.
-use Rattle.std.proofs.Common.{◌≡◌, Bool, List, [], ◌∷◌, refl, ap₂, ◌&&◌, ◌||◌, not}
-use Rattle.std.specs.List.{list_any}
+use Rattle.std.proofs.Common.{◌≡◌, Bool, List, [], ◌∷◌, refl, ap₂, ◌&&◌, not}
 use Rattle.std.specs.Ordering.{eq_by_cmp}
 use Rattle.fp_tables.specs.Lists.{apart}
 use Rattle.fp_tables.specs.Components.{same_special}
 use Rattle.fp_tables.specs.contracts.component.SpecialOrd.TheImpl as compared
 use Rattle.fp_tables.specs.declared.component.Special.{Special}
 use Rattle.fp_tables.specs.declared.component.Special.TheVariants.{CmdRecv, CmdReg, CmdResp, Event, TextEvent, Tlm, Time, PrmGet, PrmSet}
-
-any_same : {X : Type 0} (f g : X → Bool) → ((x : X) → f x ≡ g x) → (xs : List X) → list_any f xs ≡ list_any g xs
-any_same f g same [] = refl
-any_same f g same (x ∷ xs) = ap₂ (λ (a b : Bool). a || b) (same x) (any_same f g same xs)
+use Rattle.fp_base.proofs.Lists.{any_same}
 
 pub apart_same : {X : Type 0} (e f : X → X → Bool) → ((x y : X) → e x y ≡ f x y) → (xs : List X) → apart e xs ≡ apart f xs
 apart_same e f same [] = refl

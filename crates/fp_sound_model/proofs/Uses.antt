@@ -8,6 +8,7 @@ use Rattle.fp_tables.specs.declared.kind.Kind.{Kind}
 use Rattle.fp_tables.specs.declared.kind.Kind.TheVariants.{Named}
 use Rattle.fp_tables.specs.declared.kind.Form.{Form}
 use Rattle.fp_tables.specs.declared.kind.TypeDef.{TypeDef}
+use Rattle.fp_base.proofs.Bools.{both}
 
 any_more : {X : Type 0} (f g : X → Bool) → ((x : X) → f x ≡ true → g x ≡ true) → (xs : List X) → list_any f xs ≡ true → list_any g xs ≡ true
 any_more f g more [] h = absurd (cc)
@@ -30,11 +31,6 @@ some_more p q last more (Some f) h = either (last f) (list_any q (kinds_in f)) (
 some_is : (p : Form → Bool) (o : Option Form) → some_and p o ≡ true → is_some o ≡ true
 some_is p None h = absurd (cc)
 some_is p (Some f) h = refl
-
-both : (a b : Bool) → (a && b) ≡ true → (a ≡ true) × (b ≡ true)
-both true true h = (refl, refl)
-both true false h = absurd (cc)
-both false b h = absurd (cc)
 
 pub all_from_at : {X : Type 0} (test : ℕ → X → Bool) (n : ℕ) (xs : List X) (i : ℕ) (x : X) → all_from test n xs ≡ true → slice_get xs i ≡ Some x → test (n + i) x ≡ true
 all_from_at test n [] i x h e = absurd (cc)

@@ -11,10 +11,7 @@ use Rattle.fp_tables.specs.declared.kind.Kind.{Kind}
 use Rattle.fp_tables.specs.declared.kind.Kind.TheVariants.{Named}
 use Rattle.fp_tables.specs.declared.kind.Form.{Form}
 use Rattle.fp_tables.specs.declared.kind.TypeDef.{TypeDef}
-
-any_same : {X : Type 0} (f g : X → Bool) → ((x : X) → f x ≡ g x) → (xs : List X) → list_any f xs ≡ list_any g xs
-any_same f g same [] = refl
-any_same f g same (x ∷ xs) = rw (same x, any_same f g same xs) refl
+use Rattle.fp_base.proofs.Lists.{any_same}
 
 any_none : {X : Type 0} (f : X → Bool) → ((x : X) → f x ≡ false) → (xs : List X) → list_any f xs ≡ false
 any_none f none [] = refl

@@ -1,9 +1,10 @@
 pub mod Aliases
 pub mod Aliasing
-pub mod Alls
 pub mod Binding
 pub mod Differing
 pub mod Firsts
 pub mod Joined
+pub mod OneKind
+pub mod Optional
 pub mod Shaped
 pub mod Short

@@ -5,8 +5,5 @@ pub mod Loops
 pub mod Reached
 pub mod Meetings
 pub mod Causes
-pub mod Aliases
-pub mod Shaped
 pub mod OfKind
 pub mod OfSize
-pub mod Firsts

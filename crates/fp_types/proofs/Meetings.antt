@@ -14,6 +14,7 @@ use Rattle.fp_types.specs.declared.faults.Sought.{Sought}
 use Rattle.fp_types.specs.declared.faults.Sought.TheVariants as sought
 use Rattle.fp_types.specs.Meeting.{test_of, Tells, MeetsItem, MeetsNamed, MeetsInMember, MeetsInArray, MeetsInStruct, MeetsInside}
 use Rattle.fp_types.proofs.Reached.{reached_inside, reached_named}
+use Rattle.fp_base.proofs.Options.{same_some}
 
 -- ---- what a walk tells
 
@@ -34,9 +35,6 @@ pub none_next : {A : Type 0} (r : Type 0) (P : A → Type 0) (xs : List A) (i : 
     → ((j : ℕ) (y : A) → j < i → slice_get xs j ≡ Some y → r → P y → ⊥) → (r → P x → ⊥) → (j : ℕ) (y : A) → j < i + 1 → slice_get xs j ≡ Some y → r → P y → ⊥
 none_next {A = A} r P xs i x lt is before now j y below at reached p = go (lower j i below)
   where
-    same_some : {x y : A} → Some x ≡ Some y → x ≡ y
-    same_some e = cc
-
     lower : (j i : ℕ) → j < i + 1 → (j < i) ⊎ (j ≡ i)
     lower zero zero l = inr refl
     lower zero (suc i) l = inl (omega arith)
@@ -189,9 +187,6 @@ module _ (types : List TypeDef) (test : Opened → Target → Bool) where
 
   pub at_struct : (r : Type 0) (fields : List Field) (o p : Opened) (b : Bool) → o ≡ p → Tells r (MeetsInStruct types test fields o) b → Tells r (MeetsInStruct types test fields p) b
   at_struct r fields o p b e h = subst (λ (x : Opened). Tells r (MeetsInStruct types test fields x) b) e h
-
-  same_some : {A : Type 0} {x y : A} → Some x ≡ Some y → x ≡ y
-  same_some e = cc
 
   pub named_met : (n : ℕ) (fields : List Field) (p : Part) (f : Field) (b : Bool) → Some f ≡ member_named fields p.name
       → Tells (Reaches types n f.kind) (Meets types test (opened p.value) (member f)) b → Tells (ReachesEach types n fields) (MeetsNamed types test fields p) b

@@ -5,17 +5,18 @@ use Rattle.std.specs.List.{list_all, list_any}
 use Rattle.std.specs.Str.{bytes_eq}
 use Rattle.std.proofs.lemmas.Slice.Eq.{bytes_eq-Decides}
 use Rattle.std.proofs.lemmas.List.{length-replicate}
-use Rattle.fp_base.proofs.Bools.{both, neither}
+use Rattle.fp_base.proofs.Bools.{both, neither, join, not_true}
 use Rattle.fp_base.proofs.Options.{same_some}
 use Rattle.fp_base.proofs.Sameness.{nat_same}
 use Rattle.fp_base.specs.declared.value.Value.{Value, out-Value, roll-Value, roll-out-Value}
 use Rattle.fp_base.specs.declared.value.Value.TheOpen as value
 use Rattle.fp_base.specs.declared.value.Value.TheVariants as rolled
 use Rattle.fp_base.specs.declared.value.Part.{Part}
+use Rattle.fp_tables.specs.Lists.{all_beside}
 use Rattle.fp_tables.specs.Names.{texts_differ}
 use Rattle.fp_tables.specs.Sound.{form_differs}
 use Rattle.fp_tables.specs.Types as shapes
-use Rattle.fp_tables.specs.Types.{Shape, has, has_kind, shape, member_shape, of_form, form_at, type_has_values, form_has_values}
+use Rattle.fp_tables.specs.Types.{Shape, has, has_kind, shape, member_shape, of_form, form_at, part_has, type_has_values, form_has_values}
 use Rattle.fp_tables.specs.declared.kind.Kind.{Kind}
 use Rattle.fp_tables.specs.declared.kind.Kind.TheVariants as kind
 use Rattle.fp_tables.specs.declared.kind.Form.{Form}
@@ -25,24 +26,16 @@ use Rattle.fp_tables.specs.declared.kind.TypeDef.{TypeDef}
 use Rattle.fp_types.specs.Given.{AreTypes}
 use Rattle.fp_types.specs.Converting.{Opened, Target, integer, truth, words, array, struct, constants, alias, nothing, target, defined, defined_if, member, member_named, parts_in, with_given, Becomes, number, numbered, truth_value, text, constant, part_by_part, member_by_member, in_each_part, in_each_member, aliased, EachBecomes, none, more, MembersBecome, no_part, part, BecomesInEach, no_member, in_member, Converts}
 use Rattle.fp_types.proofs.Inverting.{nothing_back}
-use Rattle.fp_types.proofs.Aliases.{shape_of_form}
-use Rattle.fp_types.proofs.Shaped.{all_beside, part_has, array_has, struct_has}
-
-and : (a b : Bool) → a ≡ true → b ≡ true → (a && b) ≡ true
-and true b e d = d
-and false b e d = absurd (cc)
+use Rattle.fp_tables.proofs.Aliases.{shape_of_form}
+use Rattle.fp_tables.proofs.Shaped.{array_has, struct_has}
+use Rattle.fp_base.proofs.Lists.{all_get}
 
 same_name : (a : List ℕ) → bytes_eq a a ≡ true
 same_name a = (bytes_eq-Decides a a).1 refl
 
-pub all_at : {A : Type 0} (p : A → Bool) (xs : List A) (k : ℕ) (x : A) → list_all p xs ≡ true → slice_get xs k ≡ Some x → p x ≡ true
-all_at p [] k x h e = absurd (cc)
-all_at p (y ∷ xs) zero x h e = ap p (sym (same_some e)) ∙ (both (p y) (list_all p xs) h).0
-all_at p (y ∷ xs) (suc k) x h e = all_at p xs k x (both (p y) (list_all p xs) h).1 e
-
 all_copies : {A : Type 0} (p : A → Bool) (n : ℕ) (x : A) → p x ≡ true → list_all p (replicate n x) ≡ true
 all_copies p zero x h = refl
-all_copies p (suc n) x h = and (p x) (list_all p (replicate n x)) h (all_copies p n x h)
+all_copies p (suc n) x h = join (p x) (list_all p (replicate n x)) h (all_copies p n x h)
 
 -- ---- a member by its name
 
@@ -57,10 +50,6 @@ names fs = map (λ (f : Field). f.name) fs
 later : (g : Field) (gs : List Field) (name : List ℕ) (f : Field) → bytes_eq g.name name ≡ false → member_named gs name ≡ Some f → member_named (g ∷ gs) name ≡ Some f
 later g gs name f differs h = rw differs h
 
-is_not : (b : Bool) → not b ≡ true → b ≡ false
-is_not true e = absurd (cc)
-is_not false e = refl
-
 lifted : (g : Field) (gs fs : List Field) → list_any (bytes_eq g.name) (names fs) ≡ false → AreMeant gs fs → AreMeant (g ∷ gs) fs
 lifted g gs [] differs h = tt
 lifted g gs (f ∷ fs) differs h =
@@ -71,7 +60,7 @@ all_meant : (fields : List Field) → texts_differ (names fields) ≡ true → A
 all_meant [] e = tt
 all_meant (f ∷ fs) e =
     let p = both (not (list_any (bytes_eq f.name) (names fs))) (texts_differ (names fs)) e in
-    (rw (same_name f.name) refl, lifted f fs fs (is_not _ p.0) (all_meant fs p.1))
+    (rw (same_name f.name) refl, lifted f fs fs (not_true _ p.0) (all_meant fs p.1))
 
 module _ (types : List TypeDef) (are : AreTypes types) where
   -- ---- the shape of a target
@@ -133,8 +122,8 @@ module _ (types : List TypeDef) (are : AreTypes types) where
   good_named : (i : ℕ) (o : Option TypeDef) → slice_get types i ≡ o → Good (defined_if o)
   good_named i None is = tt
   good_named i (Some d) is =
-      good_form d d.form (both (form_has_values types d.name d.form) (has types (of_form (shape types) d.form) d.default) (all_at (type_has_values types) types i d are.types_have_their_values is)).1
-      (all_at (λ (x : TypeDef). form_differs x.form) types i d are.members_differ is)
+      good_form d d.form (both (form_has_values types d.name d.form) (has types (of_form (shape types) d.form) d.default) (all_get (type_has_values types) types i d are.types_have_their_values is)).1
+      (all_get (λ (x : TypeDef). form_differs x.form) types i d are.members_differ is)
 
   good_kind : (k : Kind) → Good (target types k)
   good_kind kind.U8 = tt
@@ -182,7 +171,7 @@ module _ (types : List TypeDef) (are : AreTypes types) where
       let g = are_given p.name q found in
       let same : p.name ≡ f.name = (bytes_eq-Decides p.name f.name).0 name in
       let one : g.0 ≡ f = same_some (sym g.1 ∙ ap (member_named all) same ∙ is) in
-      and (bytes_eq p.name f.name) _ name (subst (λ (x : Field). has types (member_shape types x) q.value ≡ true) one g.2)
+      join (bytes_eq p.name f.name) _ name (subst (λ (x : Field). has types (member_shape types x) q.value ≡ true) one g.2)
 
   all_given : (all fs : List Field) (ps given : List Part) → AreGiven all given → AreMeant all fs → all_beside (part_has types) fs ps ≡ true → all_beside (part_has types) fs (with_given given ps) ≡ true
   all_given all [] [] given are_given meant h = refl
@@ -190,7 +179,7 @@ module _ (types : List TypeDef) (are : AreTypes types) where
   all_given all (f ∷ fs) [] given are_given meant h = absurd (cc)
   all_given all (f ∷ fs) (p ∷ ps) given are_given meant h =
       let halves = both (part_has types f p) (all_beside (part_has types) fs ps) h in
-      and _ _ (one_given all f p given (find (λ (q : Part). bytes_eq q.name p.name) given) are_given meant.0 halves.0 refl) (all_given all fs ps given are_given meant.1 halves.1)
+      join _ _ (one_given all f p given (find (λ (q : Part). bytes_eq q.name p.name) given) are_given meant.0 halves.0 refl) (all_given all fs ps given are_given meant.1 halves.1)
 
   -- ---- the law
 
@@ -228,9 +217,9 @@ module _ (types : List TypeDef) (are : AreTypes types) where
     has_target good text = refl
     has_target good (constant h) = h
     has_target good (part_by_part {made = made} {size = size} {k = k} long h) =
-        array_has types size k made ∙ and _ _ (nat_same_of (each_length h ∙ long)) (each_has h)
+        array_has types size k made ∙ join _ _ (nat_same_of (each_length h ∙ long)) (each_has h)
     has_target good (in_each_part {size = size} {k = k} {w = w} s h) =
-        array_has types size k (replicate size w) ∙ and _ _ (nat_same_of (length-replicate size w)) (all_copies (has types (shape types k)) size w (has_of_kind k h (has_target (good_kind k) h)))
+        array_has types size k (replicate size w) ∙ join _ _ (nat_same_of (length-replicate size w)) (all_copies (has types (shape types k)) size w (has_of_kind k h (has_target (good_kind k) h)))
     has_target good (member_by_member {given = given} {fields = fields} {default = default} h) =
         struct_has types fields (with_given given (parts_in default))
         ∙ all_given fields fields (parts_in default) given (are_given h) (all_meant fields good.1)
@@ -240,7 +229,7 @@ module _ (types : List TypeDef) (are : AreTypes types) where
 
     each_has : {k : Kind} {vs ws : List Value} → EachBecomes types k vs ws → list_all (has types (shape types k)) ws ≡ true
     each_has none = refl
-    each_has (more {k = k} h hs) = and _ _ (has_of_kind k h (has_target (good_kind k) h)) (each_has hs)
+    each_has (more {k = k} h hs) = join _ _ (has_of_kind k h (has_target (good_kind k) h)) (each_has hs)
 
     are_given : {fields : List Field} {ps given : List Part} → MembersBecome types fields ps given → AreGiven fields given
     are_given (no_part {fields = fields}) = no_given fields
@@ -248,7 +237,7 @@ module _ (types : List TypeDef) (are : AreTypes types) where
 
     each_member_has : {o : Opened} {fs : List Field} {made : List Part} → BecomesInEach types o fs made → all_beside (part_has types) fs made ≡ true
     each_member_has no_member = refl
-    each_member_has (in_member {f = f} {w = w} h hs) = and _ _ (and _ _ (same_name f.name) (member_has f w (has_target (good_member f) h))) (each_member_has hs)
+    each_member_has (in_member {f = f} {w = w} h hs) = join _ _ (join _ _ (same_name f.name) (member_has f w (has_target (good_member f) h))) (each_member_has hs)
 
   pub converted_has_kind : (v : Value) (k : Kind) (w : Value) → Converts types v k w → has_kind types k w ≡ true
   converted_has_kind v k w h = has_of_kind k h (has_target (good_kind k) h)

@@ -13,8 +13,9 @@ use Rattle.fp_tables.specs.declared.kind.TypeDef.{TypeDef}
 use Rattle.fp_types.specs.Given.{AreTypes}
 use Rattle.fp_types.specs.Converting.{Opened, target, defined_if, Becomes, Converts}
 use Rattle.fp_types.proofs.Inverting.{nothing_back}
-use Rattle.fp_types.proofs.Aliases.{shape_of_form}
-use Rattle.fp_types.proofs.OfKind.{all_at, converted_has_kind}
+use Rattle.fp_tables.proofs.Aliases.{shape_of_form}
+use Rattle.fp_types.proofs.OfKind.{converted_has_kind}
+use Rattle.fp_base.proofs.Lists.{all_get}
 
 module _ (types : List TypeDef) where
   mutual
@@ -84,8 +85,8 @@ module _ (types : List TypeDef) where
       let form : form_at types i ≡ Some d.form = ap (option_map (λ (x : TypeDef). x.form)) is in
       let of : shape types (kind.Named i) ≡ of_form (shape types) d.form = shape_of_form types are.no_type_uses_itself i d.form form in
       of_size_of (of_form (shape types) d.form) d.default w
-      (both (form_has_values types d.name d.form) (has types (of_form (shape types) d.form) d.default) (all_at (type_has_values types) types i d are.types_have_their_values is)).1
-      (ap (λ (s : Shape). has types s w) (sym of) ∙ h) (all_at (λ (x : TypeDef). is_of_size x.default) types i d are.defaults_are_of_size is)
+      (both (form_has_values types d.name d.form) (has types (of_form (shape types) d.form) d.default) (all_get (type_has_values types) types i d are.types_have_their_values is)).1
+      (ap (λ (s : Shape). has types s w) (sym of) ∙ h) (all_get (λ (x : TypeDef). is_of_size x.default) types i d are.defaults_are_of_size is)
 
   kind_of_size : AreTypes types → {o : Opened} {x : Value} (k : Kind) (w : Value) → Becomes types o (target types k) x → has_kind types k w ≡ true → is_of_size w ≡ true
   kind_of_size are kind.U8 w b h = of_size_of (shape types kind.U8) (Int (pos 0)) w refl h refl

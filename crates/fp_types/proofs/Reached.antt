@@ -4,7 +4,7 @@ use Rattle.std.specs.List.{list_any}
 use Rattle.std.specs.Str.{bytes_eq}
 use Rattle.std.proofs.lemmas.Option.{slice_get_read}
 use Rattle.fp_base.proofs.Options.{same_some}
-use Rattle.fp_base.proofs.Bools.{neither}
+use Rattle.fp_base.proofs.Bools.{neither, both, not_true}
 use Rattle.fp_tables.specs.Lists.{all_from}
 use Rattle.fp_tables.specs.Types.{begins_chain, kinds_in, is_last, uses_constants}
 use Rattle.fp_tables.specs.Chains.{chains_are_short}
@@ -16,14 +16,6 @@ use Rattle.fp_tables.specs.declared.kind.Field.{Field}
 use Rattle.fp_tables.specs.declared.kind.TypeDef.{TypeDef}
 use Rattle.fp_types.specs.Converting.{Target, target, defined, defined_if, member_named}
 use Rattle.fp_types.specs.Reaching.{Reaches, ReachesEach, ReachesIn}
-
-is_not : (b : Bool) → not b ≡ true → b ≡ false
-is_not true e = absurd (cc)
-is_not false e = refl
-
-both_true : (a b : Bool) → (a && b) ≡ true → (a ≡ true) × (b ≡ true)
-both_true true b e = (refl, e)
-both_true false b e = absurd (cc)
 
 module _ (types : List TypeDef) where
   pub no_steps : (A : Type 0) (n : ℕ) (k : Kind) → n ≡ 0 → Reaches types n k → A
@@ -89,17 +81,17 @@ module _ (types : List TypeDef) where
   all_from_at : (test : ℕ → TypeDef → Bool) (xs : List TypeDef) (n i j : ℕ) (x : TypeDef) → j ≡ n + i → all_from test n xs ≡ true → slice_get xs i ≡ Some x → test j x ≡ true
   all_from_at test [] n i j x at all is = absurd (cc)
   all_from_at test (y ∷ ys) n zero j x at all is =
-      let here = (both_true (test n y) (all_from test (suc n) ys) all).0 in
+      let here = (both (test n y) (all_from test (suc n) ys) all).0 in
       let same : n ≡ j = omega arith in
       subst (λ (k : ℕ). test k x ≡ true) same (subst (λ (z : TypeDef). test n z ≡ true) (same_some is) here)
-  all_from_at test (y ∷ ys) n (suc i) j x at all is = all_from_at test ys (suc n) i j x (omega arith) (both_true (test n y) (all_from test (suc n) ys) all).1 is
+  all_from_at test (y ∷ ys) n (suc i) j x at all is = all_from_at test ys (suc n) i j x (omega arith) (both (test n y) (all_from test (suc n) ys) all).1 is
 
   short_named : (n i : ℕ) (o : Option TypeDef) → slice_get types i ≡ o → all_from (λ i (d : TypeDef). not (begins_chain types (suc n) (kind.Named i))) 0 types ≡ true
       → begins_chain types (suc n) (kind.Named i) ≡ false
   unfolding begins_chain
   short_named n i None is all = rw is refl
   short_named n i (Some d) is all =
-      is_not _ (all_from_at (λ i (d : TypeDef). not (begins_chain types (suc n) (kind.Named i))) types 0 i i d (omega arith) all is)
+      not_true _ (all_from_at (λ i (d : TypeDef). not (begins_chain types (suc n) (kind.Named i))) types 0 i i d (omega arith) all is)
 
   short : (n : ℕ) (k : Kind) → all_from (λ i (d : TypeDef). not (begins_chain types (suc n) (kind.Named i))) 0 types ≡ true → begins_chain types (suc n) k ≡ false
   unfolding begins_chain

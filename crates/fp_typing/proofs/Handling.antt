@@ -32,11 +32,13 @@ use Rattle.fp_events.specs.Manners.{manner}
 use Rattle.fp_events.specs.declared.event.Point.{Point}
 use Rattle.fp_events.specs.declared.event.Point.TheVariants.{Port, Command as OfCommand, Post, Signal}
 use Rattle.fp_typing.specs.Suits.{BoundSuits, Source, caller, at, source, AdvanceSuits, ActionsSuit, MayReturn, DoingSuits, DoingsSuit}
-use Rattle.fp_typing.proofs.Lists.{find_passes, some_and_of}
+use Rattle.fp_typing.proofs.Lists.{find_passes}
 use Rattle.fp_typing.proofs.Parts.{port_in, command_in}
-use Rattle.fp_typing.proofs.Scopes.{nothing_suits, one_more_suits, formals_suit, one_kind_suits}
+use Rattle.fp_typing.proofs.Scopes.{nothing_suits, one_more_suits, formals_suit}
 use Rattle.fp_typing.proofs.Places.{machine_here}
 use Rattle.fp_typing.proofs.Asks.{never}
+use Rattle.fp_tables.proofs.Aliases.{one_kind}
+use Rattle.fp_tables.proofs.Optional.{some_and_of}
 
 spot_equal : (a b : Spot) → same_spot a b ≡ true → a ≡ b
 spot_equal (spot.Port m) (spot.Port n) h = ap spot.Port (nat_same.equal m n h)
@@ -241,7 +243,7 @@ module _ (t : Described) (program : Program) where
           go (Some j) is (Some g) None fit same = absurd fit
           go (Some j) is (Some g) (Some v) fit same =
               subst (λ (o : Option Kind). BoundSuits t.model.types (value_bound (Some j)) (cond (is_some o) ((codes "value", v) ∷ []) [])) (sym is)
-              (one_more_suits t.model.types (codes "value") j v nothing_bound [] (one_kind_suits t.model.types sound.0.types.no_type_uses_itself g j v same fit) (nothing_suits t.model.types []))
+              (one_more_suits t.model.types (codes "value") j v nothing_bound [] (one_kind t.model.types sound.0.types.no_type_uses_itself g j v same fit) (nothing_suits t.model.types []))
 
       pub performed_suit : (o : Opened) (i : ℕ) (result : Option Kind) (running : ℕ) (m : Machine) (k : Option Kind) (v : Option Value) (actions : List ℕ) (ds : List Doing) → ((p : Spot) → source o i p ≡ at i p)
           → machine t i running ≡ Some m → Has k v → actions_fit t program k m actions ≡ true

@@ -19,8 +19,8 @@ use Rattle.fp_tables.specs.declared.component.Special.{Special}
 use Rattle.fp_tables.specs.declared.component.Special.TheVariants.{CmdRecv, CmdReg, CmdResp, Event, TextEvent, Tlm, Time, PrmGet, PrmSet}
 use Rattle.fp_tables.specs.declared.topology.End.{End}
 use Rattle.fp_tables.specs.Specials.{component, no_parts, is_special, special_wire}
-use Rattle.fp_typing.proofs.Lists.{some_and_of}
 use Rattle.fp_typing.proofs.Parts.{of_component}
+use Rattle.fp_tables.proofs.Optional.{some_and_of}
 
 one_special : (a b : Special) → same_special a b ≡ true → a ≡ b
 one_special CmdRecv CmdRecv h = refl

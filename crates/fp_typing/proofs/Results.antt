@@ -34,7 +34,7 @@ use Rattle.fp_events.specs.declared.event.Point.{Point}
 use Rattle.fp_events.specs.declared.event.Point.TheVariants.{Port, Command as OfCommand, Post, Signal}
 use Rattle.fp_typing.specs.Suits.{result_of_point}
 use Rattle.fp_typing.proofs.Parts.{port_in}
-use Rattle.fp_types.proofs.Aliases.{shape_of_form}
+use Rattle.fp_tables.proofs.Aliases.{shape_of_form}
 use Rattle.fp_typing.proofs.Wires.{joins, port_sound}
 
 module _ (t : Described) (sound : IsSoundFor t.model (Some t.topology)) where

@@ -5,7 +5,6 @@ use Rattle.fp_base.specs.Same.{same_text}
 use Rattle.fp_base.specs.declared.value.Value.{Value}
 use Rattle.fp_base.proofs.Bools.{both, join}
 use Rattle.fp_tables.specs.Arguments.{Scope, nothing_bound, with_bound, formals_bound, kinds_of, is_one_kind, argument_suits, arguments_suit}
-use Rattle.fp_tables.specs.Machines.{target}
 use Rattle.fp_tables.specs.Types.{has_kind, have_kinds, Leads}
 use Rattle.fp_tables.specs.declared.kind.Formal.{Formal}
 use Rattle.fp_tables.specs.declared.kind.Kind.{Kind}
@@ -17,8 +16,8 @@ use Rattle.fp_events.specs.Due.{value_of, values, first_value}
 use Rattle.fp_events.specs.Lookup.{names}
 use Rattle.fp_base.proofs.Options.{same_some}
 use Rattle.fp_typing.specs.Suits.{BoundSuits}
-use Rattle.fp_typing.proofs.Lists.{some_and_of}
-use Rattle.fp_typing.proofs.Aliases.{is_one, one_kind}
+use Rattle.fp_tables.proofs.Aliases.{one_kind}
+use Rattle.fp_tables.proofs.Optional.{some_and_of}
 
 pub same_bytes : (xs ys : List ℕ) → same_text xs ys ≡ bytes_eq xs ys
 same_bytes [] [] = refl
@@ -55,16 +54,11 @@ module _ (types : List TypeDef) where
   -- ---- arguments
 
   module _ (none : (i : ℕ) → Leads types i i → ⊥) where
-    pub one_kind_suits : (j k : Kind) (v : Value) → is_one_kind types j k ≡ true → has_kind types j v ≡ true → has_kind types k v ≡ true
-    one_kind_suits j k v h is =
-        let one : is_one types none (target types j) (target types k) ≡ true = h in
-        one_kind types none j k v one is
-
     pub argument_kind : (scope : Scope) (bound : Bindings) (k : Kind) (a : Arg) → BoundSuits types scope bound → argument_suits types scope k a ≡ true → has_kind types k (value_of bound a) ≡ true
     argument_kind scope bound k (Given v) suits h = h
     argument_kind scope bound k (Bound name) suits h =
         let s = some_and_of (λ j. is_one_kind types j k) (scope name) h in
-        one_kind_suits s.0 k (value_of bound (Bound name)) s.2 (suits name s.0 s.1)
+        one_kind types none s.0 k (value_of bound (Bound name)) s.2 (suits name s.0 s.1)
 
     pub arguments_kinds : (scope : Scope) (bound : Bindings) (ks : List Kind) (args : List Arg) → BoundSuits types scope bound → arguments_suit types scope ks args ≡ true → have_kinds types ks (values bound args) ≡ true
     arguments_kinds scope bound [] [] suits h = refl
