@@ -30,8 +30,8 @@ abbrev pub unnamed : Named
 unnamed = record { name = []; kind = None }
 
 -- two signals, forty actions and two guards are enough for the tests
-abbrev pub machine_of : Arrow → List Sketch → Machine
-machine_of initial sketches = record {
+abbrev pub sketched_machine : Arrow → List Sketch → Machine
+sketched_machine initial sketches = record {
   name = [];
   external = false;
   signals = replicate 2 unnamed;

@@ -1,5 +1,5 @@
 ghost use Rattle.std.specs.Prelude.{◌≡◌, [], true, option_to_list, replicate, map, option_map, IfOk};
-ghost use Rattle.fp_machine_flat_tests.specs.Sketched.{step_of, on_of, vertex_of, unnamed, machine_of, is_sound};
+ghost use Rattle.fp_machine_flat_tests.specs.Sketched.{step_of, on_of, vertex_of, unnamed, sketched_machine, is_sound};
 
 use fp_base::{NoMemory, Row, Text};
 use fp_machine_flat::{FlatMachine, flatten};
@@ -40,15 +40,15 @@ pub enum Sketch {
 
 /// The flat form of a sketched machine of two signals, forty actions and two guards.
 pub fn flat_of(alloc: Global, initial: Arrow, sketches: &[Sketch]) -> Result<FlatMachine, NoMemory>
-    requires { is_sound (machine_of initial sketches.now) ≡ true }
-    ensures { IfOk result (λ flat. flat.machine ≡ machine_of initial sketches.now) }
+    requires { is_sound (sketched_machine initial sketches.now) ≡ true }
+    ensures { IfOk result (λ flat. flat.machine ≡ sketched_machine initial sketches.now) }
 {
     let machine = machine(alloc, initial, sketches)?;
     flatten(alloc, &machine)
 }
 
 fn machine(alloc: Global, initial: Arrow, sketches: &[Sketch]) -> Result<Machine, NoMemory>
-    ensures { IfOk result (λ m. m ≡ machine_of initial sketches.now) }
+    ensures { IfOk result (λ m. m ≡ sketched_machine initial sketches.now) }
 {
     let mut vertices = Row::new(alloc);
     for sketch in sketches {
