@@ -1,4 +1,5 @@
-use super::*;
+use crate::sketch::{Arrow, Reaction, Sketch, flat_of};
+use crate::walking::{Told, walk};
 use fp_base::NoMemory;
 use fp_machine_flat::FlatMachine;
 use std::alloc::Global;

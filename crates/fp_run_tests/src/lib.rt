@@ -1,16 +1,28 @@
-//! Runs of actors beside cells, ask by ask, against logs that were worked out by hand.
+//! Cells played by tables of asks, and runs of actors beside cells, ask by ask, against answers and logs that were
+//! worked out by hand.
 #![tactic(auto)]
 
-pub mod beside;
-pub mod chain;
-pub mod comparing;
+#[cfg(test)]
+mod beside;
+#[cfg(test)]
+mod cells;
+#[cfg(test)]
+mod chain;
+#[cfg(test)]
+mod comparing;
 #[cfg(test)]
 mod copying;
-pub mod deeds;
-pub mod handled;
-pub mod models;
-pub mod player;
-pub mod run;
+#[cfg(test)]
+mod deeds;
+#[cfg(test)]
+mod handled;
+#[cfg(test)]
+mod models;
+#[cfg(test)]
+mod player;
+#[cfg(test)]
+mod run;
 #[cfg(test)]
 mod tests;
-pub mod worked;
+#[cfg(test)]
+mod worked;

@@ -9,7 +9,6 @@ use fp_base::{NoMemory, Row};
 use fp_cell::Cell;
 use fp_events::Entry;
 use fp_tables::{Program, Tables};
-use fp_worked_models::fitting::is_placed;
 use fp_worked_models::naming::actor_count;
 use std::alloc::Global;
 use std::marker;
@@ -108,7 +107,7 @@ fn open_cells<'a>(
     let mut cells = Vec::new(alloc);
     let count = tables.model().instances.len().min(65_536) as u32;
     for instance in 0..count {
-        if is_placed(tables, program, instance) {
+        if tables.is_placed(instance) {
             cells.push(Cell::open(alloc, tables, program, instance)?)?;
         } else {
             return Ok(cells);

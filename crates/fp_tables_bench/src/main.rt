@@ -1,10 +1,12 @@
 //! Measures the soundness of a model and its tables beside the sorting of its wires, where it is asked to.
 #![tactic(auto)]
 
+mod ring;
+
 use fp_base::NoMemory;
 use fp_sound_model::SoundModel;
 use fp_tables::{Model, Tables};
-use fp_tables_tests::wide::{wide, wires};
+use ring::{wide, wires};
 use std::alloc::{AllocError, Global};
 use std::time::Instant;
 use std::{env, io};

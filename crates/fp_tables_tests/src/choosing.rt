@@ -1,4 +1,5 @@
-use fp_base::{NoMemory, Row, Text};
+use crate::plain::text;
+use fp_base::{NoMemory, Row};
 use fp_tables::{Kind, Machine, Model, Named, Node, On, Step, Vertex};
 use std::alloc::Global;
 
@@ -32,10 +33,6 @@ pub const CHOOSING: Plan = Plan {
     value: Some(Kind::U8),
     wanted: Some(Kind::U8),
 };
-
-fn text(alloc: Global, text: &str) -> Result<Text, NoMemory> {
-    Text::from_str(alloc, text)
-}
 
 fn named(alloc: Global, name: &str, kind: Option<Kind>) -> Result<Named, NoMemory> {
     Ok(Named {

@@ -1,3 +1,4 @@
+use crate::plain::text;
 use fp_base::{NoMemory, Row, Text};
 use fp_tables::{
     Channel, Component, End, Instance, Item, Kind, Model, Port, PortDef, Queueing, Role, Topology,
@@ -40,11 +41,7 @@ pub const JOINED: Plan = Plan {
     item: 0,
 };
 
-pub fn text(alloc: Global, text: &str) -> Result<Text, NoMemory> {
-    Text::from_str(alloc, text)
-}
-
-pub fn port(
+fn port(
     alloc: Global,
     name: &str,
     role: Role,
@@ -62,7 +59,7 @@ pub fn port(
     Ok(ports)
 }
 
-pub fn channels(alloc: Global, id: Option<u32>) -> Result<Row<Channel>, NoMemory> {
+fn channels(alloc: Global, id: Option<u32>) -> Result<Row<Channel>, NoMemory> {
     let mut channels = Row::new(alloc);
     if let Some(id) = id {
         channels.push(Channel {
@@ -111,7 +108,7 @@ fn components(alloc: Global, plan: &Plan) -> Result<Row<Component>, NoMemory> {
     Ok(components)
 }
 
-pub fn instance(
+fn instance(
     alloc: Global,
     name: &str,
     component: u32,

@@ -1,13 +1,25 @@
-//! Models made by hand, and what the tables say of them.
+//! Models made by hand, what the tables say of them, and variants that break one sentence of soundness at a time.
 #![tactic(auto)]
 
 #[cfg(test)]
 mod acting;
-pub mod choosing;
-pub mod joined;
+#[cfg(test)]
+mod choosing;
+#[cfg(test)]
+mod joined;
+#[cfg(test)]
+mod plain;
+#[cfg(test)]
+mod ported;
 #[cfg(test)]
 mod program_tests;
-pub mod queued;
+#[cfg(test)]
+mod queued;
+#[cfg(test)]
+mod reporting;
 #[cfg(test)]
 mod tests;
-pub mod wide;
+#[cfg(test)]
+mod typed;
+#[cfg(test)]
+mod variants;

@@ -1,4 +1,5 @@
-use crate::joined::{component, text};
+use crate::joined::component;
+use crate::plain::text;
 use fp_base::{NoMemory, Row, Text, Value};
 use fp_tables::{
     Act, Arg, Caller, Component, End, Formal, Full, Instance, Kind, Model, Port, PortDef, Program,

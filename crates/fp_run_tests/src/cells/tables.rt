@@ -1,7 +1,7 @@
-use crate::models::{ALWAYS, CROWDED, HOOKING, WAYS};
-use crate::script::Expected::{AtLimit, Told, Waits};
-use crate::script::Script;
-use crate::script::Wish::{
+use crate::cells::models::{ALWAYS, CROWDED, HOOKING, WAYS};
+use crate::cells::script::Expected::{AtLimit, Told, Waits};
+use crate::cells::script::Script;
+use crate::cells::script::Wish::{
     Advance, Answer, Arrive, Dispatch, Done, Emit, Leave, Read, Take, Write,
 };
 use fp_events::{Point, Why};

@@ -7,7 +7,7 @@ use fp_cell::{Cell, Reply};
 use fp_events::Ask;
 use fp_sound_model::SoundModel;
 use fp_tables::{Program, Tables};
-use fp_worked_models::fitting::{is_actor, is_askable, is_placed};
+use fp_worked_models::fitting::{is_actor, is_askable};
 use std::alloc::Global;
 
 /// The cell of an instance at the opening, where the tables are sound and the topology has the instance.
@@ -21,7 +21,7 @@ pub fn open_cell<'a>(
 {
     let sound = tables.model().is_sound(alloc, Some(tables.topology()))?;
     if sound {
-        if is_placed(tables, program, instance) {
+        if tables.is_placed(instance) {
             return Ok(Some(Cell::open(alloc, tables, program, instance)?));
         }
     }

@@ -1,5 +1,5 @@
-use crate::playing::all_differences;
-use crate::tables::{
+use crate::cells::playing::all_differences;
+use crate::cells::tables::{
     CHOICES, GREATEST_FIRST, GUARD, HELD_AND_SAME, LIMIT, NESTED_STATES, SECOND_ASSERTED,
     SECOND_DROPPED, SECOND_HOOKED, SECOND_WAITS, SET_READ_SAVED, SIGNAL_HOOKED, TURN, WIRED,
     WRITTEN_ALWAYS,

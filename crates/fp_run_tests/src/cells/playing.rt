@@ -1,7 +1,7 @@
 ghost use Rattle.std.specs.Prelude.{◌≡◌, IfOk};
 
-use crate::asking::{answer, open_cell};
-use crate::script::{Expected, Script, Turn, ask, scenario};
+use crate::cells::asking::{answer, open_cell};
+use crate::cells::script::{Expected, Script, Turn, ask, scenario};
 use fp_base::{NoMemory, Row, Text};
 use fp_cell::{Cell, Reply};
 use fp_events::{Entry, Finish};

@@ -1,0 +1,6 @@
+mod asking;
+mod models;
+mod playing;
+mod script;
+mod tables;
+mod tests;
