@@ -4,7 +4,7 @@ use Rattle.fp_system.specs.Run.{Kept}
 use Rattle.fp_tables.specs.Lookup.{Described}
 use Rattle.fp_tables.specs.Sound.{IsSoundFor}
 use Rattle.fp_tables.specs.declared.program.Program.{Program}
-use Rattle.fp_events.specs.Fits.{is_placed}
+use Rattle.fp_tables.specs.Acts.{is_placed}
 use Rattle.fp_events.specs.Instance.{Inside as Left, InstanceState, opened_instance}
 use Rattle.fp_events.specs.Lookup.{queue_size}
 use Rattle.fp_events.specs.Step.{core}
@@ -27,7 +27,7 @@ known_opened t i calls size ps qs of_size of_priorities same known w is some =
 -- what is known of a state at the opening
 pub record IsOpening (x : State) (t : Described) (program : Program) (i : ℕ) : Type 0 where
   pub sound : IsSoundFor t.model (Some t.topology)
-  pub placed : is_placed t program i ≡ true
+  pub placed : is_placed t i ≡ true
   pub opened : inside x ≡ opened_instance t i
   pub size : queue_size t i ≡ x.calls.size
   pub known : 0 < x.calls.size → AreKnown t i x.calls.priorities

@@ -5,7 +5,8 @@ use Rattle.fp_system.specs.Run as system
 use Rattle.fp_system.proofs.Turns.{InTurn-more}
 use Rattle.fp_tables.specs.Lookup.{Described}
 use Rattle.fp_tables.specs.declared.program.Program.{Program}
-use Rattle.fp_events.specs.Fits.{actor_count, is_placed, what_fits, fits}
+use Rattle.fp_events.specs.Fits.{actor_count, what_fits, fits}
+use Rattle.fp_tables.specs.Acts.{is_placed}
 use Rattle.fp_events.specs.Instance.{InstanceState, opened_instance}
 use Rattle.fp_events.specs.Step.{core, instance_part, stamped}
 use Rattle.fp_events.specs.Tells.{tells}
@@ -15,11 +16,11 @@ use Rattle.fp_events.specs.declared.event.What.{What}
 use Rattle.fp_base.proofs.Bools.{join}
 
 module _ (t : Described) (program : Program) (i : ℕ) where
-  pub fits_of : (a : ℕ) (w : What) → a < actor_count t program → is_placed t program i ≡ true → what_fits t program i w ≡ true → fits t program a i w ≡ true
+  pub fits_of : (a : ℕ) (w : What) → a < actor_count t program → is_placed t i ≡ true → what_fits t program i w ≡ true → fits t program a i w ≡ true
   unfolding fits
   fits_of a w actor placed fit =
       let below : nat_lt a (actor_count t program) ≡ true = grind (arith, nat_tests) in
-      join (nat_lt a (actor_count t program) && is_placed t program i) (what_fits t program i w) (join (nat_lt a (actor_count t program)) (is_placed t program i) below placed) fit
+      join (nat_lt a (actor_count t program) && is_placed t i) (what_fits t program i w) (join (nat_lt a (actor_count t program)) (is_placed t i) below placed) fit
 
   pub part_of : (s : InstanceState) (a seen : ℕ) (q : Ask) (w : What) → tells t program i s.inside q ≡ Some w → fits t program a i w ≡ true
       → instance_part t program i s a q seen ≡ Some (stamped t program (suc (max s.last seen)) a i s.inside w)

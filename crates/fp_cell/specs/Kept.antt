@@ -1,6 +1,6 @@
 -- What the fields of a cell keep.
 use Rattle.std.specs.Prelude.{◌≡◌, true}
-use Rattle.fp_events.specs.Fits.{is_placed}
+use Rattle.fp_tables.specs.Acts.{is_placed}
 use Rattle.fp_cell.specs.Cells.{Standing, IsKeptOf}
 use Rattle.fp_cell.specs.Ready.{IsReady}
 use Rattle.fp_cell.specs.Stepping.{inside}
@@ -16,5 +16,5 @@ standing c = record {
 
 pub record IsKept (c : Inside) : Type 0 where
   pub ready : IsReady c.setting c.state
-  pub placed : is_placed c.setting.tables.now c.setting.program.now c.setting.instance ≡ true
+  pub placed : is_placed c.setting.tables.now c.setting.instance ≡ true
   pub kept : IsKeptOf (standing c)

@@ -1,6 +1,7 @@
 ghost use Rattle.std.specs.Prelude.{◌≡◌, ◌≤◌, ◌<◌, ◌++◌, ◌∷◌, [], None, Some, true, IfOk, OnErr};
 ghost use Rattle.fp_tables.specs.Sound.{IsSoundFor};
-ghost use Rattle.fp_events.specs.Fits.{actor_count, is_placed, ask_fits};
+ghost use Rattle.fp_events.specs.Fits.{actor_count, ask_fits};
+ghost use Rattle.fp_tables.specs.Acts.{is_placed};
 ghost use Rattle.fp_events.specs.Waits.{waits};
 ghost use Rattle.fp_cell.specs.Cells.{opened, IsKeptOf};
 ghost use Rattle.fp_cell.specs.Ready.{IsReady};
@@ -62,7 +63,7 @@ impl<'a> Cell<'a> {
         instance: u32,
     ) -> Result<Cell<'a>, NoMemory>
         requires sound { IsSoundFor tables.now.model (Some tables.now.topology) }
-        requires placed { is_placed tables.now program.now instance ≡ true }
+        requires placed { is_placed tables.now instance ≡ true }
         ensures { IfOk result (λ cell. cell ≡ opened (record { tables = tables.now; program = program.now; instance = instance })) }
     {
         let setting = setting_of(alloc, tables, program, instance)?;

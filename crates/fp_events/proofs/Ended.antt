@@ -15,7 +15,8 @@ use Rattle.fp_events.specs.declared.event.Finish.{Finish}
 use Rattle.fp_events.specs.declared.event.Finish.TheVariants.{Complete, Stuck, Spent, Asserted}
 use Rattle.fp_events.specs.Instance.{InstanceState}
 use Rattle.fp_events.specs.Due.{due}
-use Rattle.fp_events.specs.Fits.{fits, actor_count, is_placed, what_fits}
+use Rattle.fp_events.specs.Fits.{fits, actor_count, what_fits}
+use Rattle.fp_tables.specs.Acts.{is_placed}
 use Rattle.fp_events.specs.Step.{core, instance_part}
 use Rattle.fp_events.specs.Run.{World, actors, RunTo, IsRun, HasStamp}
 use Rattle.fp_events.specs.Ends.{can_step, next_stamp, finish, is_asserted, is_complete, HasNoDueStep, IsEnded, EndsAs}
@@ -64,8 +65,8 @@ module _ (t : Described) (program : Program) where
   fit_actor : (a i : ℕ) (w : What) → fits t program a i w ≡ true → a < actor_count t program
   unfolding fits
   fit_actor a i w h =
-      let x = both (nat_lt a (actor_count t program) && is_placed t program i) (what_fits t program i w) h in
-      let y = both (nat_lt a (actor_count t program)) (is_placed t program i) x.0 in
+      let x = both (nat_lt a (actor_count t program) && is_placed t i) (what_fits t program i w) h in
+      let y = both (nat_lt a (actor_count t program)) (is_placed t i) x.0 in
       lt y.0
     where
       lt : nat_lt a (actor_count t program) ≡ true → a < actor_count t program

@@ -14,10 +14,11 @@ use Rattle.fp_tables.specs.Lookup.{Described, placed}
 use Rattle.fp_tables.specs.declared.program.Program.{Program}
 use Rattle.fp_events.specs.declared.event.Entry.{Entry}
 use Rattle.fp_events.specs.declared.event.What.{What}
-use Rattle.fp_events.specs.Machine.{is_in}
+use Rattle.fp_tables.specs.Lists.{is_in}
 use Rattle.fp_events.specs.Instance.{InstanceState}
 use Rattle.fp_events.specs.Actor.{ActorState}
-use Rattle.fp_events.specs.Fits.{fits, actor_count, is_placed, what_fits}
+use Rattle.fp_events.specs.Fits.{fits, actor_count, what_fits}
+use Rattle.fp_tables.specs.Acts.{is_placed}
 use Rattle.fp_events.specs.Step.{core}
 use Rattle.fp_events.specs.Run.{World, at, by, RunTo, IsKept, IsTold, history, trace, AreRecords}
 use Rattle.fp_events.proofs.StepLaws.{given, taken, core_laws}
@@ -26,11 +27,13 @@ use Rattle.fp_events.proofs.StepLaws.{given, taken, core_laws}
 pub row_absent : {E : Type 0} (ns : List ℕ) (rows : List (List E)) (i : ℕ) → is_in i ns ≡ false → system.row_of ns rows i ≡ []
 row_absent [] rows i h = refl
 row_absent (n ∷ ns) [] i h = refl
-row_absent (n ∷ ns) (es ∷ rows) i h = go (eqb i n) refl h (row_absent ns rows i)
+row_absent (n ∷ ns) (es ∷ rows) i h =
+    let flip : eqb n i ≡ eqb i n = grind (arith, nat_tests) in
+    go (eqb i n) (subst (λ (b : Bool). (b || is_in i ns) ≡ false) flip h) (row_absent ns rows i)
   where
-    go : (b : Bool) → eqb i n ≡ b → cond b true (is_in i ns) ≡ false → (is_in i ns ≡ false → system.row_of ns rows i ≡ []) → cond b es (system.row_of ns rows i) ≡ []
-    go true is out again = absurd (cc)
-    go false is out again = again out
+    go : (b : Bool) → (b || is_in i ns) ≡ false → (is_in i ns ≡ false → system.row_of ns rows i ≡ []) → cond b es (system.row_of ns rows i) ≡ []
+    go true out again = absurd (cc)
+    go false out again = again out
 
 pub row_past : {E : Type 0} (rows : List (List E)) (k : ℕ) → length rows ≤ k → system.row rows k ≡ []
 row_past [] k past = refl
@@ -58,11 +61,11 @@ pub near : (m n : ℕ) → (m < n) ⊎ (n ≤ m)
 near m n = grind arith
 
 module _ (t : Described) (program : Program) where
-  pub fit_parts : (a i : ℕ) (w : What) → fits t program a i w ≡ true → (a < actor_count t program) × (is_placed t program i ≡ true)
+  pub fit_parts : (a i : ℕ) (w : What) → fits t program a i w ≡ true → (a < actor_count t program) × (is_placed t i ≡ true)
   unfolding fits
   fit_parts a i w h =
-      let x = both (nat_lt a (actor_count t program) && is_placed t program i) (what_fits t program i w) h in
-      let y = both (nat_lt a (actor_count t program)) (is_placed t program i) x.0 in
+      let x = both (nat_lt a (actor_count t program) && is_placed t i) (what_fits t program i w) h in
+      let y = both (nat_lt a (actor_count t program)) (is_placed t i) x.0 in
       (lt y.0, y.1)
     where
       lt : nat_lt a (actor_count t program) ≡ true → a < actor_count t program
@@ -77,21 +80,21 @@ module _ (t : Described) (program : Program) where
       projection-other (λ (x : Entry). x.actor) a e es (λ is. absurd (omega (arith, is))) ∙ kept_actors i es h.0 u h.2 a past
 
   -- a trace has no entry at an instance that isn't in the topology
-  told_instances : (a : ℕ) (es : List Entry) (x z : ActorState) → system.InTurn (system.ActorStep (core t program) a) x es z → (i : ℕ) → is_placed t program i ≡ false → at i es ≡ []
+  told_instances : (a : ℕ) (es : List Entry) (x z : ActorState) → system.InTurn (system.ActorStep (core t program) a) x es z → (i : ℕ) → is_placed t i ≡ false → at i es ≡ []
   told_instances a [] x z h i out = refl
   told_instances a (e ∷ es) x z h i out =
       let k = taken t program a x h.0 e h.1.part in
-      let here : is_placed t program e.instance ≡ true = subst (λ (n : ℕ). is_placed t program n ≡ true) (sym k.instance) (fit_parts a k.asked.0 e.what k.fit).1 in
-      projection-other (λ (x : Entry). x.instance) i e es (λ is. not_both (subst (λ (n : ℕ). is_placed t program n ≡ true) is here)) ∙ told_instances a es h.0 z h.2 i out
+      let here : is_placed t e.instance ≡ true = subst (λ (n : ℕ). is_placed t n ≡ true) (sym k.instance) (fit_parts a k.asked.0 e.what k.fit).1 in
+      projection-other (λ (x : Entry). x.instance) i e es (λ is. not_both (subst (λ (n : ℕ). is_placed t n ≡ true) is here)) ∙ told_instances a es h.0 z h.2 i out
     where
-      not_both : is_placed t program i ≡ true → ⊥
+      not_both : is_placed t i ≡ true → ⊥
       not_both in_it = let both_are : true ≡ false = sym in_it ∙ out in absurd (cc)
 
   module _ (histories traces : List (List Entry)) (records : AreRecords t program histories traces) where
     pub kept_all : (i : ℕ) → IsKept t program i (history t program histories i)
-    kept_all i = go (is_placed t program i) refl
+    kept_all i = go (is_placed t i) refl
       where
-        go : (b : Bool) → is_placed t program i ≡ b → IsKept t program i (history t program histories i)
+        go : (b : Bool) → is_placed t i ≡ b → IsKept t program i (history t program histories i)
         go true is = records.kept i is
         go false is = subst (IsKept t program i) (sym (row_absent (placed t) histories i is)) (_, refl)
 
@@ -103,9 +106,9 @@ module _ (t : Described) (program : Program) where
         go (inr past) = subst (IsTold t program a) (sym (row_past traces a (omega (arith, records.actors, past)))) (_, refl)
 
     entries_all : (i a : ℕ) → by a (history t program histories i) ≡ at i (trace t program traces a)
-    entries_all i a = go (is_placed t program i) refl (near a (actor_count t program))
+    entries_all i a = go (is_placed t i) refl (near a (actor_count t program))
       where
-        go : (b : Bool) → is_placed t program i ≡ b → (a < actor_count t program) ⊎ (actor_count t program ≤ a) → by a (history t program histories i) ≡ at i (trace t program traces a)
+        go : (b : Bool) → is_placed t i ≡ b → (a < actor_count t program) ⊎ (actor_count t program ≤ a) → by a (history t program histories i) ≡ at i (trace t program traces a)
         go true is (inl low) = records.entries i a is low
         go true is (inr past) =
             kept_actors i (history t program histories i) _ (kept_all i).0 (kept_all i).1 a past

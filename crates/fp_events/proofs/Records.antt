@@ -1,17 +1,18 @@
 -- The histories and traces of a run, listed for the topology's instances and the program's actors, agree.
-use Rattle.std.proofs.Common.{◌≡◌, ℕ, ◌<◌, ◌≤◌, Bool, true, false, cond, List, [], ◌∷◌, map, length, refl, sym, ap, ◌∙◌, subst, ◌⊎◌, inl, inr, ◌≢◌, arith, eqb}
+use Rattle.std.proofs.Common.{◌≡◌, ℕ, ◌<◌, ◌≤◌, Bool, true, false, cond, ◌||◌, List, [], ◌∷◌, map, length, refl, sym, ap, ◌∙◌, subst, ◌⊎◌, inl, inr, ◌≢◌, arith, eqb}
 use Rattle.std.proofs.lemmas.List.{length-map}
 use Rattle.std.proofs.lemmas.List.FromFn.{length-map-range_with_len, get_or-map-range_with_len}
-use Rattle.std.proofs.lemmas.Bool.Decides.{eqb_tells}
+use Rattle.std.proofs.lemmas.Bool.Decides.{eqb_tells, nat_tests}
 use Rattle.fp_system.specs.Run as system
 use Rattle.fp_system.proofs.Agreement.{recorded}
 use Rattle.fp_tables.specs.Lookup.{Described, placed}
 use Rattle.fp_tables.specs.declared.program.Program.{Program}
 use Rattle.fp_events.specs.declared.event.Entry.{Entry}
-use Rattle.fp_events.specs.Machine.{is_in}
+use Rattle.fp_tables.specs.Lists.{is_in}
 use Rattle.fp_events.specs.Instance.{InstanceState}
 use Rattle.fp_events.specs.Actor.{ActorState}
-use Rattle.fp_events.specs.Fits.{actor_count, is_placed}
+use Rattle.fp_events.specs.Fits.{actor_count}
+use Rattle.fp_tables.specs.Acts.{is_placed}
 use Rattle.fp_events.specs.Step.{core}
 use Rattle.fp_events.specs.Run.{at, by, actors, IsRun, IsKept, IsTold, history, trace, AreRecords}
 use Rattle.fp_events.proofs.StepLaws.{given, taken, core_laws}
@@ -20,15 +21,17 @@ use Rattle.fp_events.proofs.Recorded.{fit_parts, row_absent, row_past, near}
 -- of a list made number by number the one of a number that is there
 row_of-map : {E : Type 0} (f : ℕ → List E) (ns : List ℕ) (i : ℕ) → is_in i ns ≡ true → system.row_of ns (map f ns) i ≡ f i
 row_of-map f [] i h = absurd (cc)
-row_of-map f (n ∷ ns) i h = go (eqb_tells i n) h (row_of-map f ns i)
+row_of-map f (n ∷ ns) i h =
+    let flip : eqb n i ≡ eqb i n = grind (arith, nat_tests) in
+    go (eqb_tells i n) (subst (λ (b : Bool). (b || is_in i ns) ≡ true) flip h) (row_of-map f ns i)
   where
-    go : ((eqb i n ≡ true) × (i ≡ n)) ⊎ ((eqb i n ≡ false) × (i ≢ n)) → cond (eqb i n) true (is_in i ns) ≡ true
+    go : ((eqb i n ≡ true) × (i ≡ n)) ⊎ ((eqb i n ≡ false) × (i ≢ n)) → (eqb i n || is_in i ns) ≡ true
         → (is_in i ns ≡ true → system.row_of ns (map f ns) i ≡ f i) → cond (eqb i n) (f n) (system.row_of ns (map f ns) i) ≡ f i
     go (inl is) there again = rw is.0 (ap f (sym is.1))
     go (inr is) there again = rw is.0 (again (rw is.0 at there))
 
 module _ (t : Described) (program : Program) where
-  out_of_place : (i : ℕ) (es : List Entry) (s u : InstanceState) → system.InTurn (system.InstanceStep (core t program) i) s es u → is_placed t program i ≡ false → es ≡ []
+  out_of_place : (i : ℕ) (es : List Entry) (s u : InstanceState) → system.InTurn (system.InstanceStep (core t program) i) s es u → is_placed t i ≡ false → es ≡ []
   out_of_place i [] s u h out = refl
   out_of_place i (e ∷ es) s u h out =
       let g = given t program i e.actor h.1.seen s h.0 h.1.ask e h.1.part in
@@ -47,9 +50,9 @@ module _ (t : Described) (program : Program) where
     of_run = recorded (core t program) (core_laws t program) es run.0 run.1
 
     histories_are : (i : ℕ) → history t program (map (λ i. at i es) (placed t)) i ≡ at i es
-    histories_are i = go (is_placed t program i) refl
+    histories_are i = go (is_placed t i) refl
       where
-        go : (b : Bool) → is_placed t program i ≡ b → history t program (map (λ i. at i es) (placed t)) i ≡ at i es
+        go : (b : Bool) → is_placed t i ≡ b → history t program (map (λ i. at i es) (placed t)) i ≡ at i es
         go true is = row_of-map (λ i. at i es) (placed t) i is
         go false is = row_absent (placed t) (map (λ i. at i es) (placed t)) i is ∙ sym (out_of_place i (at i es) _ _ (of_run.kept i) is)
 

@@ -3,7 +3,7 @@ use Rattle.std.specs.Prelude.{ℕ, Bool, true, false, cond, ◌&&◌, ◌+◌, n
 use Rattle.std.specs.List.{list_all}
 use Rattle.fp_tables.specs.Specials.{component}
 use Rattle.fp_base.specs.declared.value.Value.{Value}
-use Rattle.fp_tables.specs.Lookup.{Described, placed}
+use Rattle.fp_tables.specs.Lookup.{Described}
 use Rattle.fp_tables.specs.declared.kind.Kind.{Kind}
 use Rattle.fp_tables.specs.declared.kind.Formal.{Formal}
 use Rattle.fp_tables.specs.declared.component.Channel.{Channel}
@@ -24,16 +24,13 @@ use Rattle.fp_events.specs.declared.event.Ask.{Ask}
 use Rattle.fp_events.specs.declared.event.Ask.TheVariants as ask
 use Rattle.fp_events.specs.declared.event.What.{What}
 use Rattle.fp_events.specs.declared.event.What.TheVariants as what
-use Rattle.fp_events.specs.Machine.{is_in}
+use Rattle.fp_tables.specs.Acts.{is_placed}
 use Rattle.fp_events.specs.Manners.{Manner, saves, manner}
 
 abbrev pub actor_count : Described → Program → ℕ
 actor_count t program = callers program + length (actives t)
 
 module _ (t : Described) (program : Program) where
-  abbrev pub is_placed : ℕ → Bool
-  is_placed i = is_in i (placed t)
-
   abbrev pub kinds : List Formal → List Kind
   kinds fs = map (λ f. f.kind) fs
 
@@ -59,7 +56,7 @@ module _ (t : Described) (program : Program) where
   point_fits i point with = is_some (manner t i point) && unwrap_or (option_map (λ ks. have_kinds t.model.types ks with) (place_kinds i point)) false
 
   abbrev pub origin_fits : Origin → Bool
-  origin_fits (Wire e sent_as) = is_placed e.instance && unwrap_or (option_map (λ (p : PortOf). nat_lt e.number p.size) (port_at e.instance e.port)) false
+  origin_fits (Wire e sent_as) = is_placed t e.instance && unwrap_or (option_map (λ (p : PortOf). nat_lt e.number p.size) (port_at e.instance e.port)) false
   origin_fits _ = true
 
   abbrev pub arrival_fits : ℕ → Arrival → Bool
@@ -109,7 +106,7 @@ module _ (t : Described) (program : Program) where
 
   -- the same, of an actor of the program and an instance of the topology
   unfoldable pub fits : ℕ → ℕ → What → Bool
-  fits a i w = nat_lt a (actor_count t program) && is_placed i && what_fits i w
+  fits a i w = nat_lt a (actor_count t program) && is_placed t i && what_fits i w
 
   -- one value for each formal of an event
   abbrev pub event_takes : List Value → Event → Bool

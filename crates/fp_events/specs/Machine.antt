@@ -1,6 +1,7 @@
 -- What a state machine does: how it starts, and how it moves on a signal.
-use Rattle.std.specs.Prelude.{◌≡◌, ◌<◌, ℕ, zero, suc, Bool, true, false, cond, not, ◌&&◌, ◌==◌, List, [], ◌∷◌, ◌++◌, filter, find, reverse, flat_map, length, get_or, set, replicate, Option, Some, None, option_map, option_and_then, unwrap_or, slice_get}
+use Rattle.std.specs.Prelude.{◌≡◌, ◌<◌, ℕ, zero, suc, Bool, true, cond, not, ◌&&◌, ◌==◌, List, [], ◌∷◌, ◌++◌, filter, find, reverse, flat_map, length, get_or, set, replicate, Option, Some, None, option_map, option_and_then, unwrap_or, slice_get}
 use Rattle.std.specs.Option.{option_or}
+use Rattle.fp_tables.specs.Lists.{is_in}
 use Rattle.fp_tables.specs.declared.machine.Machine.{Machine}
 use Rattle.fp_tables.specs.declared.machine.Vertex.{Vertex}
 use Rattle.fp_tables.specs.declared.machine.Node.{Node}
@@ -35,10 +36,6 @@ answer_at [] k = true
 answer_at (b ∷ []) k = b
 answer_at (b ∷ c ∷ rest) zero = b
 answer_at (b ∷ c ∷ rest) (suc k) = answer_at (c ∷ rest) k
-
-abbrev pub is_in : ℕ → List ℕ → Bool
-is_in v [] = false
-is_in v (w ∷ ws) = cond (v == w) true (is_in v ws)
 
 abbrev pub entry_of : Node → List ℕ
 entry_of (State initial entry exit transitions) = entry

@@ -8,7 +8,8 @@ use Rattle.fp_tables.specs.declared.program.Program.{Program}
 use Rattle.fp_events.specs.declared.event.Entry.{Entry}
 use Rattle.fp_events.specs.Instance.{InstanceState}
 use Rattle.fp_events.specs.Actor.{ActorState}
-use Rattle.fp_events.specs.Fits.{actor_count, is_placed}
+use Rattle.fp_events.specs.Fits.{actor_count}
+use Rattle.fp_tables.specs.Acts.{is_placed}
 use Rattle.fp_events.specs.Step.{core}
 
 -- the state of all instances and all actors
@@ -81,8 +82,8 @@ module _ (t : Described) (program : Program) where
   pub record AreRecords (histories traces : List (List Entry)) : Type 0 where
     pub instances : length histories ≡ length (placed t)
     pub actors : length traces ≡ actor_count t program
-    pub kept : (i : ℕ) → is_placed t program i ≡ true → IsKept i (history histories i)
+    pub kept : (i : ℕ) → is_placed t i ≡ true → IsKept i (history histories i)
     pub told : (a : ℕ) → a < actor_count t program → IsTold a (trace traces a)
-    pub entries : (i a : ℕ) → is_placed t program i ≡ true → a < actor_count t program → by a (history histories i) ≡ at i (trace traces a)
+    pub entries : (i a : ℕ) → is_placed t i ≡ true → a < actor_count t program → by a (history histories i) ≡ at i (trace traces a)
     pub stamps : (e : Entry) (earlier later before rest : List Entry) →
         history histories e.instance ≡ earlier ++ e ∷ later → trace traces e.actor ≡ before ++ e ∷ rest → e.stamp ≡ suc (max (last_stamp earlier) (last_stamp before))

@@ -24,7 +24,8 @@ use Rattle.fp_tables.specs.declared.program.Program.{Program}
 use Rattle.fp_events.specs.Actor.{ActorState}
 use Rattle.fp_events.specs.Answers.{arrival_in, answers}
 use Rattle.fp_events.specs.Due.{due}
-use Rattle.fp_events.specs.Fits.{actor_count, is_placed, kinds, place_kinds, what_fits, fits}
+use Rattle.fp_events.specs.Fits.{actor_count, kinds, place_kinds, what_fits, fits}
+use Rattle.fp_tables.specs.Acts.{is_placed}
 use Rattle.fp_events.specs.Instance.{InstanceState}
 use Rattle.fp_tables.specs.Specials.{component}
 use Rattle.fp_events.specs.Manners.{saves, manner}
@@ -41,7 +42,7 @@ use Rattle.fp_events.proofs.StepLaws.{taken, core_laws, answered_arrival}
 use Rattle.fp_logtext.specs.Names.{instance_name}
 use Rattle.fp_logtext.specs.Named.{what_is_named, entry_is_named, sets_or_saves}
 use Rattle.fp_logtext.specs.Fitting.{is_empty, note_fits, notes_fit, saves_alone, suit_point, values_fit}
-use Rattle.fp_typing.proofs.Lists.{all_of_each, some_and_of, some_mapped}
+use Rattle.fp_typing.proofs.Lists.{all_of_each, some_mapped}
 use Rattle.fp_typing.proofs.Parts.{command_in, values_taken_at, member_at}
 use Rattle.fp_logtext.proofs.Commands.{set_manner, save_manner, implied, of_save, saves_part, set_is_named, save_is_named}
 use Rattle.fp_logtext.proofs.Naming.{fit_named, fit_values}
@@ -49,6 +50,7 @@ use Rattle.fp_logtext.proofs.Frames.{frames_are_good}
 use Rattle.fp_logtext.proofs.Dues.{due_notes}
 use Rattle.fp_logtext.proofs.AtHome.{due_advance}
 use Rattle.fp_logtext.proofs.Kept.{IsPlaced, follows_good, opening_good}
+use Rattle.fp_tables.proofs.Optional.{some_and_of}
 
 module _ (t : Described) (program : Program) (sound : IsSoundFor t.model (Some t.topology)) (good : IsSoundProgram t program) where
   -- ---- by what an entry fits alone
@@ -56,8 +58,8 @@ module _ (t : Described) (program : Program) (sound : IsSoundFor t.model (Some t
   pub entry_named : (e : Entry) → fits t program e.actor e.instance e.what ≡ true → entry_is_named t program e ≡ true
   unfolding fits
   entry_named e h =
-      let a = both (nat_lt e.actor (actor_count t program) && is_placed t program e.instance) (what_fits t program e.instance e.what) h in
-      let b = both (nat_lt e.actor (actor_count t program)) (is_placed t program e.instance) a.0 in
+      let a = both (nat_lt e.actor (actor_count t program) && is_placed t e.instance) (what_fits t program e.instance e.what) h in
+      let b = both (nat_lt e.actor (actor_count t program)) (is_placed t e.instance) a.0 in
       join _ (what_is_named t.model e.instance e.what)
       (join (nat_lt e.actor (actor_count t program)) (is_some (instance_name t.model e.instance)) b.0
       (some_mapped _ (slice_get t.model.instances e.instance) ∙ member_at t.model t.topology sound e.instance b.1))

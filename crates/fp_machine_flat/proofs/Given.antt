@@ -7,7 +7,7 @@ use Rattle.std.specs.Prelude.{reverse}
 use Rattle.std.specs.Option.{option_map, unwrap_or}
 use Rattle.fp_base.proofs.Lists.{all_get}
 use Rattle.fp_base.proofs.Bools.{both}
-use Rattle.fp_tables.specs.Lists.{if_some, some_and}
+use Rattle.fp_tables.specs.Lists.{if_some, some_and, is_in}
 use Rattle.fp_tables.specs.Components.{same_kind}
 use Rattle.fp_tables.specs.Machines.{target, is_given, actions_are_given, guard_is_given, choice_is_given, behind_is_given, step_is_given, on_is_given, vertex_is_given}
 use Rattle.fp_tables.specs.declared.kind.Kind.{Kind}
@@ -19,7 +19,7 @@ use Rattle.fp_tables.specs.declared.machine.Node.TheVariants.{State, Choice}
 use Rattle.fp_tables.specs.declared.machine.Step.{Step}
 use Rattle.fp_tables.specs.declared.machine.Vertex.{Vertex}
 use Rattle.fp_tables.specs.declared.machine.On.{On}
-use Rattle.fp_events.specs.Machine.{Walk, node, parent, upward, target_of, lists, entry_of, exit_of, is_in, crossing, answer, ask, onward, goes, IsRanked}
+use Rattle.fp_events.specs.Machine.{Walk, node, parent, upward, target_of, lists, entry_of, exit_of, crossing, answer, ask, onward, goes, IsRanked}
 use Rattle.fp_machine_flat.specs.Moving.{is_leaf}
 use Rattle.fp_machine_flat.specs.SoundMachine.{IsSoundMachine}
 use Rattle.fp_machine_flat.proofs.SoundParts.{get_some, vertex_of, initial_leads, choice_leads, state_low, choice_low}

@@ -66,7 +66,12 @@ abbrev pub same_spot : Spot → Spot → Bool
 same_spot (spot.Port m) (spot.Port n) = m == n
 same_spot (spot.Command m) (spot.Command n) = m == n
 same_spot (spot.Action r a) (spot.Action q b) = (r == q) && (a == b)
-same_spot _ _ = false
+same_spot (spot.Port m) (spot.Command n) = false
+same_spot (spot.Port m) (spot.Action q b) = false
+same_spot (spot.Command m) (spot.Port n) = false
+same_spot (spot.Command m) (spot.Action q b) = false
+same_spot (spot.Action r a) (spot.Port n) = false
+same_spot (spot.Action r a) (spot.Command n) = false
 
 abbrev pub same_place : Handler → Handler → Bool
 same_place h g = (h.instance == g.instance) && same_spot h.place g.place

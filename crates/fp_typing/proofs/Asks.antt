@@ -4,7 +4,7 @@ use Rattle.std.proofs.lemmas.Bool.Decides.{nat_tests}
 use Rattle.fp_base.specs.declared.value.Value.{Value}
 use Rattle.fp_base.proofs.Bools.{both, join}
 use Rattle.fp_tables.specs.Acts as acts
-use Rattle.fp_tables.specs.Acts.{bound_to, command_of, machine_at, has_role, result_at, component_at}
+use Rattle.fp_tables.specs.Acts.{bound_to, command_of, machine_at, has_role, result_at, component_at, is_placed}
 use Rattle.fp_tables.specs.Arguments.{Scope, with_bound, kinds_of, arguments_suit}
 use Rattle.fp_tables.specs.Lists.{some_and}
 use Rattle.fp_tables.specs.Lookup.{Described, component_of, wire_from, placed}
@@ -34,7 +34,7 @@ use Rattle.fp_tables.specs.declared.program.Verb.{Verb}
 use Rattle.fp_tables.specs.declared.program.Verb.TheVariants as verb
 use Rattle.fp_events.specs.Actor.{Bindings, Action, act, advance, Doing, Opened, own, arrived, taken}
 use Rattle.fp_events.specs.Due.{values, first_value, first_in, first_action, sent_from, at_port, asks_out, ends_with, asks_in}
-use Rattle.fp_events.specs.Fits.{is_placed, point_fits, origin_fits, event_takes, value_fits, ask_fits}
+use Rattle.fp_events.specs.Fits.{point_fits, origin_fits, event_takes, value_fits, ask_fits}
 use Rattle.fp_events.specs.Follows.{name_for, bound_name}
 use Rattle.fp_tables.specs.Specials.{component, is_special, special_wire}
 use Rattle.fp_events.specs.declared.event.Ask.{Ask}
@@ -45,13 +45,13 @@ use Rattle.fp_events.specs.declared.event.Origin.{Origin}
 use Rattle.fp_events.specs.declared.event.Origin.TheVariants.{Caller, Own, Wire}
 use Rattle.fp_base.proofs.Options.{same_some, some_of}
 use Rattle.fp_typing.specs.Suits.{BoundSuits, result_of_point, source, ActionSuits, after, ActionsSuit, MayReturn, DoingsSuit, Returns}
-use Rattle.fp_typing.proofs.Lists.{some_and_of}
 use Rattle.fp_typing.proofs.Parts.{event_in, channel_in, param_in}
 use Rattle.fp_typing.proofs.Scopes.{arguments_kinds, one_value}
-use Rattle.fp_typing.proofs.Wires.{joins, member_is_in, is_general, one_kinds}
+use Rattle.fp_typing.proofs.Wires.{joins, is_general, one_kinds}
 use Rattle.fp_typing.proofs.Results.{wire_results}
 use Rattle.fp_typing.proofs.Responding.{special_wired}
 use Rattle.fp_typing.proofs.Places.{port_fits, post_fits, command_fits, signal_fits, wire_fits, sent_fits}
+use Rattle.fp_tables.proofs.Optional.{some_and_of}
 
 -- nothing is bound without a type
 pub untyped : (name : Option (List ℕ)) (scope : Scope) → bound_to name None scope ≡ scope
@@ -114,7 +114,7 @@ module _ (t : Described) (program : Program) where
   Binds o i result x j _ = (o ≡ own → ⊥) × (j ≡ i) × ((scope : Scope) → after t program x scope ≡ scope)
 
   pub record AskSuits (o : Opened) (i : ℕ) (result : Option Kind) (x : Action) (d : ℕ × Ask) : Type 0 where
-    pub placed : is_placed t program d.0 ≡ true
+    pub placed : is_placed t d.0 ≡ true
     pub fits : ask_fits t program d.0 d.1 ≡ true
     pub binds : Binds o i result x d.0 d.1
 
@@ -149,12 +149,12 @@ module _ (t : Described) (program : Program) (sound : IsSoundFor t.model (Some t
         → DueSuits t program own i result (act (record { verb = v; subject = subject; name = name; with = with; bind = given }))
         (asks_out t program (record { verb = v; subject = subject; name = name; with = with; bind = given }) (values bound with) v)
     caller_suits i result verb.Call subject name with given h =
-        let b = both (acts.is_placed t subject.instance) _ h in
+        let b = both (is_placed t subject.instance) _ h in
         let p = some_and_of (λ (p : PortOf). is_general_input p.role && nat_lt subject.number p.size && arguments_suit t.model.types scope (kinds_of p.formals) with) (port_of t.model subject.instance subject.port) b.1 in
         let x = both (is_general_input p.0.role && nat_lt subject.number p.0.size) (arguments_suit t.model.types scope (kinds_of p.0.formals) with) p.2 in
         let y = both (is_general_input p.0.role) (nat_lt subject.number p.0.size) x.0 in
         record {
-          placed = member_is_in subject.instance (placed t) b.0;
+          placed = b.0;
           fits = arrival_fits_by subject.instance (Port subject.port subject.number) Caller (values bound with)
               (port_fits t program subject.instance subject.port subject.number p.0 (values bound with) p.1 y.0 y.1
               (arguments_kinds t.model.types sound.0.types.no_type_uses_itself scope bound (kinds_of p.0.formals) with suits x.1))
@@ -162,25 +162,25 @@ module _ (t : Described) (program : Program) (sound : IsSoundFor t.model (Some t
           binds = λ bound scope. refl;
         }
     caller_suits i result verb.Command subject name with given h =
-        let b = both (acts.is_placed t subject.instance) _ h in
+        let b = both (is_placed t subject.instance) _ h in
         let n = both (nat_le subject.number 0) (some_and (λ (c : Command). arguments_suit t.model.types scope (kinds_of c.formals) with) (command_of t subject.instance name)) b.1 in
         let c = some_and_of (λ (c : Command). arguments_suit t.model.types scope (kinds_of c.formals) with) (command_of t subject.instance name) n.1 in
         record {
-          placed = member_is_in subject.instance (placed t) b.0;
+          placed = b.0;
           fits = arrival_fits_by subject.instance (OfCommand name) Caller (values bound with)
               (command_fits t program subject.instance name c.0 (values bound with) c.1
               (arguments_kinds t.model.types sound.0.types.no_type_uses_itself scope bound (kinds_of c.0.formals) with suits c.2))
               refl;
           binds = λ bound scope. untyped given scope;
         }
-    caller_suits i result verb.Emit subject name with given h = absurd (never (both (acts.is_placed t subject.instance) false h).1)
-    caller_suits i result verb.Write subject name with given h = absurd (never (both (acts.is_placed t subject.instance) false h).1)
-    caller_suits i result verb.Read subject name with given h = absurd (never (both (acts.is_placed t subject.instance) false h).1)
-    caller_suits i result verb.Signal subject name with given h = absurd (never (both (acts.is_placed t subject.instance) false h).1)
-    caller_suits i result verb.Post subject name with given h = absurd (never (both (acts.is_placed t subject.instance) false h).1)
-    caller_suits i result verb.Respond subject name with given h = absurd (never (both (acts.is_placed t subject.instance) false h).1)
-    caller_suits i result verb.Dispatch subject name with given h = absurd (never (both (acts.is_placed t subject.instance) false h).1)
-    caller_suits i result verb.Return subject name with given h = absurd (never (both (acts.is_placed t subject.instance) false h).1)
+    caller_suits i result verb.Emit subject name with given h = absurd (never (both (is_placed t subject.instance) false h).1)
+    caller_suits i result verb.Write subject name with given h = absurd (never (both (is_placed t subject.instance) false h).1)
+    caller_suits i result verb.Read subject name with given h = absurd (never (both (is_placed t subject.instance) false h).1)
+    caller_suits i result verb.Signal subject name with given h = absurd (never (both (is_placed t subject.instance) false h).1)
+    caller_suits i result verb.Post subject name with given h = absurd (never (both (is_placed t subject.instance) false h).1)
+    caller_suits i result verb.Respond subject name with given h = absurd (never (both (is_placed t subject.instance) false h).1)
+    caller_suits i result verb.Dispatch subject name with given h = absurd (never (both (is_placed t subject.instance) false h).1)
+    caller_suits i result verb.Return subject name with given h = absurd (never (both (is_placed t subject.instance) false h).1)
 
     -- ---- an action at an instance
 
@@ -218,7 +218,7 @@ module _ (t : Described) (program : Program) (sound : IsSoundFor t.model (Some t
     zero_below n h = grind (arith, nat_tests)
 
     -- the value of a return
-    return_suits : (o : Opened) (subject : End) (result : Option Kind) (place : Spot) (with : List Arg) (x : Action) → is_placed t program subject.instance ≡ true → MayReturn t program o subject.instance result place → (o ≡ own → ⊥)
+    return_suits : (o : Opened) (subject : End) (result : Option Kind) (place : Spot) (with : List Arg) (x : Action) → is_placed t subject.instance ≡ true → MayReturn t program o subject.instance result place → (o ≡ own → ⊥)
         → programs.returns t place scope (record { verb = verb.Return; subject = subject; name = 0; with = with; bind = None }) ≡ true
         → DueSuits t program o subject.instance result x (ends_with t program o subject.instance (Some (first_value (values bound with))))
     return_suits own subject result place with x here may inside h = absurd (inside refl)
@@ -233,7 +233,7 @@ module _ (t : Described) (program : Program) (sound : IsSoundFor t.model (Some t
         }
 
     pub inside_suits : (o : Opened) (result : Option Kind) (place : Spot) (v : Verb) (subject : End) (name : ℕ) (with : List Arg) (given : Option (List ℕ))
-        → (o ≡ own → ⊥) → is_placed t program subject.instance ≡ true → MayReturn t program o subject.instance result place
+        → (o ≡ own → ⊥) → is_placed t subject.instance ≡ true → MayReturn t program o subject.instance result place
         → verb_suits t place scope (record { verb = v; subject = subject; name = name; with = with; bind = given }) ≡ true
         → DueSuits t program o subject.instance result (act (record { verb = v; subject = subject; name = name; with = with; bind = given }))
         (asks_in t program o subject.instance (record { verb = v; subject = subject; name = name; with = with; bind = given }) (values bound with) v)

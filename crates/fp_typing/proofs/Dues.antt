@@ -1,5 +1,5 @@
 -- What is due of an actor whose frames suit.
-use Rattle.std.proofs.Common.{◌≡◌, ℕ, zero, suc, Bool, true, false, cond, ◌&&◌, ◌==◌, ◌-◌, nat_lt, List, [], ◌∷◌, length, filter, Option, Some, None, option_map, is_none, is_some, refl, sym, ap, ◌∙◌, subst, slice_get, arith}
+use Rattle.std.proofs.Common.{◌≡◌, ℕ, zero, suc, Bool, true, false, cond, ◌&&◌, ◌||◌, ◌==◌, ◌-◌, nat_lt, List, [], ◌∷◌, length, filter, Option, Some, None, option_map, is_none, is_some, refl, sym, ap, ◌∙◌, subst, slice_get, arith}
 use Rattle.std.proofs.lemmas.Bool.Decides.{nat_tests}
 use Rattle.fp_base.proofs.Lists.{get_below}
 use Rattle.fp_tables.specs.Specials.{component, special_wire}
@@ -17,9 +17,10 @@ use Rattle.fp_tables.specs.declared.program.Spot.{Spot}
 use Rattle.fp_events.specs.Actor.{Bindings, Action, act, send, advance, Doing, Opened, own, arrived, taken, Frame}
 use Rattle.fp_events.specs.Due.{values, first_action, sent_from, through, asks_in, due_in, due_of}
 use Rattle.fp_events.specs.Ends.{is_own, is_through}
-use Rattle.fp_events.specs.Fits.{actor_count, is_placed, ask_fits}
+use Rattle.fp_events.specs.Fits.{actor_count, ask_fits}
+use Rattle.fp_tables.specs.Acts.{is_placed}
 use Rattle.fp_events.specs.Lookup.{is_active, actives, callers, home}
-use Rattle.fp_events.specs.Machine.{is_in}
+use Rattle.fp_tables.specs.Lists.{is_in}
 use Rattle.fp_events.specs.declared.event.Ask.{Ask}
 use Rattle.fp_events.specs.declared.event.Ask.TheVariants as ask
 use Rattle.fp_typing.specs.Suits.{BoundSuits, at, AdvanceSuits, ActionSuits, MayReturn, DoingsSuit, Returns, Stands, AllSuit}
@@ -51,7 +52,7 @@ module _ (t : Described) (program : Program) (sound : IsSoundFor t.model (Some t
   asked o i (send s name) b = sent_from t program (special_wire t i s) name
   asked o i (advance running signal v) b = Some (i, ask.Advance running signal v)
 
-  inside_due : (o : Opened) (i : ℕ) (result : Option Kind) (x : Action) (b : Bindings) (place : Spot) (scope : Scope) → (o ≡ own → ⊥) → is_placed t program i ≡ true → MayReturn t program o i result place
+  inside_due : (o : Opened) (i : ℕ) (result : Option Kind) (x : Action) (b : Bindings) (place : Spot) (scope : Scope) → (o ≡ own → ⊥) → is_placed t i ≡ true → MayReturn t program o i result place
       → ActionSuits t program (at i place) scope x → BoundSuits t.model.types scope b → DueSuits t program o i result x (asked o i x b)
   unfolding asked
   inside_due o i result (act x) b place scope inside here may h suits =
@@ -59,7 +60,7 @@ module _ (t : Described) (program : Program) (sound : IsSoundFor t.model (Some t
       let e : x.subject.instance ≡ i = nat_same.equal x.subject.instance i s.0 in
       subst (λ (n : ℕ). DueSuits t program o n result (act x) (asks_in t program o n x (values b x.with) x.verb)) e
       (inside_suits t program sound scope b suits o result place x.verb x.subject x.name x.with x.bind inside
-      (ap (is_placed t program) e ∙ here)
+      (ap (is_placed t) e ∙ here)
       (subst (λ (n : ℕ). MayReturn t program o n result place) (sym e) may) s.1)
   inside_due o i result (send s name) b place scope inside here may h suits = send_suits t program sound o i result (send s name) s name (λ bound. refl, λ scope. refl) h
   inside_due o i result (advance running signal v) b place scope inside here may h suits = record { placed = here; fits = fits_advance i running signal v h; binds = (inside, refl, refl) }
@@ -95,7 +96,7 @@ module _ (t : Described) (program : Program) (sound : IsSoundFor t.model (Some t
   -- ---- the ask that is due
 
   abbrev IsFine : ℕ × Ask → Type 0
-  IsFine d = (is_placed t program d.0 ≡ true) × (ask_fits t program d.0 d.1 ≡ true)
+  IsFine d = (is_placed t d.0 ≡ true) × (ask_fits t program d.0 d.1 ≡ true)
 
   fine_at : (o : Opened) (i : ℕ) (result : Option Kind) (x : Action) (q : Option (ℕ × Ask)) (d : ℕ × Ask) → DueSuits t program o i result x q → q ≡ Some d → IsFine d
   fine_at o i result x None d h e = absurd h
@@ -111,19 +112,19 @@ module _ (t : Described) (program : Program) (sound : IsSoundFor t.model (Some t
   of_filter p [] k i h = absurd (no_some i h)
   of_filter p (x ∷ xs) k i h = go (p x) k h (λ k h. of_filter p xs k i h)
     where
-      in_rest : (b : Bool) → is_in i xs ≡ true → cond b true (is_in i xs) ≡ true
+      in_rest : (b : Bool) → is_in i xs ≡ true → (b || is_in i xs) ≡ true
       in_rest true h = refl
       in_rest false h = h
 
       go : (b : Bool) (k : ℕ) → slice_get (cond b (x ∷ filter p xs) (filter p xs)) k ≡ Some i → ((k : ℕ) → slice_get (filter p xs) k ≡ Some i → is_in i xs ≡ true) → is_in i (x ∷ xs) ≡ true
-      go true zero h rest = let e : x ≡ i = same_some h in ap (λ (b : Bool). cond b true (is_in i xs)) (ap (λ (n : ℕ). i == n) e ∙ nat_same.itself i)
-      go true (suc k) h rest = in_rest (i == x) (rest k h)
-      go false k h rest = in_rest (i == x) (rest k h)
+      go true zero h rest = let e : x ≡ i = same_some h in ap (λ (b : Bool). b || is_in i xs) (ap (λ (n : ℕ). n == i) e ∙ nat_same.itself i)
+      go true (suc k) h rest = in_rest (x == i) (rest k h)
+      go false k h rest = in_rest (x == i) (rest k h)
 
-  home_placed : (a i : ℕ) → home t program a ≡ Some i → is_placed t program i ≡ true
+  home_placed : (a i : ℕ) → home t program a ≡ Some i → is_placed t i ≡ true
   home_placed a i h = go (nat_lt a (callers program)) h
     where
-      go : (b : Bool) → cond b None (slice_get (actives t) (a - callers program)) ≡ Some i → is_placed t program i ≡ true
+      go : (b : Bool) → cond b None (slice_get (actives t) (a - callers program)) ≡ Some i → is_placed t i ≡ true
       go true h = absurd (no_some i h)
       go false h = of_filter (λ i. is_active (component t i).queueing) (placed t) (a - callers program) i h
 

@@ -6,7 +6,7 @@ use Rattle.fp_base.proofs.Options.{mapped_some}
 use Rattle.fp_base.specs.declared.value.Value.{Value}
 use Rattle.fp_base.proofs.Sameness.{nat_same}
 use Rattle.fp_base.proofs.Bools.{both}
-use Rattle.fp_tables.specs.Acts.{bound_to}
+use Rattle.fp_tables.specs.Acts.{bound_to, is_placed}
 use Rattle.fp_tables.specs.Arguments.{Scope, with_bound}
 use Rattle.fp_tables.specs.Components.{is_later}
 use Rattle.fp_tables.specs.Lookup.{Described}
@@ -30,7 +30,7 @@ use Rattle.fp_tables.specs.declared.program.Spot.{Spot}
 use Rattle.fp_events.specs.Actor.{Bindings, Action, advance, Doing, Opened, own, arrived, taken, Frame, Thread}
 use Rattle.fp_events.specs.Answers.{suits, answers}
 use Rattle.fp_events.specs.Due.{first_action, due_of}
-use Rattle.fp_events.specs.Fits.{is_placed, signal_at, point_fits, origin_fits, arrival_fits, value_fits, actions_fit, going_fits, what_fits}
+use Rattle.fp_events.specs.Fits.{signal_at, point_fits, origin_fits, arrival_fits, value_fits, actions_fit, going_fits, what_fits}
 use Rattle.fp_events.specs.Follows.{without_first, bind, in_frame, doing, removed, bound_below, closed, name_for, value_in, ok_note, handling, returned, opened, sends, parameter_name, performed, sent_as, bound_name, follows}
 use Rattle.fp_events.specs.Lookup.{machine, home, default_of}
 use Rattle.fp_events.specs.Manners.{Manner, by, sets, saves, manner, input_manner}
@@ -181,7 +181,7 @@ module _ (t : Described) (program : Program) (sound : IsSoundFor t.model (Some t
 
   -- ---- frames that open
 
-  open_suits : (ks : List (Option Kind)) (a i : ℕ) (fs : List Frame) (q : Ask) (r : Arrival) (d : Doing) (default : Option Value) → AllSuit t program ks a fs → due_of t program a fs ≡ Some (i, q) → q ≡ ask.Arrive r → is_placed t program i ≡ true
+  open_suits : (ks : List (Option Kind)) (a i : ℕ) (fs : List Frame) (q : Ask) (r : Arrival) (d : Doing) (default : Option Value) → AllSuit t program ks a fs → due_of t program a fs ≡ Some (i, q) → q ≡ ask.Arrive r → is_placed t i ≡ true
       → Returns t program (result_of_point t i r.point) default → ((name : Option (List ℕ)) → DoingSuits t program (arrived default name) i (result_of_point t i r.point) (λ scope. scope) d)
       → AllSuit t program (result_of_point t i r.point ∷ ks) a (opened t program i d default fs)
   open_suits ks a i fs q r d default h due is here returns suits = (
@@ -223,13 +223,13 @@ module _ (t : Described) (program : Program) (sound : IsSoundFor t.model (Some t
       go None is = tt
       go (Some k) is = default_of_result t sound i point k is
 
-  handled : (ks : List (Option Kind)) (a i : ℕ) (fs : List Frame) (q : Ask) (r : Arrival) → AllSuit t program ks a fs → due_of t program a fs ≡ Some (i, q) → q ≡ ask.Arrive r → is_placed t program i ≡ true → IsOutside r.point
+  handled : (ks : List (Option Kind)) (a i : ℕ) (fs : List Frame) (q : Ask) (r : Arrival) → AllSuit t program ks a fs → due_of t program a fs ≡ Some (i, q) → q ≡ ask.Arrive r → is_placed t i ≡ true → IsOutside r.point
       → point_fits t program i r.point r.with ≡ true → AllSuit t program (result_of_point t i r.point ∷ ks) a (opened t program i (handling t program i r.point r.with) (returned t program i r.point) fs)
   handled ks a i fs q r h due is here out fit =
       open_suits ks a i fs q r (handling t program i r.point r.with) (returned t program i r.point) h due is here (default_returns i r.point)
       (λ name. handling_suits t program good (arrived (returned t program i r.point) name) i (result_of_point t i r.point) r.point r.with (λ p. refl) (may_return i r.point (returned t program i r.point) name out) fit)
 
-  sending : (ks : List (Option Kind)) (a i : ℕ) (fs : List Frame) (q : Ask) (r : Arrival) (ports : List (Special × List ℕ)) → AllSuit t program ks a fs → due_of t program a fs ≡ Some (i, q) → q ≡ ask.Arrive r → is_placed t program i ≡ true
+  sending : (ks : List (Option Kind)) (a i : ℕ) (fs : List Frame) (q : Ask) (r : Arrival) (ports : List (Special × List ℕ)) → AllSuit t program ks a fs → due_of t program a fs ≡ Some (i, q) → q ≡ ask.Arrive r → is_placed t i ≡ true
       → result_of_point t i r.point ≡ None → AllSuit t program (None ∷ ks) a (opened t program i (sends t program i ports) None fs)
   sending ks a i fs q r ports h due is here none =
       subst (λ (k : Option Kind). AllSuit t program (k ∷ ks) a (opened t program i (sends t program i ports) None fs)) none
@@ -244,7 +244,7 @@ module _ (t : Described) (program : Program) (sound : IsSoundFor t.model (Some t
       quietly_removed t program ks a fs h
       (λ scope. arrival_answer ks a i fs q r h due is scope ∙ ap (λ (k : Option Kind). bound_to (name_for (first_action (doing fs))) k scope) none ∙ untyped (name_for (first_action (doing fs))) scope)
 
-  taking : (ks : List (Option Kind)) (a i number : ℕ) (point : Point) (vs : List Value) (fs : List Frame) (q : Ask) → AllSuit t program ks a fs → due_of t program a fs ≡ Some (i, q) → IsPlain q → is_placed t program i ≡ true → point_fits t program i point vs ≡ true
+  taking : (ks : List (Option Kind)) (a i number : ℕ) (point : Point) (vs : List Value) (fs : List Frame) (q : Ask) → AllSuit t program ks a fs → due_of t program a fs ≡ Some (i, q) → IsPlain q → is_placed t i ≡ true → point_fits t program i point vs ≡ true
       → AllSuit t program (None ∷ ks) a (record { instance = i; doing = handling t program i point vs ∷ []; opened = taken } ∷ removed fs)
   taking ks a i number point vs fs q h due p here fit =
       (None, (handling_suits t program good taken i None point vs (λ p. refl) tt fit, tt), (here, tt, (ks, refl, quietly_removed t program ks a fs h (plain_answer ks a i fs q h due p))))
@@ -453,7 +453,7 @@ module _ (t : Described) (program : Program) (sound : IsSoundFor t.model (Some t
   point_of : (i : ℕ) (r : Arrival) → arrival_fits t program i r ≡ true → point_fits t program i r.point r.with ≡ true
   point_of i r h = (both (point_fits t program i r.point r.with) (origin_fits t program r.origin) h).0
 
-  pub keeps : (ks : List (Option Kind)) (a i : ℕ) (x : Thread) (q : Ask) (w : What) → AllSuit t program ks a x.frames → due_of t program a x.frames ≡ Some (i, q) → answers t i w q ≡ true → is_placed t program i ≡ true → what_fits t program i w ≡ true
+  pub keeps : (ks : List (Option Kind)) (a i : ℕ) (x : Thread) (q : Ask) (w : What) → AllSuit t program ks a x.frames → due_of t program a x.frames ≡ Some (i, q) → answers t i w q ≡ true → is_placed t i ≡ true → what_fits t program i w ≡ true
       → AllSuit t program (results_by t i ks w) a (follows t program i x w).frames
   unfolding follows what_fits answers
   keeps ks a i x q (what.Enter r) h due answer here fit =

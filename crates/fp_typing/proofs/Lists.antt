@@ -1,10 +1,9 @@
 -- What holds of all items of a list.
-use Rattle.std.proofs.Common.{◌≡◌, ℕ, zero, suc, Bool, true, false, cond, ◌==◌, List, [], ◌∷◌, ◌++◌, get_or, Option, Some, None, option_map, is_some, unwrap_or, find, refl, sym, ap, ◌∙◌, slice_get, arith}
+use Rattle.std.proofs.Common.{◌≡◌, ℕ, zero, suc, Bool, true, false, cond, ◌||◌, ◌==◌, List, [], ◌∷◌, ◌++◌, get_or, Option, Some, None, option_map, is_some, unwrap_or, find, refl, sym, ap, ◌∙◌, slice_get, arith}
 use Rattle.std.specs.List.{list_all}
 use Rattle.std.proofs.lemmas.Bool.Decides.{nat_tests}
 use Rattle.fp_base.proofs.Bools.{both, join}
-use Rattle.fp_tables.specs.Lists.{some_and}
-use Rattle.fp_events.specs.Machine.{is_in}
+use Rattle.fp_tables.specs.Lists.{some_and, is_in}
 
 -- what holds of each item at its place holds of all
 pub all_of_each : {X : Type 0} (p : X → Bool) (xs : List X) → ((before rest : List X) (x : X) → xs ≡ before ++ x ∷ rest → p x ≡ true) → list_all p xs ≡ true
@@ -28,16 +27,11 @@ slice_get-get_or (y ∷ xs) (suc k) x h = slice_get-get_or xs k x h
 
 pub all_in : (p : ℕ → Bool) (k : ℕ) (xs : List ℕ) → list_all p xs ≡ true → is_in k xs ≡ true → p k ≡ true
 all_in p k [] h e = absurd (cc)
-all_in p k (x ∷ xs) h e = go (k == x) refl e (λ found. all_in p k xs (both (p x) (list_all p xs) h).1 found)
+all_in p k (x ∷ xs) h e = go (x == k) refl e (λ found. all_in p k xs (both (p x) (list_all p xs) h).1 found)
   where
-    go : (b : Bool) → (k == x) ≡ b → cond b true (is_in k xs) ≡ true → (is_in k xs ≡ true → p k ≡ true) → p k ≡ true
+    go : (b : Bool) → (x == k) ≡ b → (b || is_in k xs) ≡ true → (is_in k xs ≡ true → p k ≡ true) → p k ≡ true
     go true is found rest = let s : k ≡ x = grind (arith, nat_tests) in ap p s ∙ (both (p x) (list_all p xs) h).0
     go false is found rest = rest found
-
--- what is some
-pub some_and_of : {X : Type 0} (p : X → Bool) (o : Option X) → some_and p o ≡ true → (x : X) × (o ≡ Some x) × (p x ≡ true)
-some_and_of p None h = absurd (cc)
-some_and_of p (Some x) h = (x, refl, h)
 
 pub all_implied : {X : Type 0} (p q : X → Bool) (xs : List X) → ((x : X) → p x ≡ true → q x ≡ true) → list_all p xs ≡ true → list_all q xs ≡ true
 all_implied p q [] f h = refl

@@ -12,7 +12,7 @@ use Rattle.fp_tables.specs.declared.topology.Instance.{Instance}
 use Rattle.fp_tables.specs.declared.topology.Topology.{Topology}
 use Rattle.fp_tables.specs.declared.model.Model.{Model}
 use Rattle.fp_tables.specs.Specials.{component, no_parts}
-use Rattle.fp_events.specs.Machine.{is_in}
+use Rattle.fp_tables.specs.Lists.{is_in}
 use Rattle.fp_base.proofs.Lists.{all_get, get_below}
 use Rattle.fp_typing.proofs.Lists.{all_in}
 

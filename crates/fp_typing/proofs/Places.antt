@@ -34,16 +34,17 @@ use Rattle.fp_tables.specs.declared.machine.Machine.{Machine}
 use Rattle.fp_tables.specs.declared.machine.Named.{Named}
 use Rattle.fp_tables.specs.declared.topology.End.{End}
 use Rattle.fp_tables.specs.declared.program.Program.{Program}
-use Rattle.fp_events.specs.Fits.{kinds, is_placed, port_at, place_kinds, point_fits, origin_fits, signal_kinds, signal_at}
+use Rattle.fp_events.specs.Fits.{kinds, port_at, place_kinds, point_fits, origin_fits, signal_kinds, signal_at}
+use Rattle.fp_tables.specs.Acts.{is_placed}
 use Rattle.fp_events.specs.Lookup.{machine, default_of}
 use Rattle.fp_events.specs.Manners.{Manner, by, manner, input_manner, internal_manner, command_manner}
 use Rattle.fp_events.specs.declared.event.Point.{Point}
 use Rattle.fp_events.specs.declared.event.Point.TheVariants.{Port, Command as OfCommand, Post, Signal}
 use Rattle.fp_events.specs.declared.event.Origin.TheVariants.{Wire}
-use Rattle.fp_typing.proofs.Lists.{some_and_of}
 use Rattle.fp_typing.proofs.Parts.{port_in, command_in, running_in}
 use Rattle.fp_typing.proofs.Wires.{joins, port_sound, port_lies_at}
 use Rattle.fp_typing.proofs.Results.{defaults_fit}
+use Rattle.fp_tables.proofs.Optional.{some_and_of}
 
 module _ (t : Described) (program : Program) where
   port_here : (i n : ℕ) (p : PortOf) → port_of t.model i n ≡ Some p → slice_get (component t i).ports n ≡ Some p
@@ -120,9 +121,9 @@ module _ (t : Described) (program : Program) where
 
   -- ---- origins
 
-  pub wire_fits : (e : End) (sent : Option (List ℕ)) (p : PortOf) → is_placed t program e.instance ≡ true → port_of t.model e.instance e.port ≡ Some p → nat_lt e.number p.size ≡ true → origin_fits t program (Wire e sent) ≡ true
+  pub wire_fits : (e : End) (sent : Option (List ℕ)) (p : PortOf) → is_placed t e.instance ≡ true → port_of t.model e.instance e.port ≡ Some p → nat_lt e.number p.size ≡ true → origin_fits t program (Wire e sent) ≡ true
   wire_fits e sent p here found below =
-      join (is_placed t program e.instance) (unwrap_or (option_map (λ (p : PortOf). nat_lt e.number p.size) (port_at t program e.instance e.port)) false)
+      join (is_placed t e.instance) (unwrap_or (option_map (λ (p : PortOf). nat_lt e.number p.size) (port_at t program e.instance e.port)) false)
       here (ap (λ (o : Option PortOf). unwrap_or (option_map (λ (p : PortOf). nat_lt e.number p.size) o) false) (port_here e.instance e.port p found) ∙ below)
 
 -- ---- special ports
@@ -233,7 +234,7 @@ module _ (t : Described) (program : Program) (sound : IsSoundFor t.model (Some t
 
   -- what is sent along a wire from a special port
   pub record SentFits (i : ℕ) (w : End × End) (note : List ℕ) : Type 0 where
-    pub placed : is_placed t program w.1.instance ≡ true
+    pub placed : is_placed t w.1.instance ≡ true
     pub point : point_fits t program w.1.instance (Port w.1.port w.1.number) (unwrap_or (option_map (λ (p : PortOf). map (λ (f : Formal). default_of t f.kind) p.formals) (slice_get (component t w.1.instance).ports w.1.port)) []) ≡ true
     pub origin : origin_fits t program (Wire w.0 (Some note)) ≡ true
 

@@ -17,7 +17,8 @@ use Rattle.fp_tables.specs.declared.program.Spot.TheVariants as spot
 use Rattle.fp_events.specs.Actor.{ActorState, Thread, Bindings, Action, act, Opened, own, arrived, taken as taken_frame, Frame, opened_actor, first_frames}
 use Rattle.fp_events.specs.Due.{first_action, through, due_in, due, due_of}
 use Rattle.fp_events.specs.Ends.{is_asserted, is_own, is_through}
-use Rattle.fp_events.specs.Fits.{actor_count, is_placed, ask_fits, what_fits, fits}
+use Rattle.fp_events.specs.Fits.{actor_count, ask_fits, what_fits, fits}
+use Rattle.fp_tables.specs.Acts.{is_placed}
 use Rattle.fp_events.specs.Follows.{follows}
 use Rattle.fp_events.specs.Lookup.{callers, actives, home}
 use Rattle.fp_events.specs.Step.{core}
@@ -84,8 +85,8 @@ module _ (t : Described) (program : Program) (sound : IsSoundFor t.model (Some t
       go : (b : Bool) → cond b None (due_of t program a x.thread.frames) ≡ Some k.asked → AllSuit t program (results_by t e.instance ks e.what) a z.thread.frames
       go true due = absurd (no_some k.asked due)
       go false due =
-          let f = both (nat_lt a (actor_count t program) && is_placed t program k.asked.0) (what_fits t program k.asked.0 e.what) k.fit in
-          let g = both (nat_lt a (actor_count t program)) (is_placed t program k.asked.0) f.0 in
+          let f = both (nat_lt a (actor_count t program) && is_placed t k.asked.0) (what_fits t program k.asked.0 e.what) k.fit in
+          let g = both (nat_lt a (actor_count t program)) (is_placed t k.asked.0) f.0 in
           subst (λ (y : Thread). AllSuit t program (results_by t e.instance ks e.what) a y.frames) (sym k.thread)
           (subst (λ (n : ℕ). AllSuit t program (results_by t n ks e.what) a (follows t program k.asked.0 x.thread e.what).frames) (sym k.instance)
           (keeps t program sound good ks a k.asked.0 x.thread k.asked.1 e.what h due k.answer g.1 f.1))
@@ -123,7 +124,7 @@ module _ (t : Described) (program : Program) (sound : IsSoundFor t.model (Some t
   actor_of_step : (a : ℕ) (x z : ActorState) (e : Entry) → Taken t program a x e z → nat_lt a (actor_count t program) ≡ true
   unfolding fits
   actor_of_step a x z e k =
-      (both (nat_lt a (actor_count t program)) (is_placed t program k.asked.0) (both (nat_lt a (actor_count t program) && is_placed t program k.asked.0) (what_fits t program k.asked.0 e.what) k.fit).0).0
+      (both (nat_lt a (actor_count t program)) (is_placed t k.asked.0) (both (nat_lt a (actor_count t program) && is_placed t k.asked.0) (what_fits t program k.asked.0 e.what) k.fit).0).0
 
   home_counted : (a i : ℕ) → home t program a ≡ Some i → nat_lt a (actor_count t program) ≡ true
   home_counted a i h = go (nat_lt a (callers program)) refl h
@@ -153,13 +154,13 @@ module _ (t : Described) (program : Program) (sound : IsSoundFor t.model (Some t
   told_counted a (e ∷ es) x d told h = actor_of_step a (record { thread = opened_actor program a; last = 0 }) told.0 e (taken t program a (record { thread = opened_actor program a; last = 0 }) told.0 e told.1.part)
 
   pub told_due : (a : ℕ) (es : List Entry) (x : ActorState) → Told (core t program) a es x → (i : ℕ) (q : Ask) → due t program a x.thread ≡ Some (i, q)
-      → (a < actor_count t program) × (is_placed t program i ≡ true) × (ask_fits t program i q ≡ true)
+      → (a < actor_count t program) × (is_placed t i ≡ true) × (ask_fits t program i q ≡ true)
   unfolding due
   told_due a es x told i q h =
       let r : nat_lt a (actor_count t program) ≡ true = told_counted a es x (i, q) told h in
       go x.thread.halted h (grind (arith, nat_tests))
     where
-      go : (b : Bool) → cond b None (due_of t program a x.thread.frames) ≡ Some (i, q) → a < actor_count t program → (a < actor_count t program) × (is_placed t program i ≡ true) × (ask_fits t program i q ≡ true)
+      go : (b : Bool) → cond b None (due_of t program a x.thread.frames) ≡ Some (i, q) → a < actor_count t program → (a < actor_count t program) × (is_placed t i ≡ true) × (ask_fits t program i q ≡ true)
       go true e r = absurd (no_some {X = ℕ × Ask} (i, q) e)
       go false e r = let f = due_fine t program sound (results_from t [] es) a x.thread.frames (i, q) (told_suits a es x told) e in (r, f.0, f.1)
 

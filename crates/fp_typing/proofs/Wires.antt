@@ -1,7 +1,7 @@
 -- What both ends of a wire of a sound topology are.
-use Rattle.std.proofs.Common.{◌≡◌, ℕ, Bool, true, false, cond, ◌&&◌, ◌||◌, ◌==◌, nat_lt, nat_le, List, [], ◌∷◌, length, find, Option, Some, None, option_map, option_and_then, unwrap_or, is_some, refl, sym, ap, ap₂, ◌∙◌, subst, slice_get, arith}
+use Rattle.std.proofs.Common.{◌≡◌, ℕ, Bool, true, false, ◌&&◌, ◌||◌, ◌==◌, nat_lt, nat_le, List, [], ◌∷◌, length, find, Option, Some, None, option_map, option_and_then, unwrap_or, is_some, refl, sym, ap, ap₂, ◌∙◌, subst, slice_get, arith}
 use Rattle.std.proofs.lemmas.Bool.Decides.{nat_tests}
-use Rattle.std.specs.List.{list_all, list_any}
+use Rattle.std.specs.List.{list_all}
 use Rattle.fp_base.proofs.Options.{then_some, mapped_some, some_of}
 use Rattle.fp_base.specs.Same.{same_option, same_list}
 use Rattle.fp_base.proofs.Sameness.{nat_same, option_same}
@@ -9,7 +9,7 @@ use Rattle.fp_base.proofs.Bools.{both}
 use Rattle.fp_tables.specs.Arguments.{kinds_of}
 use Rattle.fp_tables.specs.Components as components
 use Rattle.fp_tables.specs.Instances as instances
-use Rattle.fp_tables.specs.Lists.{if_some, some_and}
+use Rattle.fp_tables.specs.Lists.{if_some, some_and, is_in}
 use Rattle.fp_tables.specs.Lookup.{Described, component_of, placed, wire_from, same_end, is_input, is_output}
 use Rattle.fp_tables.specs.Positions.{port_of, port_lies}
 use Rattle.fp_tables.specs.Sound.{IsSoundWith, IsSoundAt, IsSoundFor, each_port}
@@ -26,22 +26,11 @@ use Rattle.fp_tables.specs.declared.topology.Topology.{Topology}
 use Rattle.fp_tables.specs.declared.topology.Wire.{Wire}
 use Rattle.fp_tables.specs.declared.model.Model.{Model}
 use Rattle.fp_tables.specs.declared.program.Program.{Program}
-use Rattle.fp_events.specs.Fits.{is_placed}
-use Rattle.fp_events.specs.Machine.{is_in}
+use Rattle.fp_tables.specs.Acts.{is_placed}
 use Rattle.fp_base.proofs.Lists.{all_get, get_below}
-use Rattle.fp_typing.proofs.Lists.{find_passes, some_and_of}
+use Rattle.fp_typing.proofs.Lists.{find_passes}
 use Rattle.fp_typing.proofs.Parts.{of_component, component_lies_at}
-
--- membership by two tests
-pub member_is_in : (i : ℕ) (xs : List ℕ) → list_any (λ k. k == i) xs ≡ true → is_in i xs ≡ true
-member_is_in i [] h = absurd (cc)
-member_is_in i (x ∷ xs) h = go (x == i) refl (i == x) refl h (λ k. member_is_in i xs k)
-  where
-    go : (b : Bool) → (x == i) ≡ b → (c : Bool) → (i == x) ≡ c → (b || list_any (λ k. k == i) xs) ≡ true → (list_any (λ k. k == i) xs ≡ true → is_in i xs ≡ true) → cond c true (is_in i xs) ≡ true
-    go true e true f h rest = refl
-    go true e false f h rest = absurd (grind (arith, nat_tests))
-    go false e true f h rest = refl
-    go false e false f h rest = rest h
+use Rattle.fp_tables.proofs.Optional.{some_and_of}
 
 pub port_sound : (m : Model) (test : PortOf → Bool) (i k : ℕ) (p : PortOf) → each_port test m ≡ true → port_of m i k ≡ Some p → test p ≡ true
 port_sound m test i k p h e =
@@ -56,8 +45,8 @@ is_general _ = false
 
 -- both ends of a wire
 pub record Joins (t : Described) (program : Program) (from to : End) : Type 0 where
-  pub from_placed : is_placed t program from.instance ≡ true
-  pub to_placed : is_placed t program to.instance ≡ true
+  pub from_placed : is_placed t from.instance ≡ true
+  pub to_placed : is_placed t to.instance ≡ true
   pub output : PortOf
   pub input : PortOf
   pub from_port : port_of t.model from.instance from.port ≡ Some output
@@ -84,8 +73,8 @@ module _ (t : Described) (program : Program) (sound : IsSoundFor t.model (Some t
           let p = some_and_of (λ (p : PortOf). is_output p.role) (port_of t.model w.from.instance w.from.port) roles.0 in
           let q = some_and_of (λ (p : PortOf). is_input p.role) (port_of t.model w.to.instance w.to.port) roles.1 in
           record {
-            from_placed = ap (λ (l : List ℕ). is_in w.from.instance l) placed_is ∙ member_is_in w.from.instance o.instances members.0;
-            to_placed = ap (λ (l : List ℕ). is_in w.to.instance l) placed_is ∙ member_is_in w.to.instance o.instances members.1;
+            from_placed = ap (λ (l : List ℕ). is_in w.from.instance l) placed_is ∙ members.0;
+            to_placed = ap (λ (l : List ℕ). is_in w.to.instance l) placed_is ∙ members.1;
             output = p.0;
             input = q.0;
             from_port = p.1;

@@ -2,7 +2,7 @@
 use Rattle.std.specs.Prelude.{◌≡◌, ℕ, Bool, true, false, cond, nat_lt, List, [], ◌∷◌, drop, Option, Some, None, option_to_list, is_some}
 use Rattle.fp_tables.specs.Specials.{special_wire}
 use Rattle.fp_base.specs.declared.value.Value.{Value}
-use Rattle.fp_tables.specs.Acts.{bound_to, binds, result_at}
+use Rattle.fp_tables.specs.Acts.{bound_to, binds, result_at, is_placed}
 use Rattle.fp_tables.specs.Arguments.{Scope}
 use Rattle.fp_tables.specs.Lookup.{Described}
 use Rattle.fp_tables.specs.Programs.{caller_act_suits, act_suits, returned_at}
@@ -16,7 +16,7 @@ use Rattle.fp_tables.specs.declared.program.Spot.{Spot}
 use Rattle.fp_events.specs.Actor.{Bindings, Action, act, send, advance, Doing, Opened, own, arrived, taken, Frame}
 use Rattle.fp_events.specs.Due.{value_of}
 use Rattle.fp_events.specs.Ends.{is_asserted}
-use Rattle.fp_events.specs.Fits.{is_placed, signal_at, signal_kinds}
+use Rattle.fp_events.specs.Fits.{signal_at, signal_kinds}
 use Rattle.fp_events.specs.Frames.{opens, ends_a_frame}
 use Rattle.fp_events.specs.Lookup.{callers}
 use Rattle.fp_events.specs.declared.event.Entry.{Entry}
@@ -138,8 +138,8 @@ module _ (t : Described) (program : Program) where
   -- a caller's own list is its last frame. Any other frame is at an instance of the topology, and if it is of an arrival, its default is what it returns
   abbrev pub Stands : List (Option Kind) → ℕ → Opened → ℕ → Option Kind → List Frame → (List (Option Kind) → Type 0) → Type 0
   Stands ks a own i result below suits = (nat_lt a (callers program) ≡ true) × (below ≡ []) × (ks ≡ [])
-  Stands ks a (arrived default name) i result below suits = (is_placed t program i ≡ true) × Returns result default × Over ks result suits
-  Stands ks a taken i result below suits = (is_placed t program i ≡ true) × Unit {0} × Over ks result suits
+  Stands ks a (arrived default name) i result below suits = (is_placed t i ≡ true) × Returns result default × Over ks result suits
+  Stands ks a taken i result below suits = (is_placed t i ≡ true) × Unit {0} × Over ks result suits
 
   -- frames that return these, but a caller's own, the innermost first, with the answer that its first list awaits
   abbrev pub FramesSuit : List (Option Kind) → ℕ → (Scope → Scope) → List Frame → Type 0

@@ -9,7 +9,8 @@ ghost use Rattle.fp_events.specs.declared.event.Entry.{Entry};
 ghost use Rattle.fp_events.specs.Actor.{ActorState};
 ghost use Rattle.fp_events.specs.Due.{due};
 ghost use Rattle.fp_events.specs.Ends.{IsAtEnd};
-ghost use Rattle.fp_events.specs.Fits.{actor_count, ask_fits, is_placed};
+ghost use Rattle.fp_events.specs.Fits.{actor_count, ask_fits};
+ghost use Rattle.fp_tables.specs.Acts.{is_placed};
 ghost use Rattle.fp_events.specs.Step.{core};
 ghost use Rattle.fp_typing.specs.Suits.{AllSuit, ends_asserted, results_from, returns_fit};
 
@@ -27,7 +28,7 @@ pub fn due_asks()
     ensures fit { (tables : Described) (program : Program) → IsSoundFor tables.model (Some tables.topology) → IsSoundProgram tables program
         → (a : ℕ) (es : List Entry) (x : ActorState) → Told (core tables program) a es x
         → (i : ℕ) (ask : Ask) → due tables program a x.thread ≡ Some (i, ask)
-        → (a < actor_count tables program) × (is_placed tables program i ≡ true) × (ask_fits tables program i ask ≡ true) }
+        → (a < actor_count tables program) × (is_placed tables i ≡ true) × (ask_fits tables program i ask ≡ true) }
     ensures none { (tables : Described) (program : Program) → IsSoundFor tables.model (Some tables.topology) → IsSoundProgram tables program
         → (a : ℕ) (es : List Entry) (x : ActorState) → a < actor_count tables program → Told (core tables program) a es x
         → (due tables program a x.thread ≡ None) ↔ ((x.thread.halted ≡ true) ⊎ IsAtEnd program a x.thread.frames) }

@@ -1,6 +1,6 @@
 ghost use Rattle.std.specs.Prelude.{◌≡◌, ◌<◌, true, is_some, IfOk};
 ghost use Rattle.fp_tables.specs.Types.{have_kinds};
-ghost use Rattle.fp_events.specs.Fits.{actor_count, is_placed, signal_kinds, point_fits, origin_fits, arrival_fits, ask_fits};
+ghost use Rattle.fp_events.specs.Fits.{actor_count, signal_kinds, point_fits, origin_fits, arrival_fits, ask_fits};
 ghost use Rattle.fp_events.specs.Manners.{input_manner, internal_manner};
 ghost use Rattle.fp_events.specs.declared.event.Ask.TheVariants as ask;
 ghost use Rattle.fp_events.specs.declared.event.Point.TheVariants as point;
@@ -13,14 +13,6 @@ use fp_events::{Arrival, Ask, Origin, Point};
 use fp_sound_types::has_kind;
 use fp_tables::{Kind, Program, Role, Tables, TypeDef};
 use std::alloc::Global;
-
-/// Whether an instance is one of the topology.
-pub fn is_placed(tables: &Tables, program: &Program, instance: u32) -> bool
-    ensures { result ≡ is_placed tables.now program.now instance }
-{
-    let _ = program;
-    places::is_among(tables.placed(), instance)
-}
 
 fn is_input(role: Role) -> bool
     ensures { result ≡ is_some (input_manner role) }
@@ -142,7 +134,7 @@ fn origin_fits(tables: &Tables, program: &Program, origin: &Origin) -> bool
     match origin {
         Origin::Caller | Origin::Own => true,
         Origin::Wire { from, .. } => {
-            is_placed(tables, program, from.instance)
+            tables.is_placed(from.instance)
                 && match places::port_at(tables, from.instance, from.port) {
                     Some(port) => from.number < port.size,
                     None => false,

@@ -1,17 +1,10 @@
-ghost use Rattle.std.specs.Prelude.{◌≡◌, ◌==◌, is_some, slice_get};
-ghost use Rattle.std.specs.List.{list_any};
+ghost use Rattle.std.specs.Prelude.{◌≡◌, is_some, slice_get};
 ghost use Rattle.std.specs.Option.{option_copied};
 ghost use Rattle.fp_tables.specs.Specials.{component};
 ghost use Rattle.fp_events.specs.Fits.{signal_at};
 ghost use Rattle.fp_events.specs.Lookup.{machine};
 
 use fp_tables::{Channel, Command, Event, Machine, Named, Port, Program, Running, Tables};
-
-pub fn is_among(instances: &[u32], instance: u32) -> bool
-    ensures { result ≡ list_any (λ each. instance == each) instances.now }
-{
-    instances.iter().any(|each| instance == *each)
-}
 
 pub fn port_at(tables: &Tables, instance: u32, port: u32) -> Option<&Port>
     ensures { option_copied result ≡ slice_get (component tables.now instance).ports port }
