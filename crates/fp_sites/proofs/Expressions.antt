@@ -15,11 +15,11 @@ use Rattle.fp_tree.specs.declared.expression.Form.TheVariants as form
 use Rattle.fp_tree.specs.declared.expression.Operator.{Operator}
 use Rattle.fp_grammar.specs.Grammar.{Grammar, Language}
 use Rattle.fp_meaning.specs.declared.names.Mention.{Mention}
-use Rattle.fp_meaning.specs.Names.{Path, in_form, in_expression, in_assignment, in_optional}
+use Rattle.fp_meaning.specs.Names.{Path, in_form, in_expression, in_assignment}
 use Rattle.fp_parse_defs.specs.declared.measured.Measured.{Measured}
 use Rattle.fp_parse_defs.specs.declared.measured.Setting.{Setting}
 use Rattle.fp_parse_defs.specs.declared.measured.Items.{Items}
-use Rattle.fp_parse_defs.specs.declared.measured.Members.{Assignments}
+use Rattle.fp_parse_defs.specs.declared.measured.Assignments.{Assignments}
 use Rattle.fp_parse_defs.specs.Kinds.{k_open, k_close, k_open_bracket, k_close_bracket, k_open_brace, k_close_brace, k_dot, k_times, k_over, k_plus, k_minus, k_equals}
 use Rattle.fp_parse_defs.specs.Words.{bare, leaf, literal, literal_form, named}
 use Rattle.fp_parse_defs.specs.Lists.{joined, commas}
@@ -54,21 +54,13 @@ module _ (G : Place → Type 0) (N : Name → Type 0) where
   same_names xs ys e h = subst (Each N) (sym e) h
 
   -- what stands in each of a list stands in the whole
-  pub flat_uses : {A : Type 0} (found : Path → A → List Mention) (written : A → List Name) (xs : List A) → Each (Holds found written) xs → (scope : Path) → Stand (flat_map (found scope) xs)
+  flat_uses : {A : Type 0} (found : Path → A → List Mention) (written : A → List Name) (xs : List A) → Each (Holds found written) xs → (scope : Path) → Stand (flat_map (found scope) xs)
   flat_uses found written xs hs scope =
       each_flat (λ (m : Mention). G m.place) (found scope) xs (each_weaker (Holds found written) (λ x. Stand (found scope x)) (λ x h. h.uses scope) xs hs)
 
-  pub flat_names : {A : Type 0} (found : Path → A → List Mention) (written : A → List Name) (xs : List A) → Each (Holds found written) xs → Each N (flat_map written xs)
+  flat_names : {A : Type 0} (found : Path → A → List Mention) (written : A → List Name) (xs : List A) → Each (Holds found written) xs → Each N (flat_map written xs)
   flat_names found written xs hs =
       each_flat N written xs (each_weaker (Holds found written) (λ x. Each N (written x)) (λ x h. h.names) xs hs)
-
-  pub optional_uses : {A : Type 0} (found : Path → A → List Mention) (written : A → List Name) (o : Option A) → InOption (Holds found written) o → (scope : Path) → Stand (in_optional (found scope) o)
-  optional_uses found written None h scope = tt
-  optional_uses found written (Some x) h scope = h.uses scope
-
-  pub optional_names : {A : Type 0} (found : Path → A → List Mention) (written : A → List Name) (o : Option A) → InOption (Holds found written) o → Each N (in_optional written o)
-  optional_names found written None h = tt
-  optional_names found written (Some x) h = h.names
 
   -- what stands in its form stands in an expression
   of_form : (e : Expr) → StandInForm e.form → StandIn e
@@ -115,11 +107,11 @@ module _ (G : Place → Type 0) (N : Name → Type 0) where
 
   term_yields : (depth : ℕ) (l : Level) → LevelStands l → Yields G N (term_of depth l) (λ m. StandIn m.expr)
   term_yields depth l h = gives_seal {a = term_body depth l} begins (k_dot ∷ k_times ∷ k_over ∷ [])
-      (gives_chain (lower depth) combined (λ x p m n. combined_stands x p m n.1) (factor_yields l.nested h.nested) (gives_seq gives_anything (gives_ref _ h.factor)))
+      (gives_chain (lower depth) combined (λ x p may m n. combined_stands x p m n.1) (factor_yields l.nested h.nested) (gives_seq gives_anything (gives_ref _ h.factor)))
 
   expr_yields : (depth : ℕ) (l : Level) → LevelStands l → Yields G N (expr_of depth l) (λ m. StandIn m.expr)
   expr_yields depth l h = gives_seal {a = expr_body depth l} begins (k_dot ∷ k_times ∷ k_over ∷ k_plus ∷ k_minus ∷ [])
-      (gives_chain (lower depth) combined (λ x p m n. combined_stands x p m n.1) (term_yields depth l h) (gives_seq gives_anything (gives_ref _ h.term)))
+      (gives_chain (lower depth) combined (λ x p may m n. combined_stands x p m n.1) (term_yields depth l h) (gives_seq gives_anything (gives_ref _ h.term)))
 
   minus_stands : (p : Span × Measured) → StandIn p.1.expr → StandIn (made_minus p).expr
   minus_stands p h = of_form (made_minus p).expr (record { uses = λ scope. same_stand _ _ (minus_uses scope p.1.expr) (h.uses scope); names = same_names _ _ (minus_names p.1.expr) h.names })

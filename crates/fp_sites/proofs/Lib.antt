@@ -3,7 +3,9 @@ mod Walks
 mod Lists
 mod Words
 mod Expressions
+mod Depths
 mod Definitions
 mod Members
 mod Standing
 mod Writing
+mod Nesting

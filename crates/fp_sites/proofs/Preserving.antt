@@ -1,9 +1,10 @@
 -- What holds of every node that a grammar spells by tokens of which something holds: from the parts of a grammar to the whole.
-use Rattle.std.proofs.Common.{◌≡◌, ℕ, Bool, List, [], ◌∷◌, ◌++◌, Option, Some, None, inl, inr, subst, sym}
+use Rattle.std.proofs.Common.{◌≡◌, ℕ, Bool, true, List, [], ◌∷◌, ◌++◌, Option, Some, None, inl, inr, subst, sym}
 use Rattle.std.specs.List.{AllByRecursion as Each}
-use Rattle.fp_grammar.specs.Grammar.{Grammar, Language, Nonterminal, Spells, SpellsMany, SpellsAlternating, built, after, before}
+use Rattle.fp_grammar.specs.Grammar.{Grammar, Language, Nonterminal, Spells, SpellsMany, SpellsAlternating, built, allowed, after, before}
 use Rattle.fp_grammar.specs.Grammar.Grammar.{token, seq, map, alt, optional, alternating, chain, ref}
 use Rattle.fp_grammar.specs.Seal.{seal}
+use Rattle.fp_base.proofs.Bools.{both}
 use Rattle.fp_base.proofs.Lists.{InOption, each_before, each_behind}
 
 -- each node has Q that a language gives to tokens that all have P
@@ -14,10 +15,12 @@ LanguageGives {T = T} {X = X} P language Q = (w : List T) (x : X) → language w
 pub record Gives {T X : Type 0} (kind : T → ℕ) (P : T → Type 0) (g : Grammar T X) (Q : X → Type 0) : Type 0 where
   pub given : LanguageGives P (Spells kind g) Q
 
-built_given : {X Y : Type 0} (Q : X → Type 0) (R : Y → Type 0) (build : X → Y → X) → ((x : X) (y : Y) → Q x → R y → Q (build x y))
-    → (x : X) (ys : List Y) → Q x → Each R ys → Q (built build x ys)
-built_given Q R build step x [] h hs = h
-built_given Q R build step x (y ∷ ys) h hs = built_given Q R build step (build x y) ys (step x y h hs.0) hs.1
+built_given : {X Y : Type 0} (Q : X → Type 0) (R : Y → Type 0) (allows : X → Bool) (build : X → Y → X) → ((x : X) (y : Y) → allows x ≡ true → Q x → R y → Q (build x y))
+    → (x : X) (ys : List Y) → allowed allows build x ys ≡ true → Q x → Each R ys → Q (built build x ys)
+built_given Q R allows build step x [] may h hs = h
+built_given Q R allows build step x (y ∷ ys) may h hs =
+    let each = both (allows x) (allowed allows build (build x y) ys) may in
+    built_given Q R allows build step (build x y) ys each.1 (step x y each.0 h hs.0) hs.1
 
 module _ {T : Type 0} (P : T → Type 0) where
   one_alone : (w : List T) (t : T) → w ≡ t ∷ [] → Each P w → P t
@@ -75,12 +78,12 @@ module _ {T : Type 0} {kind : T → ℕ} {P : T → Type 0} where
   gives_turns {a = a} {b = b} {Q = Q} p q = record { given = turns_given P (Spells kind a) (Spells kind b) Q p.given q.given }
 
   pub gives_chain : {X Y : Type 0} {a : Grammar T X} {b : Grammar T Y} {Q : X → Type 0} {R : Y → Type 0} (allows : X → Bool) (build : X → Y → X)
-      → ((x : X) (y : Y) → Q x → R y → Q (build x y)) → Gives kind P a Q → Gives kind P b R → Gives kind P (chain a b allows build) Q
+      → ((x : X) (y : Y) → allows x ≡ true → Q x → R y → Q (build x y)) → Gives kind P a Q → Gives kind P b R → Gives kind P (chain a b allows build) Q
   gives_chain {b = b} {Q = Q} {R = R} allows build step p q = record {
     given = λ w x s h.
         let t = s.3 in
         let c = cut P w t.0 t.1 t.2 h in
-        subst Q (sym s.1) (built_given Q R build step s.0.0 s.0.1 (p.given t.0 s.0.0 t.3 c.0) (many_given P (Spells kind b) R q.given t.1 s.0.1 t.4 c.1));
+        subst Q (sym s.1) (built_given Q R allows build step s.0.0 s.0.1 s.2 (p.given t.0 s.0.0 t.3 c.0) (many_given P (Spells kind b) R q.given t.1 s.0.1 t.4 c.1));
   }
 
   -- a nonterminal gives what its language does, and a sealed production what stands under the seal

@@ -1,5 +1,5 @@
--- The uses and the names in an expression by its outermost production, and what a member gives by its form.
-use Rattle.std.proofs.Common.{◌≡◌, ℤ, ℕ, Bool, List, [], ◌∷◌, ◌++◌, map, flat_map, sym, ap, ◌∙◌}
+-- The uses and the names in an expression by its outermost production, how deep it nests, and what a member gives by its form.
+use Rattle.std.proofs.Common.{◌≡◌, ℤ, ℕ, ◌+◌, max, Bool, List, [], ◌∷◌, ◌++◌, map, flat_map, sym, ap, ◌∙◌}
 use Rattle.std.proofs.lemmas.List.Folds.{flat_map-map}
 use Rattle.fp_tree.specs.declared.definition.Def.{Def}
 use Rattle.fp_tree.specs.declared.name.Name.{Name}
@@ -19,6 +19,9 @@ use Rattle.fp_tree.specs.declared.member.Member.TheVariants as node
 use Rattle.fp_meaning.specs.declared.group.Group.TheVariants as group
 use Rattle.fp_meaning.specs.declared.names.Mention.{Mention}
 use Rattle.fp_meaning.specs.Names.{Path, member_step, module_step, in_member, in_members, mentioned, form_step, assignment_step, expression_step, in_form, in_expression, in_assignment}
+use Rattle.fp_meaning.specs.Values.{deepest}
+use Rattle.fp_sites.specs.Depths.{depth_of_form, depth_of_assignment, depth_of_expression, depth_of, depth_in_form, depth_in_assignment, modules_of_member, modules_of_module, modules_within, modules_in}
+use Rattle.fp_sites.specs.Expressions.{expressions_in_definition, expressions_of_member, expressions_of_module, expressions_within, expressions_in}
 use Rattle.fp_sites.specs.Names.{names_of_form, names_of_assignment, names_of_expression, names_in_expression, names_in_form, names_in_assignment, names_in_definition, names_of_member, names_of_module, names_within, names_in}
 use Rattle.fp_sites.specs.Includes.{includes_of_member, includes_of_module, includes_within, includes_in}
 
@@ -128,6 +131,43 @@ array_names items = array_walk names_of_form names_of_assignment names_of_expres
 pub struct_names : (members : List Assignment) → names_in_form (Struct members) ≡ flat_map names_in_assignment members
 struct_names members = struct_walk names_of_form names_of_assignment names_of_expression members ∙ flat_map-map (λ (names : List Name). names) names_in_assignment members
 
+-- how deep an expression nests
+pub whole_depth : (e : Expr) → depth_of e ≡ depth_in_form e.form
+whole_depth e = fold_out-Expr ℕ ℕ ℕ depth_of_form depth_of_assignment depth_of_expression e
+
+pub assigned_depth : (a : Assignment) → depth_in_assignment a ≡ depth_of a.value
+assigned_depth a = fold_out-Assignment ℕ ℕ ℕ depth_of_form depth_of_assignment depth_of_expression a
+
+pub number_depth : (n : ℤ) → depth_in_form (Number n) ≡ 0
+number_depth n = number_walk depth_of_form depth_of_assignment depth_of_expression n
+
+pub float_depth : depth_in_form Float ≡ 0
+float_depth = float_walk depth_of_form depth_of_assignment depth_of_expression
+
+pub text_depth : (t : List ℕ) → depth_in_form (Text t) ≡ 0
+text_depth t = text_walk depth_of_form depth_of_assignment depth_of_expression t
+
+pub truth_depth : (b : Bool) → depth_in_form (Truth b) ≡ 0
+truth_depth b = truth_walk depth_of_form depth_of_assignment depth_of_expression b
+
+pub use_depth : (q : Qual) → depth_in_form (Use q) ≡ 0
+use_depth q = use_walk depth_of_form depth_of_assignment depth_of_expression q
+
+pub minus_depth : (a : Expr) → depth_in_form (Minus a) ≡ depth_of a + 1
+minus_depth a = minus_walk depth_of_form depth_of_assignment depth_of_expression a
+
+pub parentheses_depth : (a : Expr) → depth_in_form (Parentheses a) ≡ depth_of a + 1
+parentheses_depth a = parentheses_walk depth_of_form depth_of_assignment depth_of_expression a
+
+pub binary_depth : (operator : Operator) (a b : Expr) → depth_in_form (Binary operator a b) ≡ max (depth_of a) (depth_of b) + 1
+binary_depth operator a b = binary_walk depth_of_form depth_of_assignment depth_of_expression operator a b
+
+pub array_depth : (items : List Expr) → depth_in_form (Array items) ≡ deepest (map depth_of items) + 1
+array_depth items = array_walk depth_of_form depth_of_assignment depth_of_expression items
+
+pub struct_depth : (members : List Assignment) → depth_in_form (Struct members) ≡ deepest (map depth_in_assignment members) + 1
+struct_depth members = struct_walk depth_of_form depth_of_assignment depth_of_expression members
+
 -- what stands in a member, in a scope
 module _ {A : Type 0} (given : Path → Def → List A) (scope : Path) where
   pub in_module : (m : Opened) → in_member given scope (node.Module m) ≡ in_members given (scope ++ (out-Module m).name.text ∷ []) (out-Module m).members
@@ -192,3 +232,36 @@ include_names i = ap names_within (sym (node.rolls-Include i)) ∙ fold-roll-Mem
 
 pub locate_names : (l : Located) → names_within (node.Locate l) ≡ l.of.names
 locate_names l = ap names_within (sym (node.rolls-Locate l)) ∙ fold-roll-Member (List Name) (List Name) names_of_member names_of_module (member.Locate l)
+
+-- the expressions in a member
+pub module_expressions : (m : Opened) → expressions_within (node.Module m) ≡ expressions_in (out-Module m).members
+module_expressions m =
+    ap expressions_within (sym (node.rolls-Module m))
+    ∙ fold-roll-Member (List Expr) (List Expr) expressions_of_member expressions_of_module (member.Module m)
+    ∙ fold_out-Module (List Expr) (List Expr) expressions_of_member expressions_of_module m
+    ∙ flat_map-map (λ (es : List Expr). es) expressions_within (out-Module m).members
+
+pub definition_expressions : (d : Def) → expressions_within (node.Def d) ≡ expressions_in_definition d
+definition_expressions d = ap expressions_within (sym (node.rolls-Def d)) ∙ fold-roll-Member (List Expr) (List Expr) expressions_of_member expressions_of_module (member.Def d)
+
+pub include_expressions : (i : Included) → expressions_within (node.Include i) ≡ []
+include_expressions i = ap expressions_within (sym (node.rolls-Include i)) ∙ fold-roll-Member (List Expr) (List Expr) expressions_of_member expressions_of_module (member.Include i)
+
+pub locate_expressions : (l : Located) → expressions_within (node.Locate l) ≡ []
+locate_expressions l = ap expressions_within (sym (node.rolls-Locate l)) ∙ fold-roll-Member (List Expr) (List Expr) expressions_of_member expressions_of_module (member.Locate l)
+
+-- how deep modules nest in a member
+pub module_depth : (m : Opened) → modules_within (node.Module m) ≡ modules_in (out-Module m).members + 1
+module_depth m =
+    ap modules_within (sym (node.rolls-Module m))
+    ∙ fold-roll-Member ℕ ℕ modules_of_member modules_of_module (member.Module m)
+    ∙ fold_out-Module ℕ ℕ modules_of_member modules_of_module m
+
+pub definition_depth : (d : Def) → modules_within (node.Def d) ≡ 0
+definition_depth d = ap modules_within (sym (node.rolls-Def d)) ∙ fold-roll-Member ℕ ℕ modules_of_member modules_of_module (member.Def d)
+
+pub include_depth : (i : Included) → modules_within (node.Include i) ≡ 0
+include_depth i = ap modules_within (sym (node.rolls-Include i)) ∙ fold-roll-Member ℕ ℕ modules_of_member modules_of_module (member.Include i)
+
+pub locate_depth : (l : Located) → modules_within (node.Locate l) ≡ 0
+locate_depth l = ap modules_within (sym (node.rolls-Locate l)) ∙ fold-roll-Member ℕ ℕ modules_of_member modules_of_module (member.Locate l)

@@ -60,4 +60,4 @@ module _ (G : Place → Type 0) (N : Name → Type 0) where
   longer_found q n h k = record { begins = h.begins; named = each_push N q.names n h.named k.named }
 
   pub qual_yields : Yields qual SitedQual
-  qual_yields = gives_chain (λ _. true) longer longer_found (gives_map SitedQual one_name one_found name_yields) (gives_after k_dot name_yields)
+  qual_yields = gives_chain (λ _. true) longer (λ q n may. longer_found q n) (gives_map SitedQual one_name one_found name_yields) (gives_after k_dot name_yields)

@@ -67,4 +67,4 @@ written file text tokens ms (ps, c, e) spelled name there =
     let has = subst (Each (HasName file text)) (sym e) (kept_each (HasName file text) ignored _ (all_written file text 0 (length text) ps c)) in
     let told = each_weaker (HasName file text) (IsTold Anywhere (IsWritten file text)) (λ t h. record { begins = tt; named = h }) tokens has in
     let all = (all_yield Anywhere (IsWritten file text) limit limit).given tokens ms spelled told in
-    of_contained (IsWritten file text) _ name (names_of_all Anywhere (IsWritten file text) ms all) there
+    of_contained (IsWritten file text) _ name (names_of_all Anywhere (IsWritten file text) limit limit ms all) there

@@ -1,4 +1,7 @@
+pub mod Depths
+pub mod Expressions
 pub mod Includes
 pub mod Names
+pub mod Nesting
 pub mod Sites
 pub mod Written

@@ -5,6 +5,7 @@ ghost use Rattle.fp_tree.specs.declared.member.Member.{Member};
 ghost use Rattle.fp_parse_parts.specs.Units.{SpellsUnit};
 ghost use Rattle.fp_sites.specs.Sites.{StandAtTokens};
 ghost use Rattle.fp_sites.specs.Written.{NamesAreWritten};
+ghost use Rattle.fp_sites.specs.Nesting.{KeepsLimit};
 
 /// Where the tokens of a file spell members, each definition, use and include in these stands where one of the tokens begins.
 pub fn stand_at_tokens()
@@ -15,4 +16,9 @@ pub fn stand_at_tokens()
 /// word, or stands behind a `$`.
 pub fn names_are_written()
     ensures { (file : ℕ) (text : List ℕ) (tokens : List Token) (ms : List Member) → Lexed file text tokens → SpellsUnit tokens ms → NamesAreWritten file text ms }
+{}
+
+/// Where the tokens of a file spell members, no expression in these nests deeper than is allowed, nor do modules.
+pub fn nesting_is_limited()
+    ensures { (tokens : List Token) (ms : List Member) → SpellsUnit tokens ms → KeepsLimit ms }
 {}

@@ -1,6 +1,7 @@
-//! Where definitions, uses and includes stand, each where a token of its file begins; and that each name in a tree is a name that its text has.
+//! Where definitions, uses and includes stand, each where a token of its file begins; that each name in a tree is a name that its text has;
+//! and how deep expressions and modules nest.
 #![tactic(auto)]
 
 mod laws;
 
-pub use laws::{names_are_written, stand_at_tokens};
+pub use laws::{names_are_written, nesting_is_limited, stand_at_tokens};
