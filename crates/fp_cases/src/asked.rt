@@ -1,6 +1,7 @@
 use crate::cases::Case;
 use crate::conversion::becomes;
 use crate::grammar::{View, definition, expression};
+use crate::scenarios::of_scenario;
 use crate::serving::{code, left, written};
 use crate::sources::{
     broken_constants, broken_names, copy, count, definitions, evaluated, examined, found, meanings,
@@ -20,6 +21,7 @@ pub fn is_given(label: &str) -> bool {
     let named = match label {
         "source" | "second file" | "from" | "scope" | "use" => true,
         "value" | "type" => true,
+        "item" | "times" => true,
         "words" | "files" | "failing read" | "failing out" | "failing diag" => true,
         _ => false,
     };
@@ -93,6 +95,9 @@ pub fn answer<R: Threads + Wait + Sync + Files>(
     }
     if let Some(answer) = of_constants(alloc, case, question) {
         return told(alloc, answer);
+    }
+    if let Some(answer) = of_scenario(alloc, case, question) {
+        return answer;
     }
     of_call(rt, alloc, case, question)
 }
