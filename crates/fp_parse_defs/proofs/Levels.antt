@@ -12,11 +12,11 @@ use Rattle.fp_grammar.proofs.Sealed.{sealed_good}
 use Rattle.fp_grammar.proofs.Nesting.{closed_good, nested_good, closed_refuses, open_accepts, open_refuses}
 use Rattle.fp_grammar.proofs.Answering.{handing}
 use Rattle.fp_parse_defs.specs.declared.measured.Measured.{Measured}
-use Rattle.fp_parse_defs.specs.Kinds.{kind, k_dot, k_times, k_over, k_plus, k_minus}
+use Rattle.fp_parse_pieces.specs.Kinds.{kind, k_dot, k_times, k_over, k_plus, k_minus}
 use Rattle.fp_parse_defs.specs.Words.{nesting, plus_minus, times_over}
-use Rattle.fp_parse_defs.specs.Lists.{noted}
+use Rattle.fp_parse_pieces.specs.Lists.{noted}
 use Rattle.fp_parse_defs.specs.Language.{begins, is_left, Level, level, factor_body, factor_of, operand_of, term_body, term_of, expr_body, expr_of, nested, factor, term, expr, inside, negated, group, array, structure, items, setting, some_members}
-use Rattle.fp_parse_defs.proofs.WordsFit.{each_kind}
+use Rattle.fp_parse_pieces.proofs.WordsFit.{each_kind}
 
 left_some : (depth : ℕ) → 0 < depth → is_left depth ≡ true
 left_some zero p = absurd (omega (arith, p))

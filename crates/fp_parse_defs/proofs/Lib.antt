@@ -1,4 +1,3 @@
-pub mod WordsFit
 mod Levels
 pub mod DefinitionsFit
 mod Parts

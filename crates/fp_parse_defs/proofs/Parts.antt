@@ -9,10 +9,10 @@ use Rattle.fp_grammar.specs.Promises.{Fits}
 use Rattle.fp_grammar.specs.Parses.{Accepts, Refuses, NextAmong}
 use Rattle.fp_grammar.proofs.Walk.{Absent, begin, next, done, stop}
 use Rattle.fp_grammar.proofs.Steps.{one_of_accepts, map_accepts, map_refuses}
-use Rattle.fp_parse_defs.specs.Kinds.{kind}
-use Rattle.fp_parse_defs.specs.Lists.{after_lines, separated_by, commas}
-use Rattle.fp_parse_defs.specs.Lists.ListPiece.{separator}
-use Rattle.fp_parse_defs.proofs.WordsFit.{each_kind}
+use Rattle.fp_parse_pieces.specs.Kinds.{kind}
+use Rattle.fp_parse_pieces.specs.Lists.{after_lines, separated_by, commas}
+use Rattle.fp_parse_pieces.specs.Lists.ListPiece.{separator}
+use Rattle.fp_parse_pieces.proofs.WordsFit.{each_kind}
 
 -- where the first of two is absent, both are
 pub absent_seq : {A B : Type 0} {a : Grammar Token A} {b : Grammar Token B} {tokens : List Token} {mid : ℕ} → Absent kind a tokens mid → Absent kind (seq a b) tokens mid

@@ -8,43 +8,29 @@ use Rattle.fp_lexer.specs.declared.token.Token.{Token}
 use Rattle.fp_grammar.specs.declared.halt.Halt.TheVariants.{Unexpected}
 use Rattle.fp_grammar.specs.Grammar.{Grammar, Spells}
 use Rattle.fp_grammar.specs.Longest.{IsLongestViable}
-use Rattle.fp_grammar.specs.Promises.{Fits}
 use Rattle.fp_grammar.specs.Parses.{Accepts, Refuses}
+use Rattle.fp_grammar.specs.Throughout.{FitsThroughout}
+use Rattle.fp_grammar.proofs.Throughout.{fits_whole}
 use Rattle.fp_grammar.proofs.Lists.{Cuts, cuts_of}
 use Rattle.fp_grammar.proofs.Lists.Cuts.{same, longer, shorter}
-use Rattle.fp_grammar.proofs.Steps.{map_accepts, map_refuses}
 use Rattle.fp_grammar.proofs.LongestLemmas.{answers_longest}
-use Rattle.fp_parse_defs.specs.declared.measured.Measured.{Measured}
-use Rattle.fp_parse_defs.specs.Kinds.{kind}
-use Rattle.fp_parse_defs.specs.Language.{expr, expression}
-use Rattle.fp_tree.specs.declared.definition.Def.{Def}
-use Rattle.fp_parse_defs.specs.Definitions.{definition}
-use Rattle.fp_parse_defs.proofs.DefinitionsFit.{definition_fits}
+use Rattle.fp_parse_pieces.specs.Kinds.{kind}
+use Rattle.fp_parse_defs.specs.Language.{expression}
 use Rattle.fp_parse_defs.specs.Reading.{limit, unexpected, Deeper, BeginsAt, NodeOf, Reads, AnswersNode}
-use Rattle.fp_parse_defs.proofs.WordsFit.{each_kind}
+use Rattle.fp_parse_pieces.proofs.WordsFit.{each_kind}
 use Rattle.fp_parse_defs.proofs.Levels.{kept}
 
-pub expression_fits : (depth : ℕ) → Fits kind (expression depth)
-expression_fits depth = let e = (kept depth).exprs in record { predictive = refl; some = refl; refs = assumption (each_kind, e) }
+pub expression_fits : (depth : ℕ) → FitsThroughout kind (expression depth)
+expression_fits depth = let e = (kept depth).exprs in record { predictive = refl; each = refl; refs = assumption (each_kind, e) }
 
-pub read_some : (depth : ℕ) (tokens : List Token) (from : ℕ) (m : Measured) (to : ℕ) → Accepts kind (expr depth) tokens from m to → Reads (expression depth) tokens from (Some m.expr) to
-read_some depth tokens from m to p =
-    let a = answers_longest (expression depth) tokens from (Ok (m.expr, to)) (expression_fits depth) (map_accepts p) in
+pub read_some : {X : Type 0} {g : Grammar Token X} {tokens : List Token} {from to : ℕ} {x : X} → FitsThroughout kind g → Accepts kind g tokens from x to → Reads g tokens from (Some x) to
+read_some {g = g} {tokens = tokens} {from = from} {to = to} {x = x} fits p =
+    let a = answers_longest g tokens from (Ok (x, to)) (fits_whole fits) p in
     (a.0, a.1, a.3, a.2)
 
-pub read_none : (depth : ℕ) (tokens : List Token) (from to : ℕ) → Refuses kind (expr depth) tokens from to → Reads (expression depth) tokens from None to
-read_none depth tokens from to p =
-    let a = answers_longest (expression depth) tokens from (Err (Unexpected to)) (expression_fits depth) (map_refuses p) in
-    (a.0, a.1, a.3, a.2)
-
-pub read_definition : (depth : ℕ) (tokens : List Token) (from : ℕ) (x : Def) (to : ℕ) → Accepts kind (definition depth) tokens from x to → Reads (definition depth) tokens from (Some x) to
-read_definition depth tokens from x to p =
-    let a = answers_longest (definition depth) tokens from (Ok (x, to)) (definition_fits depth) p in
-    (a.0, a.1, a.3, a.2)
-
-pub no_definition : (depth : ℕ) (tokens : List Token) (from to : ℕ) → Refuses kind (definition depth) tokens from to → Reads (definition depth) tokens from None to
-no_definition depth tokens from to p =
-    let a = answers_longest (definition depth) tokens from (Err (Unexpected to)) (definition_fits depth) p in
+pub read_none : {X : Type 0} {g : Grammar Token X} {tokens : List Token} {from to : ℕ} → FitsThroughout kind g → Refuses kind g tokens from to → Reads g tokens from None to
+read_none {g = g} {tokens = tokens} {from = from} {to = to} fits p =
+    let a = answers_longest g tokens from (Err (Unexpected to)) (fits_whole fits) p in
     (a.0, a.1, a.3, a.2)
 
 module _ {X : Type 0} (g : ℕ → Grammar Token X) where

@@ -1,6 +1,6 @@
 -- The grammar of definitions. FPP Language Specification, "Definitions", "Type Names" and "Formal Parameter Lists". This profile: no
 -- annotation but at elements of lists; `type` begins an abstract type or an alias, which what follows the name tells apart.
-use Rattle.std.specs.Prelude.{ℕ, Bool, true, false, ◌==◌, cond, Option, Some, None, List, [], ◌∷◌, ◌++◌}
+use Rattle.std.specs.Prelude.{ℕ, Bool, true, false, ◌==◌, cond, Option, Some, None, List, [], ◌∷◌}
 use Rattle.fp_base.specs.declared.place.Span.{Span}
 use Rattle.fp_lexer.specs.Words.{reserved, mark}
 use Rattle.fp_lexer.specs.declared.token.Word.{Word}
@@ -19,11 +19,11 @@ use Rattle.fp_tree.specs.declared.part.Formal.{Formal}
 use Rattle.fp_tree.specs.declared.definition.Def.{Def}
 use Rattle.fp_tree.specs.declared.definition.Def.TheVariants as def
 use Rattle.fp_grammar.specs.Grammar.{Grammar, after, before}
-use Rattle.fp_grammar.specs.Grammar.Grammar.{token, one_of, seq, map, alt, optional}
+use Rattle.fp_grammar.specs.Grammar.Grammar.{one_of, seq, map, alt, optional}
 use Rattle.fp_grammar.specs.Seal.{seal}
-use Rattle.fp_parse_defs.specs.Kinds.{kind, k_mark, k_reserved, k_name, k_string, k_open, k_close, k_open_bracket, k_close_bracket, k_open_brace, k_close_brace, k_dot, k_times, k_over, k_plus, k_minus, k_equals}
-use Rattle.fp_parse_defs.specs.Words.{between, at, name, qual}
-use Rattle.fp_parse_defs.specs.Lists.{joined, some_of, commas}
+use Rattle.fp_parse_pieces.specs.Kinds.{kind, k_mark, k_reserved, k_name, k_open, k_close, k_open_bracket, k_close_bracket, k_open_brace, k_close_brace, k_dot, k_times, k_over, k_plus, k_minus, k_equals}
+use Rattle.fp_parse_pieces.specs.Words.{between, at, name, qual, literal_string}
+use Rattle.fp_parse_pieces.specs.Lists.{some_of, commas, with_noted, or_none}
 use Rattle.fp_parse_defs.specs.Language.{expression}
 
 -- the marks -> and :
@@ -96,14 +96,6 @@ signed_or_other = alt signed other
 
 abbrev pub plain : Grammar Token TypeName
 plain = alt unsigned signed_or_other
-
-abbrev pub string_text : Word → List ℕ
-string_text (word.Str text) = text
-string_text _ = []
-
--- Str
-abbrev pub literal_string : Grammar Token Str
-literal_string = map (λ t. record { text = string_text t.what; at = t.at }) (token k_string)
 
 -- where what may follow ends
 abbrev pub expr_or : Span → Option Expr → Span
@@ -210,12 +202,12 @@ made_field (name, (size, (of, format))) = record { name = name; size = size; of 
 abbrev pub field : ℕ → Grammar Token Field
 field depth = map made_field (seq name (after k_colon (seq (size_part depth) (seq (type_name depth) format_part))))
 
-abbrev pub with_field : List Field → Field → List (List ℕ) → List Field
-with_field fields f lines = fields ++ (record { name = f.name; size = f.size; of = f.of; format = f.format; at = f.at; note = joined lines }) ∷ []
+-- an annotation of its own
+abbrev pub field_with_note : Field → List ℕ → Field
+field_with_note f note = record { name = f.name; size = f.size; of = f.of; format = f.format; at = f.at; note = note }
 
-abbrev pub or_none : {X : Type 0} → Option (List X) → List X
-or_none None = []
-or_none (Some xs) = xs
+abbrev pub with_field : List Field → Field → List (List ℕ) → List Field
+with_field = with_noted field_with_note
 
 -- Field+,
 abbrev pub some_fields : ℕ → Grammar Token (List Field)
@@ -239,8 +231,12 @@ made_enum_const (name, value) = record { name = name; value = value; at = betwee
 abbrev pub enum_const : ℕ → Grammar Token EnumConst
 enum_const depth = map made_enum_const (seq name (value_part depth))
 
+-- an annotation of its own
+abbrev pub enum_const_with_note : EnumConst → List ℕ → EnumConst
+enum_const_with_note c note = record { name = c.name; value = c.value; at = c.at; note = note }
+
 abbrev pub with_enum_const : List EnumConst → EnumConst → List (List ℕ) → List EnumConst
-with_enum_const cs c lines = cs ++ (record { name = c.name; value = c.value; at = c.at; note = joined lines }) ∷ []
+with_enum_const = with_noted enum_const_with_note
 
 -- EnumConst+,
 abbrev pub enum_consts : ℕ → Grammar Token (List EnumConst)
@@ -269,8 +265,12 @@ ref_part = optional (at k_ref)
 abbrev pub formal : ℕ → Grammar Token Formal
 formal depth = map made_formal (seq ref_part (seq name (after k_colon (type_name depth))))
 
+-- an annotation of its own
+abbrev pub formal_with_note : Formal → List ℕ → Formal
+formal_with_note f note = record { by_ref = f.by_ref; name = f.name; of = f.of; at = f.at; note = note }
+
 abbrev pub with_formal : List Formal → Formal → List (List ℕ) → List Formal
-with_formal formals f lines = formals ++ (record { by_ref = f.by_ref; name = f.name; of = f.of; at = f.at; note = joined lines }) ∷ []
+with_formal = with_noted formal_with_note
 
 -- Formal+,
 abbrev pub some_formals : ℕ → Grammar Token (List Formal)

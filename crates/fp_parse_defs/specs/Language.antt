@@ -14,9 +14,10 @@ use Rattle.fp_parse_defs.specs.declared.measured.Assignments.{Assignments}
 use Rattle.fp_grammar.specs.Grammar.{Grammar, Language, Spells}
 use Rattle.fp_grammar.specs.Grammar.Grammar.{seq, map, alt, optional, chain, ref}
 use Rattle.fp_grammar.specs.Seal.{seal}
-use Rattle.fp_parse_defs.specs.Kinds.{kind, k_name, k_number, k_float, k_string, k_true, k_false, k_open, k_close, k_open_bracket, k_close_bracket, k_open_brace, k_close_brace, k_times, k_over, k_plus, k_minus, k_dot, k_equals}
-use Rattle.fp_parse_defs.specs.Words.{between, bare, at, name, literal, named, plus_minus, times_over, nesting}
-use Rattle.fp_parse_defs.specs.Lists.{joined, some_of, commas}
+use Rattle.fp_parse_pieces.specs.Kinds.{kind, k_name, k_number, k_float, k_string, k_true, k_false, k_open, k_close, k_open_bracket, k_close_bracket, k_open_brace, k_close_brace, k_times, k_over, k_plus, k_minus, k_dot, k_equals}
+use Rattle.fp_parse_pieces.specs.Words.{between, at, name}
+use Rattle.fp_parse_defs.specs.Words.{bare, literal, named, plus_minus, times_over, nesting}
+use Rattle.fp_parse_pieces.specs.Lists.{joined, some_of, commas}
 
 -- what expressions begin with
 abbrev pub begins : List ℕ

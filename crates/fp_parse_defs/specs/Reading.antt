@@ -12,7 +12,7 @@ use Rattle.fp_lexer.specs.declared.token.Word.TheVariants as word
 use Rattle.fp_lexer.specs.declared.token.Token.{Token}
 use Rattle.fp_grammar.specs.Grammar.{Grammar, Spells}
 use Rattle.fp_grammar.specs.Longest.{IsLongestViable, IsViable}
-use Rattle.fp_parse_defs.specs.Kinds.{kind}
+use Rattle.fp_parse_pieces.specs.Kinds.{kind}
 
 -- how deep expressions nest at most
 abbrev pub limit : ℕ

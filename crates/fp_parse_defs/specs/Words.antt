@@ -1,48 +1,20 @@
--- What single tokens spell: names, literals, operators and the places of marks.
-use Rattle.std.specs.Prelude.{ℕ, List, [], ◌∷◌, ◌++◌, true, cond, ◌==◌}
+-- What expressions are made of that hold no other: literals, uses of names, and operators.
+use Rattle.std.specs.Prelude.{ℕ, List, [], ◌∷◌, true, cond, ◌==◌}
 use Rattle.fp_base.specs.declared.place.Span.{Span}
 use Rattle.fp_lexer.specs.Words.{reserved, mark}
 use Rattle.fp_lexer.specs.declared.token.Word.{Word}
 use Rattle.fp_lexer.specs.declared.token.Word.TheVariants as word
 use Rattle.fp_lexer.specs.declared.token.Token.{Token}
-use Rattle.fp_tree.specs.declared.name.Name.{Name}
-use Rattle.fp_tree.specs.declared.name.Qual.{Qual}
 use Rattle.fp_tree.specs.declared.expression.Expr.{Expr}
 use Rattle.fp_tree.specs.declared.expression.Form.{Form}
 use Rattle.fp_tree.specs.declared.expression.Form.TheVariants as form
 use Rattle.fp_tree.specs.declared.expression.Operator.{Operator}
 use Rattle.fp_tree.specs.declared.expression.Operator.TheVariants as operator
 use Rattle.fp_parse_defs.specs.declared.measured.Measured.{Measured}
-use Rattle.fp_grammar.specs.Grammar.{Grammar, after}
-use Rattle.fp_grammar.specs.Grammar.Grammar.{token, one_of, map, chain}
-use Rattle.fp_parse_defs.specs.Kinds.{k_name, k_number, k_float, k_string, k_true, k_false, k_dot, k_times, k_over, k_plus, k_minus, k_open, k_open_bracket, k_open_brace}
-
--- from the first byte of one to the last of another
-abbrev pub between : Span → Span → Span
-between a b = record { first = a.first; past = b.past }
-
--- the text of a name
-abbrev pub name_text : Word → List ℕ
-name_text (word.Name text) = text
-name_text _ = []
-
--- where a token stands
-abbrev pub at : ℕ → Grammar Token Span
-at k = map (λ t. t.at) (token k)
-
--- a name with its place
-abbrev pub name : Grammar Token Name
-name = map (λ t. record { text = name_text t.what; at = t.at }) (token k_name)
-
-abbrev pub one_name : Name → Qual
-one_name n = record { names = n ∷ []; at = n.at }
-
-abbrev pub longer : Qual → Name → Qual
-longer q n = record { names = q.names ++ n ∷ []; at = between q.at n.at }
-
--- Qual = name ('.' name)*
-abbrev pub qual : Grammar Token Qual
-qual = chain (map one_name name) (after k_dot name) (λ _. true) longer
+use Rattle.fp_grammar.specs.Grammar.{Grammar}
+use Rattle.fp_grammar.specs.Grammar.Grammar.{one_of, map}
+use Rattle.fp_parse_pieces.specs.Words.{qual}
+use Rattle.fp_parse_pieces.specs.Kinds.{k_number, k_float, k_string, k_true, k_false, k_times, k_over, k_plus, k_minus, k_open, k_open_bracket, k_open_brace}
 
 -- an expression without annotation
 abbrev pub bare : Form → Span → Expr

@@ -1,11 +1,13 @@
 ghost use Rattle.std.specs.Prelude.{◌≡◌, ◌-◌, ◌^◌, ◌<◌, max, IfOk};
+ghost use Rattle.fp_parse_pieces.specs.Words as P;
 ghost use Rattle.fp_parse_defs.specs.Words as W;
 ghost use Rattle.fp_parse_defs.specs.Language;
+ghost use Rattle.fp_parse_defs.specs.Definitions as D;
 
 use crate::measured::{Assignments, Items, Measured, Setting};
-use crate::notes::join;
 use fp_base::{Boxed, NoMemory, Row, Span, Text};
-use fp_tree::{Assignment, Expr, Form, Operator};
+use fp_parse_pieces::join;
+use fp_tree::{Assignment, Expr, Form, Operator, Str, TypeName};
 use std::alloc::Global;
 
 /// An expression without annotation.
@@ -16,12 +18,43 @@ pub fn bare(alloc: Global, form: Form, at: Span) -> Expr
     Expr { form, at, note }
 }
 
-fn between(first: Span, last: Span) -> Span
-    ensures { result ≡ W.between first last }
+/// From the first byte of one to the last of another.
+pub fn between(first: Span, last: Span) -> Span
+    ensures { result ≡ P.between first last }
 {
     Span {
         first: first.first,
         past: last.past,
+    }
+}
+
+/// Where an expression that may follow ends.
+pub fn expr_or(span: Span, last: &Option<Expr>) -> Span
+    ensures { result ≡ D.expr_or span last.now }
+{
+    match last {
+        Some(last) => last.at,
+        None => span,
+    }
+}
+
+/// Where a text that may follow ends.
+pub fn text_or(span: Span, last: &Option<Str>) -> Span
+    ensures { result ≡ D.str_or span last.now }
+{
+    match last {
+        Some(last) => last.at,
+        None => span,
+    }
+}
+
+/// Where a type's name that may follow ends.
+pub fn type_or(span: Span, last: &Option<TypeName>) -> Span
+    ensures { result ≡ D.type_or span last.now }
+{
+    match last {
+        Some(last) => last.at,
+        None => span,
     }
 }
 

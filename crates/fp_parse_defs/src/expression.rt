@@ -1,34 +1,28 @@
-ghost use Rattle.std.specs.Prelude.{◌≡◌, ◌-◌, ◌^◌, ◌<◌, ◌≤◌, ◌+◌, IfOk};
+ghost use Rattle.std.specs.Prelude.{◌-◌, ◌^◌, ◌<◌, ◌≤◌, ◌+◌, IfOk};
 ghost use Rattle.fp_grammar.specs.Parses.{Parses};
-ghost use Rattle.fp_parse_defs.specs.Kinds.{kind};
-ghost use Rattle.fp_parse_defs.specs.Lists.{noted};
+ghost use Rattle.fp_parse_pieces.specs.Kinds.{kind};
+ghost use Rattle.fp_parse_pieces.specs.Lists.{noted};
 ghost use Rattle.fp_parse_defs.specs.Language;
 
 use crate::build::{
     array, combined, grouped, negative, no_items, no_members, structure, with_item, with_member,
 };
 use crate::measured::{Assignments, Items, Measured, Setting};
-use crate::notes::{after_lines, appended, before_lines};
-use crate::words::{
-    comma_at, expect_mark, expect_name, literal, mark_at, name_at, named, nested_at, plus_minus_at,
-    times_over_at,
-};
+use crate::words::{comma_at, literal, name_at, named, nested_at, plus_minus_at, times_over_at};
 use fp_base::{Row, Text};
 use fp_grammar::Halt;
 use fp_lexer::Token;
 use fp_lexer::mark::{
     CLOSE, CLOSE_BRACE, CLOSE_BRACKET, EQUALS, MINUS, OPEN, OPEN_BRACE, OPEN_BRACKET,
 };
+use fp_parse_pieces::{
+    Parsed, after_lines, appended, before_lines, expect_mark, expect_name, mark_at,
+};
 use std::alloc::Global;
 
 /// Reads an expression, with this much depth left.
 #[cycle(expression)]
-pub fn expression(
-    alloc: Global,
-    tokens: &[Token],
-    from: usize,
-    depth: u32,
-) -> Result<(Measured, usize), Halt>
+pub fn expression(alloc: Global, tokens: &[Token], from: usize, depth: u32) -> Parsed<Measured>
     ensures parses { Parses kind (Language.expr depth) tokens.now from result }
     ensures within { IfOk result (λ p. p.0.height ≤ depth) }
 {
@@ -50,7 +44,7 @@ pub fn expression(
 }
 
 #[cycle(expression)]
-fn term(alloc: Global, tokens: &[Token], from: usize, depth: u32) -> Result<(Measured, usize), Halt>
+fn term(alloc: Global, tokens: &[Token], from: usize, depth: u32) -> Parsed<Measured>
     ensures parses { Parses kind (Language.term depth) tokens.now from result }
     ensures within { IfOk result (λ p. p.0.height ≤ depth) }
 {
@@ -72,12 +66,7 @@ fn term(alloc: Global, tokens: &[Token], from: usize, depth: u32) -> Result<(Mea
 }
 
 #[cycle(expression)]
-fn factor(
-    alloc: Global,
-    tokens: &[Token],
-    from: usize,
-    depth: u32,
-) -> Result<(Measured, usize), Halt>
+fn factor(alloc: Global, tokens: &[Token], from: usize, depth: u32) -> Parsed<Measured>
     ensures parses { Parses kind (Language.factor depth) tokens.now from result }
     ensures within { IfOk result (λ p. p.0.height ≤ depth) }
 {
@@ -91,12 +80,7 @@ fn factor(
 }
 
 #[cycle(expression)]
-fn nested(
-    alloc: Global,
-    tokens: &[Token],
-    from: usize,
-    depth: u32,
-) -> Result<(Measured, usize), Halt>
+fn nested(alloc: Global, tokens: &[Token], from: usize, depth: u32) -> Parsed<Measured>
     ensures parses { Parses kind (Language.nested depth) tokens.now from result }
     ensures within { IfOk result (λ p. p.0.height ≤ depth) }
 {
@@ -107,12 +91,7 @@ fn nested(
 }
 
 #[cycle(expression)]
-fn inside(
-    alloc: Global,
-    tokens: &[Token],
-    from: usize,
-    depth: u32,
-) -> Result<(Measured, usize), Halt>
+fn inside(alloc: Global, tokens: &[Token], from: usize, depth: u32) -> Parsed<Measured>
     requires { depth < 2 ^ 32 - 1 }
     ensures parses { Parses kind (Language.inside depth) tokens.now from result }
     ensures within { IfOk result (λ p. p.0.height ≤ depth + 1) }
@@ -130,12 +109,7 @@ fn inside(
 }
 
 #[cycle(expression)]
-fn negated(
-    alloc: Global,
-    tokens: &[Token],
-    from: usize,
-    depth: u32,
-) -> Result<(Measured, usize), Halt>
+fn negated(alloc: Global, tokens: &[Token], from: usize, depth: u32) -> Parsed<Measured>
     requires { depth < 2 ^ 32 - 1 }
     ensures parses { Parses kind (Language.negated depth) tokens.now from result }
     ensures within { IfOk result (λ p. p.0.height ≤ depth + 1) }
@@ -146,12 +120,7 @@ fn negated(
 }
 
 #[cycle(expression)]
-fn group(
-    alloc: Global,
-    tokens: &[Token],
-    from: usize,
-    depth: u32,
-) -> Result<(Measured, usize), Halt>
+fn group(alloc: Global, tokens: &[Token], from: usize, depth: u32) -> Parsed<Measured>
     requires { depth < 2 ^ 32 - 1 }
     ensures parses { Parses kind (Language.group depth) tokens.now from result }
     ensures within { IfOk result (λ p. p.0.height ≤ depth + 1) }
@@ -163,12 +132,7 @@ fn group(
 }
 
 #[cycle(expression)]
-fn bracketed(
-    alloc: Global,
-    tokens: &[Token],
-    from: usize,
-    depth: u32,
-) -> Result<(Measured, usize), Halt>
+fn bracketed(alloc: Global, tokens: &[Token], from: usize, depth: u32) -> Parsed<Measured>
     requires { depth < 2 ^ 32 - 1 }
     ensures parses { Parses kind (Language.array depth) tokens.now from result }
     ensures within { IfOk result (λ p. p.0.height ≤ depth + 1) }
@@ -180,12 +144,7 @@ fn bracketed(
 }
 
 #[cycle(expression)]
-fn braced(
-    alloc: Global,
-    tokens: &[Token],
-    from: usize,
-    depth: u32,
-) -> Result<(Measured, usize), Halt>
+fn braced(alloc: Global, tokens: &[Token], from: usize, depth: u32) -> Parsed<Measured>
     requires { depth < 2 ^ 32 - 1 }
     ensures parses { Parses kind (Language.structure depth) tokens.now from result }
     ensures within { IfOk result (λ p. p.0.height ≤ depth + 1) }
@@ -202,7 +161,7 @@ fn noted_expression(
     tokens: &[Token],
     from: usize,
     depth: u32,
-) -> Result<((Measured, Row<Text>), usize), Halt>
+) -> Parsed<(Measured, Row<Text>)>
     ensures parses { Parses kind (noted (Language.expr depth)) tokens.now from result }
     ensures within { IfOk result (λ p. p.0.0.height ≤ depth) }
 {
@@ -214,7 +173,7 @@ fn noted_expression(
 }
 
 #[cycle(expression)]
-fn items(alloc: Global, tokens: &[Token], from: usize, depth: u32) -> Result<(Items, usize), Halt>
+fn items(alloc: Global, tokens: &[Token], from: usize, depth: u32) -> Parsed<Items>
     ensures parses { Parses kind (Language.items depth) tokens.now from result }
     ensures within { IfOk result (λ p. p.0.height ≤ depth) }
 {
@@ -249,12 +208,7 @@ fn items(alloc: Global, tokens: &[Token], from: usize, depth: u32) -> Result<(It
 }
 
 #[cycle(expression)]
-fn setting(
-    alloc: Global,
-    tokens: &[Token],
-    from: usize,
-    depth: u32,
-) -> Result<(Setting, usize), Halt>
+fn setting(alloc: Global, tokens: &[Token], from: usize, depth: u32) -> Parsed<Setting>
     ensures parses { Parses kind (Language.setting depth) tokens.now from result }
     ensures within { IfOk result (λ p. p.0.value.height ≤ depth) }
 {
@@ -270,7 +224,7 @@ fn noted_setting(
     tokens: &[Token],
     from: usize,
     depth: u32,
-) -> Result<((Setting, Row<Text>), usize), Halt>
+) -> Parsed<(Setting, Row<Text>)>
     ensures parses { Parses kind (noted (Language.setting depth)) tokens.now from result }
     ensures within { IfOk result (λ p. p.0.0.value.height ≤ depth) }
 {
@@ -282,12 +236,7 @@ fn noted_setting(
 }
 
 #[cycle(expression)]
-fn some_members(
-    alloc: Global,
-    tokens: &[Token],
-    from: usize,
-    depth: u32,
-) -> Result<(Assignments, usize), Halt>
+fn some_members(alloc: Global, tokens: &[Token], from: usize, depth: u32) -> Parsed<Assignments>
     ensures parses { Parses kind (Language.some_members depth) tokens.now from result }
     ensures within { IfOk result (λ p. p.0.height ≤ depth) }
 {
@@ -322,12 +271,7 @@ fn some_members(
 }
 
 #[cycle(expression)]
-fn members(
-    alloc: Global,
-    tokens: &[Token],
-    from: usize,
-    depth: u32,
-) -> Result<(Assignments, usize), Halt>
+fn members(alloc: Global, tokens: &[Token], from: usize, depth: u32) -> Parsed<Assignments>
     ensures parses { Parses kind (Language.members depth) tokens.now from result }
     ensures within { IfOk result (λ p. p.0.height ≤ depth) }
 {

@@ -1,22 +1,23 @@
-ghost use Rattle.std.specs.Prelude.{◌≡◌, ◌≤◌, ◌<◌, ◌^◌, List, length, take, drop, IfOk};
+ghost use Rattle.std.specs.Prelude.{◌≡◌, ◌≤◌, ◌<◌, ◌^◌, ℕ, List, length, take, drop, IfOk};
 ghost use Rattle.fp_lexer.specs.declared.token.Token.{Token};
+ghost use Rattle.fp_tree.specs.declared.definition.Def.{Def};
 ghost use Rattle.fp_tree.specs.declared.expression.Expr.{Expr};
 ghost use Rattle.fp_grammar.specs.Grammar.{Spells};
-ghost use Rattle.fp_parse_defs.specs.Kinds.{kind};
+ghost use Rattle.fp_grammar.specs.Throughout.{FitsThroughout};
+ghost use Rattle.fp_parse_pieces.specs.Kinds.{kind};
 ghost use Rattle.fp_parse_defs.specs.Language;
 ghost use Rattle.fp_parse_defs.specs.Definitions as D;
-ghost use Rattle.fp_tree.specs.declared.definition.Def.{Def};
 ghost use Rattle.fp_parse_defs.specs.Reading.{AnswersNode, BeginsAt, Reads, left_out, limit, unexpected};
 
-use crate::definition::definition;
-use crate::expression::expression;
-use crate::measured::Measured;
+use crate::definitions::OneDefinition;
+use crate::type_names::Value;
 use fp_base::{NoMemory, Refusal, Row, Rule, Stop};
 use fp_grammar::Halt;
 use fp_lexer::reserved::{
     CONTAINER, DICTIONARY, EVERY, EXTERNAL, IMPORT, INTERFACE, PACKETS, PRODUCT, RECORD, SERIAL,
 };
 use fp_lexer::{Token, Word};
+use fp_parse_pieces::Piece;
 use fp_tree::{Def, Expr};
 use std::alloc::Global;
 
@@ -30,41 +31,7 @@ pub fn parse_expr(alloc: Global, tokens: &Row<Token>, from: u32) -> Result<(Expr
     requires within { from ≤ length tokens.now }
     ensures { AnswersNode Language.expression tokens.now from result }
 {
-    let tokens = tokens.as_slice();
-    let from = from as usize;
-    let (node, to) = read(alloc, tokens, from, LIMIT)?;
-    let (_, deeper) = read(alloc, tokens, from, LIMIT + 1)?;
-    if to < deeper {
-        return Err(Stop::Broken(refusal(tokens, to, Rule::NestingTooDeep)));
-    }
-    match node {
-        Some(expr) => Ok((expr, to as u32)),
-        None => {
-            let rule = unexpected(tokens, to);
-            Err(Stop::Broken(refusal(tokens, to, rule)))
-        }
-    }
-}
-
-// The expression, if there is one, and the position at which what was read of it ends.
-fn read(
-    alloc: Global,
-    tokens: &[Token],
-    from: usize,
-    depth: u32,
-) -> Result<(Option<Expr>, usize), NoMemory>
-    requires { from ≤ length tokens.now }
-    ensures reads { IfOk result (λ p. Reads (Language.expression depth) tokens.now from p.0 p.1) }
-    ensures within { IfOk result (λ p. p.1 ≤ length tokens.now) }
-{
-    match expression(alloc, tokens, from, depth) {
-        Ok((found, to)) => {
-            let Measured { expr, height: _ } = found;
-            Ok((Some(expr), to))
-        }
-        Err(Halt::Unexpected(to)) => Ok((None, to)),
-        Err(Halt::NoMemory) => Err(NoMemory),
-    }
+    parse::<Value>(alloc, tokens, from)
 }
 
 /// Reads a definition from a position on.
@@ -74,15 +41,25 @@ pub fn parse_def(alloc: Global, tokens: &Row<Token>, from: u32) -> Result<(Def, 
     requires within { from ≤ length tokens.now }
     ensures { AnswersNode D.definition tokens.now from result }
 {
+    parse::<OneDefinition>(alloc, tokens, from)
+}
+
+fn parse<P: Piece>(alloc: Global, tokens: &Row<Token>, from: u32) -> Result<(P::Node, u32), Stop>
+    requires fits { (depth : ℕ) → FitsThroughout kind (P.Piece.grammar depth) }
+    requires some { 0 < length tokens.now }
+    requires short { length tokens.now < 2 ^ 32 }
+    requires within { from ≤ length tokens.now }
+    ensures { AnswersNode P.Piece.grammar tokens.now from result }
+{
     let tokens = tokens.as_slice();
     let from = from as usize;
-    let (node, to) = read_definition(alloc, tokens, from, LIMIT)?;
-    let (_, deeper) = read_definition(alloc, tokens, from, LIMIT + 1)?;
+    let (node, to) = read::<P>(alloc, tokens, from, LIMIT)?;
+    let (_, deeper) = read::<P>(alloc, tokens, from, LIMIT + 1)?;
     if to < deeper {
         return Err(Stop::Broken(refusal(tokens, to, Rule::NestingTooDeep)));
     }
     match node {
-        Some(definition) => Ok((definition, to as u32)),
+        Some(node) => Ok((node, to as u32)),
         None => {
             let rule = unexpected(tokens, to);
             Err(Stop::Broken(refusal(tokens, to, rule)))
@@ -90,18 +67,19 @@ pub fn parse_def(alloc: Global, tokens: &Row<Token>, from: u32) -> Result<(Def, 
     }
 }
 
-// The definition, if there is one, and the position at which what was read of it ends.
-fn read_definition(
+// The node, if there is one, and the position at which what was read of it ends.
+fn read<P: Piece>(
     alloc: Global,
     tokens: &[Token],
     from: usize,
     depth: u32,
-) -> Result<(Option<Def>, usize), NoMemory>
-    requires { from ≤ length tokens.now }
-    ensures reads { IfOk result (λ p. Reads (D.definition depth) tokens.now from p.0 p.1) }
+) -> Result<(Option<P::Node>, usize), NoMemory>
+    requires fits { FitsThroughout kind (P.Piece.grammar depth) }
+    requires within { from ≤ length tokens.now }
+    ensures reads { IfOk result (λ p. Reads (P.Piece.grammar depth) tokens.now from p.0 p.1) }
     ensures within { IfOk result (λ p. p.1 ≤ length tokens.now) }
 {
-    match definition(alloc, tokens, from, depth) {
+    match P::read(alloc, tokens, from, depth) {
         Ok((found, to)) => Ok((Some(found), to)),
         Err(Halt::Unexpected(to)) => Ok((None, to)),
         Err(Halt::NoMemory) => Err(NoMemory),

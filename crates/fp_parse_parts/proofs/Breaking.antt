@@ -7,7 +7,7 @@ use Rattle.fp_lexer.specs.declared.token.Token.{Token}
 use Rattle.fp_grammar.specs.Grammar.{Grammar}
 use Rattle.fp_grammar.specs.Broken.{IsBroken}
 use Rattle.fp_grammar.proofs.BrokenLemmas.{one_broken, broken_not_spelled}
-use Rattle.fp_parse_defs.specs.Kinds.{kind}
+use Rattle.fp_parse_pieces.specs.Kinds.{kind}
 use Rattle.fp_parse_defs.specs.Reading.{BeginsAt, limit}
 use Rattle.fp_parse_parts.specs.Files.{Probe, SpellsFile, BrokenRule, BreaksFile}
 use Rattle.fp_parse_parts.specs.Units.{unit, SpellsUnit}

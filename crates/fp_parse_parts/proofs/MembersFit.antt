@@ -11,10 +11,10 @@ use Rattle.fp_grammar.proofs.Fits.{good_of}
 use Rattle.fp_grammar.proofs.Sealed.{sealed_good}
 use Rattle.fp_grammar.proofs.Nesting.{closed_good, nested_good, closed_refuses, open_accepts, open_refuses}
 use Rattle.fp_grammar.proofs.Answering.{handing}
-use Rattle.fp_parse_defs.specs.Kinds.{kind}
-use Rattle.fp_parse_defs.specs.Lists.{noted}
+use Rattle.fp_parse_pieces.specs.Kinds.{kind}
+use Rattle.fp_parse_pieces.specs.Lists.{noted}
 use Rattle.fp_parse_defs.specs.Definitions.{definition}
-use Rattle.fp_parse_defs.proofs.WordsFit.{each_kind}
+use Rattle.fp_parse_pieces.proofs.WordsFit.{each_kind}
 use Rattle.fp_parse_defs.proofs.DefinitionsFit.{definition_fits}
 use Rattle.fp_parse_parts.specs.Members as M
 use Rattle.fp_parse_parts.specs.Members.{definition_begins, definition_goes_on, k_module, modules}

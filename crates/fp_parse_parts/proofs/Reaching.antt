@@ -14,7 +14,7 @@ use Rattle.fp_grammar.proofs.BrokenLemmas.{accepted_short, accepted_whole, refus
 use Rattle.fp_grammar.proofs.Lists.{Cuts, cuts_of}
 use Rattle.fp_grammar.proofs.Lists.Cuts.{same, longer, shorter}
 use Rattle.fp_grammar.proofs.LongestLemmas.{answers_longest}
-use Rattle.fp_parse_defs.specs.Kinds.{kind}
+use Rattle.fp_parse_pieces.specs.Kinds.{kind}
 use Rattle.fp_parse_defs.specs.Reading.{limit}
 use Rattle.fp_parse_parts.specs.Files.{ReachesTo}
 use Rattle.fp_parse_parts.specs.Units.{unit, SpellsUnit, StopsUnit, AnswersInside}

@@ -7,10 +7,10 @@ use Rattle.fp_grammar.specs.Promises.{Fits}
 use Rattle.fp_grammar.specs.Parses.{Accepts, Refuses, NextAmong}
 use Rattle.fp_grammar.proofs.Walk.{begin, next, done, stop}
 use Rattle.fp_grammar.proofs.Steps.{one_of_accepts, map_accepts, map_refuses}
-use Rattle.fp_parse_defs.specs.Kinds.{kind}
-use Rattle.fp_parse_defs.specs.Lists.{after_lines, separated_by}
-use Rattle.fp_parse_defs.specs.Lists.ListPiece.{separator}
-use Rattle.fp_parse_defs.proofs.WordsFit.{each_kind}
+use Rattle.fp_parse_pieces.specs.Kinds.{kind}
+use Rattle.fp_parse_pieces.specs.Lists.{after_lines, separated_by}
+use Rattle.fp_parse_pieces.specs.Lists.ListPiece.{separator}
+use Rattle.fp_parse_pieces.proofs.WordsFit.{each_kind}
 use Rattle.fp_parse_parts.specs.Members.{semicolons}
 
 separator_fits : Fits kind (seq (one_of semicolons) after_lines)

@@ -9,7 +9,7 @@ use Rattle.fp_lexer.specs.declared.token.Word.{Word}
 use Rattle.fp_lexer.specs.declared.token.Word.TheVariants as word
 use Rattle.fp_grammar.specs.Grammar.{Among}
 use Rattle.fp_grammar.specs.Parses.{NextAmong}
-use Rattle.fp_parse_defs.specs.Kinds.{kind, k_reserved, word_kind}
+use Rattle.fp_parse_pieces.specs.Kinds.{kind, k_reserved, word_kind}
 use Rattle.fp_parse_parts.specs.Members.{words_below, word_count, is_reserved}
 
 same_or_below : (r n : ℕ) → r < suc n → (r ≡ n) ⊎ (r < n)

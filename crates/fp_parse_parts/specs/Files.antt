@@ -13,7 +13,7 @@ use Rattle.fp_lexer.specs.declared.token.Token.{Token}
 use Rattle.fp_grammar.specs.Grammar.{Grammar, Spells}
 use Rattle.fp_grammar.specs.Longest.{IsViable, IsLongestViable}
 use Rattle.fp_grammar.specs.Broken.{IsBroken}
-use Rattle.fp_parse_defs.specs.Kinds.{kind}
+use Rattle.fp_parse_pieces.specs.Kinds.{kind}
 use Rattle.fp_parse_defs.specs.Reading.{BeginsAt, left_out, limit}
 
 -- words that begin members which are left out, and the number of a reserved word that may stand wherever such a member may begin

@@ -18,10 +18,11 @@ use Rattle.fp_parse_parts.specs.declared.bare.BareMember.TheVariants as bare
 use Rattle.fp_grammar.specs.Grammar.{Grammar, Language, Spells, after}
 use Rattle.fp_grammar.specs.Grammar.Grammar.{one_of, seq, map, alt, optional, many, ref}
 use Rattle.fp_grammar.specs.Seal.{seal}
-use Rattle.fp_parse_defs.specs.Kinds.{kind, k_mark, k_reserved, k_newline, k_open, k_open_brace, k_close_brace, k_equals}
-use Rattle.fp_parse_defs.specs.Words.{between, at, name, qual}
-use Rattle.fp_parse_defs.specs.Lists.{joined, some_of}
-use Rattle.fp_parse_defs.specs.Definitions.{definition, literal_string, or_none, expr_goes_on, k_array, k_arrow, k_constant, k_default, k_enum, k_format, k_port, k_size, k_struct, k_type}
+use Rattle.fp_parse_pieces.specs.Kinds.{kind, k_mark, k_reserved, k_newline, k_open, k_open_brace, k_close_brace, k_equals}
+use Rattle.fp_parse_pieces.specs.Words.{between, at, name, qual}
+use Rattle.fp_parse_pieces.specs.Lists.{joined, some_of, or_none}
+use Rattle.fp_parse_pieces.specs.Words.{literal_string}
+use Rattle.fp_parse_defs.specs.Definitions.{definition, expr_goes_on, k_array, k_arrow, k_constant, k_default, k_enum, k_format, k_port, k_size, k_struct, k_type}
 
 abbrev pub k_semicolon : ℕ
 k_semicolon = k_mark (mark ";")

@@ -3,7 +3,7 @@ ghost use Rattle.fp_parse_parts.specs.Members as M;
 
 use crate::bare::BareMember;
 use fp_base::{Boxed, NoMemory, Row, Span, Text};
-use fp_parse_defs::join;
+use fp_parse_pieces::join;
 use fp_tree::{
     Abstract, Alias, Array, Constant, Def, Enum, Include, Locate, Member, Module, Name, Port, Qual,
     Str, Struct,

@@ -1,8 +1,8 @@
 ghost use Rattle.std.specs.Prelude.{◌++◌};
 ghost use Rattle.fp_grammar.specs.Grammar.Grammar.{map};
 ghost use Rattle.fp_grammar.specs.Parses.{Parses};
-ghost use Rattle.fp_parse_defs.specs.Kinds.{kind};
-ghost use Rattle.fp_parse_defs.specs.Lists as L;
+ghost use Rattle.fp_parse_pieces.specs.Kinds.{kind};
+ghost use Rattle.fp_parse_pieces.specs.Lists as L;
 ghost use Rattle.fp_parse_parts.specs.Members as M;
 
 use crate::bare::BareMember;
@@ -13,8 +13,8 @@ use fp_grammar::Halt;
 use fp_lexer::Token;
 use fp_lexer::mark::{CLOSE_BRACE, OPEN_BRACE};
 use fp_lexer::reserved::{AT, INCLUDE, LOCATE, MODULE};
-use fp_parse_defs::definition::definition;
-use fp_parse_defs::{
+use fp_parse_defs::definition;
+use fp_parse_pieces::{
     after_lines, appended, before_lines, expect_mark, expect_name, expect_word, literal_string,
     qualified_name, skip_mark, word_at,
 };

@@ -1,6 +1,6 @@
 ghost use Rattle.std.specs.Prelude.{◌≡◌, ◌≤◌, ◌<◌, length, take, drop, slice_get, Some, IfOk, MatchBool};
 ghost use Rattle.fp_grammar.specs.Broken.{IsBroken};
-ghost use Rattle.fp_parse_defs.specs.Kinds.{kind};
+ghost use Rattle.fp_parse_pieces.specs.Kinds.{kind};
 ghost use Rattle.fp_parse_defs.specs.Reading.{BeginsAt, limit};
 ghost use Rattle.fp_parse_parts.specs.Files.{BeginsLeftOut, BrokenRule, ReachesTo, StartsMember};
 ghost use Rattle.fp_parse_parts.specs.Units.{StopsUnit, opens_left_out, unit, unit_probe, unit_probes};

@@ -1,6 +1,6 @@
 ghost use Rattle.std.specs.Prelude.{◌≡◌, MatchBool};
 ghost use Rattle.fp_grammar.specs.Parses.{NextAmong, Parses};
-ghost use Rattle.fp_parse_defs.specs.Kinds.{kind};
+ghost use Rattle.fp_parse_pieces.specs.Kinds.{kind};
 ghost use Rattle.fp_parse_parts.specs.Members as M;
 ghost use Rattle.fp_parse_parts.specs.Members.{word_count, words_below};
 
@@ -9,7 +9,7 @@ use fp_grammar::Halt;
 use fp_lexer::mark::SEMICOLON;
 use fp_lexer::reserved::{COUNT, LOCATE};
 use fp_lexer::{Token, Word};
-use fp_parse_defs::expect_word;
+use fp_parse_pieces::expect_word;
 
 /// Whether what separates members is at a position.
 pub fn semicolon_at(tokens: &[Token], at: usize) -> bool

@@ -21,10 +21,10 @@ use Rattle.fp_meaning.specs.declared.group.Group.TheVariants.{Value}
 use Rattle.fp_meaning.specs.declared.names.Definition.{Definition}
 use Rattle.fp_meaning.specs.declared.names.Mention.{Mention}
 use Rattle.fp_meaning.specs.Names.{Path, defined, definitions_in, mentions_in, in_expression, in_optional, in_type_form, in_type, in_field, in_constant, in_formal}
-use Rattle.fp_parse_defs.specs.Kinds.{k_open, k_close, k_open_bracket, k_close_bracket, k_open_brace, k_close_brace, k_equals}
+use Rattle.fp_parse_pieces.specs.Kinds.{k_open, k_close, k_open_bracket, k_close_bracket, k_open_brace, k_close_brace, k_equals}
 use Rattle.fp_parse_defs.specs.Language.{expression}
-use Rattle.fp_parse_defs.specs.Lists.{commas}
-use Rattle.fp_parse_defs.specs.Definitions.{k_arrow, k_colon, k_array, k_constant, k_default, k_enum, k_port, k_size, k_struct, k_type, unsigned_form, signed_form, other_form, plain, type_begins, expr_goes_on, made_string, string_type, made_use, used_type, type_body, type_name, default_part, sized, made_constant, constant, made_type, abstract_or_alias, made_array, array, made_field, field, with_field, or_none, fields, made_struct, structure, made_enum_const, enum_const, with_enum_const, enum_consts, made_enum, enumeration, made_formal, formal, with_formal, formal_list, formals, formals_part, made_port, port, definition}
+use Rattle.fp_parse_pieces.specs.Lists.{commas, or_none}
+use Rattle.fp_parse_defs.specs.Definitions.{k_arrow, k_colon, k_array, k_constant, k_default, k_enum, k_port, k_size, k_struct, k_type, unsigned_form, signed_form, other_form, plain, type_begins, expr_goes_on, made_string, string_type, made_use, used_type, type_body, type_name, default_part, sized, made_constant, constant, made_type, abstract_or_alias, made_array, array, made_field, field, with_field, fields, made_struct, structure, made_enum_const, enum_const, with_enum_const, enum_consts, made_enum, enumeration, made_formal, formal, with_formal, formal_list, formals, formals_part, made_port, port, definition}
 use Rattle.fp_base.proofs.Lists.{InOption, each_append, each_push, each_flat, each_mapped, each_of_any, each_weaker}
 use Rattle.fp_sites.specs.Depths.{depth_of}
 use Rattle.fp_sites.specs.Expressions.{expressions_in_type_form, expressions_in_type, expressions_in_field, expressions_in_constant, expressions_in_formal, expressions_in_definition}

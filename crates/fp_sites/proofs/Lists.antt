@@ -3,10 +3,9 @@ use Rattle.std.proofs.Common.{ℕ, List, [], ◌∷◌, ◌++◌, Option, Some, 
 use Rattle.std.specs.List.{AllByRecursion as Each}
 use Rattle.fp_lexer.specs.declared.token.Token.{Token}
 use Rattle.fp_grammar.specs.Grammar.{Grammar}
-use Rattle.fp_parse_defs.specs.Kinds.{kind}
-use Rattle.fp_parse_defs.specs.Lists.{ListPiece, annotated, gathered, separated_by, some_of}
-use Rattle.fp_parse_defs.specs.Lists.ListPiece.{element, separator}
-use Rattle.fp_parse_defs.specs.Definitions.{or_none}
+use Rattle.fp_parse_pieces.specs.Kinds.{kind}
+use Rattle.fp_parse_pieces.specs.Lists.{ListPiece, annotated, gathered, separated_by, some_of, or_none}
+use Rattle.fp_parse_pieces.specs.Lists.ListPiece.{element, separator}
 use Rattle.fp_base.proofs.Lists.{InOption}
 use Rattle.fp_sites.proofs.Preserving.{Gives, gives_anything, gives_seq, gives_map, gives_turns}
 

@@ -18,9 +18,9 @@ use Rattle.fp_tree.specs.declared.member.Member.TheVariants as node
 use Rattle.fp_meaning.specs.declared.names.Definition.{Definition}
 use Rattle.fp_meaning.specs.Names.{Path, in_member, in_members, definitions_in, mentions_in}
 use Rattle.fp_grammar.specs.Grammar.{Language}
-use Rattle.fp_parse_defs.specs.Kinds.{k_open_brace, k_close_brace}
-use Rattle.fp_parse_defs.specs.Lists.{joined}
-use Rattle.fp_parse_defs.specs.Definitions.{definition, or_none}
+use Rattle.fp_parse_pieces.specs.Kinds.{k_open_brace, k_close_brace}
+use Rattle.fp_parse_pieces.specs.Lists.{joined, or_none}
+use Rattle.fp_parse_defs.specs.Definitions.{definition}
 use Rattle.fp_parse_parts.specs.declared.bare.BareMember.{BareMember}
 use Rattle.fp_parse_parts.specs.declared.bare.BareMember.TheVariants as bare
 use Rattle.fp_parse_parts.specs.Members.{k_include, k_module, semicolons, definition_begins, definition_goes_on, definition_member, made_include, include, made_locate, locate, noted_definition, noted_member, with_member, member_of, members_of, made_module, modules, members}

@@ -10,8 +10,8 @@ use Rattle.fp_lexer.specs.declared.token.Token.{Token}
 use Rattle.fp_tree.specs.declared.name.Name.{Name}
 use Rattle.fp_tree.specs.declared.name.Qual.{Qual}
 use Rattle.fp_grammar.specs.Grammar.{Grammar}
-use Rattle.fp_parse_defs.specs.Kinds.{kind, word_kind, k_name, k_dot}
-use Rattle.fp_parse_defs.specs.Words.{at, name, name_text, one_name, longer, qual}
+use Rattle.fp_parse_pieces.specs.Kinds.{kind, word_kind, k_name, k_dot}
+use Rattle.fp_parse_pieces.specs.Words.{at, name, name_text, one_name, longer, qual}
 use Rattle.fp_sites.proofs.Preserving.{Gives, gives_token, gives_map, gives_chain, gives_after}
 
 -- the tokens of names are names

@@ -8,13 +8,13 @@ use Rattle.fp_grammar.proofs.Walk.{begin, under, next, done, stop, stop_first, a
 use Rattle.fp_grammar.proofs.Steps.{absent, map_accepts, map_refuses, alt_first_accepts, alt_first_refuses, alt_second_accepts, alt_second_refuses, optional_absent, optional_accepts, optional_refuses}
 use Rattle.fp_grammar.proofs.TurnSteps.{turn_next, turn_absent, turn_refuses}
 use Rattle.fp_grammar.proofs.ChainSteps.{chain_begin, chain_first_refused, chain_next, chain_done, chain_full, chain_stop}
-use Rattle.fp_parse_defs.specs.Kinds.{k_name, k_minus, k_open, k_open_bracket}
+use Rattle.fp_parse_pieces.specs.Kinds.{k_name, k_minus, k_open, k_open_bracket}
 use Rattle.fp_parse_defs.specs.Words.{nesting, literal, named}
-use Rattle.fp_parse_defs.specs.Lists.{gathered, separated_by, commas}
-use Rattle.fp_parse_defs.specs.Lists.ListPiece.{element}
+use Rattle.fp_parse_pieces.specs.Lists.{gathered, separated_by, commas}
+use Rattle.fp_parse_pieces.specs.Lists.ListPiece.{element}
 use Rattle.fp_parse_defs.specs.Language
 use Rattle.fp_parse_defs.specs.Language.{with_item, with_member}
-use Rattle.fp_parse_defs.proofs.WordsFit.{each_kind, building_as}
+use Rattle.fp_parse_pieces.proofs.WordsFit.{each_kind, building_as}
 use Rattle.fp_parse_defs.proofs.Levels.{factor_fits, term_fits, expr_fits, product_fits, sum_fits, negated_fits, group_fits, noted_expr_fits, items_fits, array_fits, setting_fits, noted_setting_fits, some_members_fits, structure_fits, inside_fits, nested_closed, nested_open, low_factor_accepts, low_factor_refuses, low_term_accepts, low_term_refuses}
 use Rattle.fp_parse_defs.proofs.Parts.{absent_seq, separator_accepts, separator_refuses, combined_low, both_low}
 use Rattle.fp_parse_defs.proofs.expression.+expression.Goals as goal

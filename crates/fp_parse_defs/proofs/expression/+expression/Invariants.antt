@@ -2,10 +2,10 @@ use Rattle.std.proofs.Common.{[], ◌+◌, ◌*◌, ◌≤◌, ◌∷◌, length
 use Rattle.fp_grammar.specs.Grammar.Grammar.{seq, alternating}
 use Rattle.fp_grammar.proofs.Walk.{Reached}
 use Rattle.fp_grammar.proofs.ChainSteps.{Building}
-use Rattle.fp_parse_defs.specs.Kinds.{kind, k_dot, k_times, k_over}
+use Rattle.fp_parse_pieces.specs.Kinds.{kind, k_dot, k_times, k_over}
 use Rattle.fp_parse_defs.specs.Words.{plus_minus, times_over}
-use Rattle.fp_parse_defs.specs.Lists.{gathered, annotated, separated_by, commas}
-use Rattle.fp_parse_defs.specs.Lists.ListPiece.{element}
+use Rattle.fp_parse_pieces.specs.Lists.{gathered, annotated, separated_by, commas}
+use Rattle.fp_parse_pieces.specs.Lists.ListPiece.{element}
 use Rattle.fp_parse_defs.specs.Language
 use Rattle.fp_parse_defs.specs.Language.{level, operand_of, lower, combined, with_item, with_member}
 use Rattle.fp_parse_defs.proofs.expression.+expression.Given as goal

@@ -5,9 +5,9 @@ use Rattle.fp_grammar.proofs.Choices.{absent_beside, absent_unless}
 use Rattle.fp_grammar.proofs.Walk.{begin, under, next, done, stop, stop_first, as_made}
 use Rattle.fp_grammar.proofs.Steps.{map_accepts, map_refuses, alt_first_accepts, alt_first_refuses, alt_second_accepts, alt_second_refuses, optional_absent, optional_accepts, optional_refuses}
 use Rattle.fp_grammar.proofs.TurnSteps.{turn_next, turn_absent, turn_refuses}
-use Rattle.fp_parse_defs.specs.Lists.{gathered, separated_by}
-use Rattle.fp_parse_defs.specs.Lists.ListPiece.{element}
-use Rattle.fp_parse_defs.proofs.WordsFit.{each_kind}
+use Rattle.fp_parse_pieces.specs.Lists.{gathered, separated_by}
+use Rattle.fp_parse_pieces.specs.Lists.ListPiece.{element}
+use Rattle.fp_parse_pieces.proofs.WordsFit.{each_kind}
 use Rattle.fp_parse_parts.specs.Members as M
 use Rattle.fp_parse_parts.specs.Members.{k_include, k_locate, k_module, semicolons, with_member}
 use Rattle.fp_parse_parts.proofs.MembersFit.{member_fits, noted_member_fits, some_members_fits, opened_module_fits, no_modules, module_inside}

@@ -1,9 +1,9 @@
 use Rattle.std.proofs.Common.{◌+◌, ◌*◌, ◌∷◌, length, drop}
 use Rattle.fp_grammar.specs.Grammar.Grammar.{alternating}
 use Rattle.fp_grammar.proofs.Walk.{Reached}
-use Rattle.fp_parse_defs.specs.Kinds.{kind}
-use Rattle.fp_parse_defs.specs.Lists.{gathered, annotated, separated_by}
-use Rattle.fp_parse_defs.specs.Lists.ListPiece.{element}
+use Rattle.fp_parse_pieces.specs.Kinds.{kind}
+use Rattle.fp_parse_pieces.specs.Lists.{gathered, annotated, separated_by}
+use Rattle.fp_parse_pieces.specs.Lists.ListPiece.{element}
 use Rattle.fp_parse_parts.specs.Members as M
 use Rattle.fp_parse_parts.specs.Members.{semicolons, with_member}
 use Rattle.fp_parse_parts.proofs.members.+members.Given as goal

@@ -5,7 +5,7 @@ use Rattle.fp_grammar.proofs.Choices.{absent_unless}
 use Rattle.fp_grammar.proofs.Walk.{begin, under, next, done, stop_first}
 use Rattle.fp_grammar.proofs.Steps.{one_of_accepts, one_of_refuses}
 use Rattle.fp_grammar.proofs.ListSteps.{many_next, many_absent}
-use Rattle.fp_parse_defs.proofs.WordsFit.{each_kind}
+use Rattle.fp_parse_pieces.proofs.WordsFit.{each_kind}
 use Rattle.fp_parse_parts.specs.Members.{reserved_word, words_below, word_count}
 use Rattle.fp_parse_parts.proofs.MembersFit.{locate_words_fits}
 use Rattle.fp_parse_parts.proofs.words.locate_words.Goals as goal

@@ -1,7 +1,7 @@
 use Rattle.std.proofs.Common.{length, drop}
 use Rattle.fp_grammar.specs.Grammar.Grammar.{many}
 use Rattle.fp_grammar.proofs.Walk.{Reached}
-use Rattle.fp_parse_defs.specs.Kinds.{kind}
+use Rattle.fp_parse_pieces.specs.Kinds.{kind}
 use Rattle.fp_parse_parts.specs.Members as M
 use Rattle.fp_parse_parts.proofs.words.locate_words.Given as goal
 
