@@ -1,0 +1,6 @@
+use Rattle.std.proofs.Common.{◌≡◌, flat_map, take}
+use Rattle.fp_layout.specs.Projections.{uses_of}
+use Rattle.fp_layout.proofs.mentions.mentions_in.Given as goal
+
+abbrev pub invariant-loop-item : goal.invariant-loop-item
+invariant-loop-item l = l.found ≡ flat_map uses_of (take l.item-index l.items)
