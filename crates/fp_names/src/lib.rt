@@ -1,10 +1,7 @@
 //! Which definition each use of a name means.
 #![tactic(auto)]
 
-mod definitions;
-mod expressions;
 mod lookups;
-mod mentions;
 mod names;
 mod table;
 mod tree;

@@ -6,12 +6,11 @@ ghost use Rattle.fp_meaning.specs.Names.{definitions, mentions};
 ghost use Rattle.fp_names.specs.Answers.{AreFound, IsStop};
 ghost use Rattle.fp_names.specs.Tree.{looked_up};
 
-use crate::definitions::definitions_of;
 use crate::lookups::{LookedUp, look_up};
-use crate::mentions::mentions_of;
 use crate::table::{Table, table_of};
 use crate::tree::{Node, longest_from, meaning_from, walk_from};
 use fp_base::{NoMemory, Refusal, Row, Stop, Text, lesser};
+use fp_layout::{definitions_of, mentions_of};
 use fp_meaning::{Definition, Group};
 use fp_tree::{Source, Uses};
 use std::alloc::Global;

@@ -1,6 +1,0 @@
-use Rattle.std.proofs.Common.{◌≡◌, map, take}
-use Rattle.fp_tree.specs.declared.name.Name.{Name}
-use Rattle.fp_names.proofs.expressions.texts_of.Given as goal
-
-abbrev pub invariant-loop-name : goal.invariant-loop-name
-invariant-loop-name l = l.row ≡ map (λ (n : Name). n.text) (take l.name-index l.names)
