@@ -21,7 +21,7 @@ use Rattle.fp_parse_defs.specs.declared.measured.Setting.{Setting}
 use Rattle.fp_parse_defs.specs.declared.measured.Items.{Items}
 use Rattle.fp_parse_defs.specs.declared.measured.Assignments.{Assignments}
 use Rattle.fp_parse_pieces.specs.Kinds.{k_open, k_close, k_open_bracket, k_close_bracket, k_open_brace, k_close_brace, k_dot, k_times, k_over, k_plus, k_minus, k_equals}
-use Rattle.fp_parse_pieces.specs.Words.{bare, leaf, literal, literal_form, named}
+use Rattle.fp_parse_defs.specs.Words.{bare, leaf, literal, literal_form, named}
 use Rattle.fp_parse_pieces.specs.Lists.{joined, commas}
 use Rattle.fp_parse_defs.specs.Language.{Level, level, begins, combined, lower, factor_body, factor_of, term_body, term_of, expr_body, expr_of, made_minus, negated_of, made_group, group_of, with_item, no_items, items_of, made_array, array_of, made_setting, setting_of, with_member, no_members, or_no_members, members_of, made_struct, struct_of, inside_of, expression}
 use Rattle.fp_base.proofs.Lists.{InOption, each_append, each_push, each_flat, each_weaker}
