@@ -16,10 +16,9 @@ use Rattle.fp_meaning.specs.declared.names.Mention.{Mention}
 use Rattle.fp_meaning.specs.Names.{Path, mentioned, in_form, in_expression}
 use Rattle.fp_meaning.specs.Values.{values_in}
 use Rattle.fp_consts.specs.declared.stretch.Stretch.{Stretch}
-use Rattle.fp_consts.specs.declared.pieces.Piece.{Piece}
+use Rattle.fp_layout.specs.declared.item.Item.{Item}
 use Rattle.fp_consts.specs.declared.laying.Laid.{Laid}
-use Rattle.fp_consts.specs.Pieces.{places_in}
-use Rattle.fp_consts.specs.Laid.{past, IsPast, next_of, spans_of, spans_from, spots_of, spots_from, IsLaidWith}
+use Rattle.fp_consts.specs.Laid.{past, IsPast, places_of, next_of, spans_of, spans_from, spots_of, spots_from, IsLaidWith}
 use Rattle.fp_consts.proofs.Walks.{use_uses, minus_uses, parentheses_uses, binary_uses, array_uses, struct_uses}
 use Rattle.fp_consts.proofs.Arms.{uses_by}
 
@@ -93,36 +92,36 @@ values_length (m ∷ ms) = ap (λ (n : ℕ). suc n) (values_length ms)
 pub values_past : (members : List Assignment) (k : ℕ) → length members ≤ k → length (values_in members) ≤ k
 values_past members k end = let same = values_length members in omega arith
 
--- the parts laid out so far, and the rest
-pub record IsLaidFirst (limit : ℕ) (pieces : List Piece) (k : ℕ) (laid : Laid) : Type 0 where
-  pub spans : laid.spans ++ spans_from limit laid.next (drop k pieces) ≡ spans_from limit 0 pieces
-  pub spots : laid.spots ++ spots_from k (drop k pieces) ≡ spots_from 0 pieces
-  pub places : laid.places ++ flat_map places_in (drop k pieces) ≡ flat_map places_in pieces
+-- the items laid out so far, and the rest
+pub record IsLaidFirst (limit : ℕ) (items : List Item) (k : ℕ) (laid : Laid) : Type 0 where
+  pub spans : laid.spans ++ spans_from limit laid.next (drop k items) ≡ spans_from limit 0 items
+  pub spots : laid.spots ++ spots_from k (drop k items) ≡ spots_from 0 items
+  pub places : laid.places ++ flat_map places_of (drop k items) ≡ flat_map places_of items
 
-module _ (limit : ℕ) (pieces : List Piece) where
-  rest_at : (k : ℕ) (p : Piece) → slice_get pieces k ≡ Some p → drop k pieces ≡ p ∷ drop (suc k) pieces
-  rest_at k p at = drop-cons pieces k p (slice_get_within pieces k p at) ∙ ap (λ (x : Piece). x ∷ drop (suc k) pieces) (get_or_from_slice_get pieces k p p at)
+module _ (limit : ℕ) (items : List Item) where
+  rest_at : (k : ℕ) (p : Item) → slice_get items k ≡ Some p → drop k items ≡ p ∷ drop (suc k) items
+  rest_at k p at = drop-cons items k p (slice_get_within items k p at) ∙ ap (λ (x : Item). x ∷ drop (suc k) items) (get_or_from_slice_get items k p p at)
 
-  laid_next_at : (k : ℕ) (p : Piece) (before after : Laid) → slice_get pieces k ≡ Some p → IsLaidFirst limit pieces k before → IsLaidWith limit k p before after
-      → IsLaidFirst limit pieces (suc k) after
+  laid_next_at : (k : ℕ) (p : Item) (before after : Laid) → slice_get items k ≡ Some p → IsLaidFirst limit items k before → IsLaidWith limit k p before after
+      → IsLaidFirst limit items (suc k) after
   laid_next_at k p before after at is w = record {
     spans =
-        ap (λ (xs : List Stretch). xs ++ spans_from limit after.next (drop (suc k) pieces)) w.spans
-        ∙ ap (λ (n : ℕ). (before.spans ++ spans_of limit before.next p) ++ spans_from limit n (drop (suc k) pieces)) w.next
-        ∙ append_assoc before.spans (spans_of limit before.next p) (spans_from limit (next_of limit before.next p) (drop (suc k) pieces))
-        ∙ ap (λ (ps : List Piece). before.spans ++ spans_from limit before.next ps) (sym (rest_at k p at)) ∙ is.spans;
+        ap (λ (xs : List Stretch). xs ++ spans_from limit after.next (drop (suc k) items)) w.spans
+        ∙ ap (λ (n : ℕ). (before.spans ++ spans_of limit before.next p) ++ spans_from limit n (drop (suc k) items)) w.next
+        ∙ append_assoc before.spans (spans_of limit before.next p) (spans_from limit (next_of limit before.next p) (drop (suc k) items))
+        ∙ ap (λ (ps : List Item). before.spans ++ spans_from limit before.next ps) (sym (rest_at k p at)) ∙ is.spans;
     spots =
-        ap (λ (xs : List ℕ). xs ++ spots_from (suc k) (drop (suc k) pieces)) w.spots
-        ∙ append_assoc before.spots (spots_of k p) (spots_from (suc k) (drop (suc k) pieces))
-        ∙ ap (λ (ps : List Piece). before.spots ++ spots_from k ps) (sym (rest_at k p at)) ∙ is.spots;
+        ap (λ (xs : List ℕ). xs ++ spots_from (suc k) (drop (suc k) items)) w.spots
+        ∙ append_assoc before.spots (spots_of k p) (spots_from (suc k) (drop (suc k) items))
+        ∙ ap (λ (ps : List Item). before.spots ++ spots_from k ps) (sym (rest_at k p at)) ∙ is.spots;
     places =
-        ap (λ (xs : List Place). xs ++ flat_map places_in (drop (suc k) pieces)) w.places
-        ∙ append_assoc before.places (places_in p) (flat_map places_in (drop (suc k) pieces))
-        ∙ ap (λ (ps : List Piece). before.places ++ flat_map places_in ps) (sym (rest_at k p at)) ∙ is.places;
+        ap (λ (xs : List Place). xs ++ flat_map places_of (drop (suc k) items)) w.places
+        ∙ append_assoc before.places (places_of p) (flat_map places_of (drop (suc k) items))
+        ∙ ap (λ (ps : List Item). before.places ++ flat_map places_of ps) (sym (rest_at k p at)) ∙ is.places;
   }
 
-  pub laid_next : (k : ℕ) (p : Piece) (before after : Laid) → slice_get pieces k ≡ Some p → IsLaidFirst limit pieces k before → IsLaidWith limit k p before after
-      → IsLaidFirst limit pieces (k + 1) after
+  pub laid_next : (k : ℕ) (p : Item) (before after : Laid) → slice_get items k ≡ Some p → IsLaidFirst limit items k before → IsLaidWith limit k p before after
+      → IsLaidFirst limit items (k + 1) after
   laid_next k p before after at is w =
       let same : suc k ≡ k + 1 = omega arith in
-      subst (λ (n : ℕ). IsLaidFirst limit pieces n after) same (laid_next_at k p before after at is w)
+      subst (λ (n : ℕ). IsLaidFirst limit items n after) same (laid_next_at k p before after at is w)

@@ -1,38 +1,37 @@
 -- A source that is laid out, with what its uses mean.
-use Rattle.std.proofs.Common.{◌≡◌, ℕ, suc, ◌+◌, ◌-◌, ◌<◌, Bool, true, false, List, [], ◌∷◌, length, flat_map, map, slice_get, take, Option, Some, None, option_map, refl, sym, ap, subst, ◌∙◌, arith}
-use Rattle.std.specs.List.{Contains, list_all}
-use Rattle.std.proofs.lemmas.List.{length-map}
-use Rattle.std.proofs.lemmas.List.Concat.{flat_map_single}
+use Rattle.std.proofs.Common.{◌≡◌, ℕ, suc, ◌+◌, ◌-◌, ◌<◌, List, [], ◌∷◌, ◌++◌, length, flat_map, map, slice_get, take, Option, Some, None, refl, sym, ap, subst, ◌∙◌, arith}
+use Rattle.std.specs.List.{Contains}
+use Rattle.std.proofs.lemmas.List.{length-map, map-append}
 use Rattle.std.proofs.lemmas.List.Elements.{at_from_Contains, Contains-get_or}
-use Rattle.std.proofs.lemmas.Option.{slice_get_within, slice_get-map, slice_get-get_or, get_or_from_slice_get}
+use Rattle.std.proofs.lemmas.Option.{slice_get_within, slice_get-get_or, get_or_from_slice_get}
 use Rattle.fp_base.specs.declared.place.Place.{Place}
 use Rattle.fp_tree.specs.declared.source.Source.{Source}
 use Rattle.fp_tree.specs.declared.expression.Expr.{Expr}
-use Rattle.fp_tree.specs.declared.definition.Enum.{Enum}
 use Rattle.fp_meaning.specs.declared.group.Group.{Group}
 use Rattle.fp_meaning.specs.declared.group.Group.TheVariants as group
+use Rattle.fp_meaning.specs.declared.names.Definition.{Definition}
 use Rattle.fp_meaning.specs.declared.names.Mention.{Mention}
 use Rattle.fp_meaning.specs.ConstantFaults.{Uses}
 use Rattle.fp_meaning.specs.Meaning.{Means, AreMeanings}
-use Rattle.fp_meaning.specs.Names.{Path, in_source, definitions, mentions, in_expression}
-use Rattle.fp_meaning.specs.Origins.{Placed, placed, placed_optional, Origin, Constant, Enumerated, NoValue, origins, written_in}
+use Rattle.fp_meaning.specs.Names.{definitions, mentions, in_expression, in_optional}
+use Rattle.fp_meaning.specs.Origins.{Placed, placed_optional, Origin, origins, written_in}
 use Rattle.fp_meaning.proofs.Meanings.{one_meaning}
+use Rattle.fp_layout.specs.declared.item.Item.{Item}
+use Rattle.fp_layout.specs.declared.item.Item.TheVariants as variant
+use Rattle.fp_layout.specs.Layout as layout
+use Rattle.fp_layout.specs.Projections.{definitions_of, origin_with, origins_of, uses_of, value_in}
+use Rattle.fp_layout.proofs.Projected.{source_definitions, source_origins, source_uses}
 use Rattle.fp_consts.specs.declared.measured.Measured.{Measured}
 use Rattle.fp_consts.specs.declared.stretch.Stretch.{Stretch}
-use Rattle.fp_consts.specs.declared.pieces.Basis.{Basis}
-use Rattle.fp_consts.specs.declared.pieces.Piece.{Piece}
-use Rattle.fp_consts.specs.declared.pieces.Piece.TheVariants as piece
 use Rattle.fp_consts.specs.Chains.{SameUses, name_places}
 use Rattle.fp_consts.specs.Examined.{AreGiven}
 use Rattle.fp_consts.specs.Graph.{Edge}
-use Rattle.fp_consts.specs.Laid.{spans_from, next_of}
-use Rattle.fp_consts.specs.Pieces.{pieces_in, uses_in, uses_in_basis, uses_in_numbered, bases_in, places_in, numbered, has_no_value}
-use Rattle.fp_consts.specs.Settled.{basis_of}
+use Rattle.fp_consts.specs.Laid.{places_of, spans_from, next_of}
 use Rattle.fp_consts.specs.Tabled.{AreExact}
 use Rattle.fp_consts.proofs.Grouped.{value_names}
-use Rattle.fp_consts.proofs.Parted.{source_uses, source_bases, source_places}
 use Rattle.fp_consts.proofs.Places.{item_below}
 use Rattle.fp_consts.proofs.Tabled.{IsSpot, spot_of, flat_at, given_each}
+use Rattle.fp_consts.proofs.Valued.{the_head}
 
 index_of : {A : Type 0} (xs : List A) (y : A) → Contains xs y → (k : ℕ) × (slice_get xs k ≡ Some y)
 index_of xs y h = let t = at_from_Contains xs y h in (t.0, slice_get-get_or xs t.0 y t.1 ∙ ap (λ (z : _). Some z) (t.2 y))
@@ -40,58 +39,71 @@ index_of xs y h = let t = at_from_Contains xs y h in (t.0, slice_get-get_or xs t
 contains_at : {A : Type 0} (xs : List A) (k : ℕ) (y : A) → slice_get xs k ≡ Some y → Contains xs y
 contains_at xs k y at = subst (λ (z : _). Contains xs z) (get_or_from_slice_get xs k y y at) (Contains-get_or xs k y (slice_get_within xs k y at))
 
--- the uses that a basis has are those of what is written
-numbered_uses : (scope : Path) (position : ℕ) (enum : Enum) (p : Placed) (o : Option Expr) (b : Bool) → placed_optional scope o ≡ Some p
-    → uses_in_numbered (numbered scope b position o) ≡ in_expression p.scope p.expression
-numbered_uses scope position enum p (Some e) b is = let same : placed scope e ≡ p = cc in ap (λ (x : Placed). in_expression x.scope x.expression) same
-numbered_uses scope position enum p None b is = cc
+-- the uses of an item that is a definition are those of what is written there
+abbrev in_placed : Placed → List Mention
+in_placed p = in_expression p.scope p.expression
 
-written_uses : (origin : Origin) (p : Placed) → written_in origin ≡ Some p → uses_in_basis (basis_of origin) ≡ in_expression p.scope p.expression
-written_uses (Constant scope e) p is = let same : placed scope e ≡ p = cc in ap (λ (x : Placed). in_expression x.scope x.expression) same
-written_uses (Enumerated scope enum position c) p is = numbered_uses scope position enum p c.value (list_all has_no_value enum.constants) is
-written_uses NoValue p is = cc
+abbrev uses_there : Origin → List Mention
+uses_there origin = in_optional in_placed (written_in origin)
+
+item_uses : (i : Item) (origin : Origin) → origins_of i ≡ origin ∷ [] → uses_of i ≡ uses_there origin
+item_uses (variant.Defined s) origin gives = with_value (value_in s.definition) ∙ ap uses_there (the_head gives)
+  where
+    with_value : (o : Option Expr) → in_optional (in_expression s.scope) o ≡ uses_there (origin_with s.scope o)
+    with_value None = refl
+    with_value (Some e) = refl
+item_uses (variant.Enumerated e) origin gives = with_value e.constant.value ∙ ap uses_there (the_head gives)
+  where
+    with_value : (o : Option Expr) → in_optional (in_expression e.scope) o ≡ in_optional in_placed (placed_optional e.scope o)
+    with_value None = refl
+    with_value (Some x) = refl
+item_uses (variant.Used since n) origin gives = cc
+item_uses (variant.Written since w) origin gives = cc
 
 -- where there is a use something is written
-numbered_written : (scope : Path) (position : ℕ) (o : Option Expr) (b : Bool) (i : ℕ) (m : Mention) → slice_get (uses_in_numbered (numbered scope b position o)) i ≡ Some m
-    → (p : Placed) × (placed_optional scope o ≡ Some p)
-numbered_written scope position (Some e) b i m at = (placed scope e, refl)
-numbered_written scope position None true i m at = cc
-numbered_written scope position None false i m at = cc
+uses_written : (o : Option Placed) (i : ℕ) (m : Mention) → slice_get (in_optional in_placed o) i ≡ Some m → (p : Placed) × (o ≡ Some p)
+uses_written (Some p) i m at = (p, refl)
+uses_written None i m at = cc
 
-uses_written : (origin : Origin) (i : ℕ) (m : Mention) → slice_get (uses_in_basis (basis_of origin)) i ≡ Some m → (p : Placed) × (written_in origin ≡ Some p)
-uses_written (Constant scope e) i m at = (placed scope e, refl)
-uses_written (Enumerated scope enum position c) i m at = numbered_written scope position c.value (list_all has_no_value enum.constants) i m at
-uses_written NoValue i m at = cc
+in_written : (o : Option Placed) (p : Placed) (i : ℕ) (m : Mention) → o ≡ Some p → slice_get (in_optional in_placed o) i ≡ Some m → slice_get (in_placed p) i ≡ Some m
+in_written o p i m is at = subst (λ (x : Option Placed). slice_get (in_optional in_placed x) i ≡ Some m) is at
 
-module _ (source : Source) (pieces : List Piece) (meanings : List ℕ) (parts : pieces ≡ in_source pieces_in source) (meant : AreMeanings (definitions source) (mentions source) meanings) where
-  the_uses : flat_map uses_in pieces ≡ mentions source
-  the_uses = ap (λ (ps : List Piece). flat_map uses_in ps) parts ∙ source_uses source
+mapped : (is : List Item) → flat_map places_of is ≡ map (λ (d : Definition). d.place) (flat_map definitions_of is)
+mapped [] = refl
+mapped (i ∷ is) =
+    ap (λ (ps : List Place). places_of i ++ ps) (mapped is) ∙ sym (map-append (λ (d : Definition). d.place) (definitions_of i) (flat_map definitions_of is))
 
-  the_bases : flat_map bases_in pieces ≡ map basis_of (origins source)
-  the_bases = ap (λ (ps : List Piece). flat_map bases_in ps) parts ∙ source_bases source ∙ flat_map_single basis_of (origins source)
+module _ (source : Source) (items : List Item) (meanings : List ℕ) (laid : items ≡ layout.items source) (meant : AreMeanings (definitions source) (mentions source) meanings) where
+  the_uses : flat_map uses_of items ≡ mentions source
+  the_uses = ap (λ (ps : List Item). flat_map uses_of ps) laid ∙ source_uses source
 
-  pub the_places : flat_map places_in pieces ≡ name_places source
-  the_places = ap (λ (ps : List Piece). flat_map places_in ps) parts ∙ source_places source
+  the_origins : flat_map origins_of items ≡ origins source
+  the_origins = ap (λ (ps : List Item). flat_map origins_of ps) laid ∙ source_origins source
 
-  the_spot : (number : ℕ) (origin : Origin) → slice_get (origins source) number ≡ Some origin → IsSpot pieces 0 (length meanings) 0 number (basis_of origin)
+  pub the_places : flat_map places_of items ≡ name_places source
+  the_places =
+      mapped items
+      ∙ ap (λ (ps : List Item). map (λ (d : Definition). d.place) (flat_map definitions_of ps)) laid
+      ∙ ap (λ (ds : List Definition). map (λ (d : Definition). d.place) ds) (source_definitions source)
+
+  the_spot : (number : ℕ) (origin : Origin) → slice_get (origins source) number ≡ Some origin → IsSpot items 0 (length meanings) 0 number origin
   the_spot number origin at =
       let each = meant.each in
-      let same : length (flat_map uses_in pieces) ≡ length (mentions source) = ap length the_uses in
-      spot_of pieces 0 (length meanings) 0 number (basis_of origin) (omega arith)
-      (ap (λ (bs : List Basis). slice_get bs number) the_bases ∙ slice_get-map basis_of (origins source) number ∙ ap (λ (o : Option Origin). option_map basis_of o) at)
+      let same : length (flat_map uses_of items) ≡ length (mentions source) = ap length the_uses in
+      spot_of items 0 (length meanings) 0 number origin (omega arith) (ap (λ (os : List Origin). slice_get os number) the_origins ∙ at)
 
   -- what the uses of a definition mean
-  meaning_at : (number : ℕ) (origin : Origin) (s : IsSpot pieces 0 (length meanings) 0 number (basis_of origin)) (i : ℕ) (m : Mention)
-      → slice_get (uses_in_basis (basis_of origin)) i ≡ Some m → slice_get (mentions source) (s.first + i) ≡ Some m
+  meaning_at : (number : ℕ) (origin : Origin) (s : IsSpot items 0 (length meanings) 0 number origin) (i : ℕ) (m : Mention)
+      → slice_get (uses_of s.item) i ≡ Some m → slice_get (mentions source) (s.first + i) ≡ Some m
   meaning_at number origin s i m there =
-      let whole : slice_get (flat_map uses_in pieces) (length (flat_map uses_in (take s.at pieces)) + i) ≡ Some m =
-      flat_at uses_in pieces s.at (piece.Defined s.place (basis_of origin)) i m s.part there in
+      let whole : slice_get (flat_map uses_of items) (length (flat_map uses_of (take s.at items)) + i) ≡ Some m =
+      flat_at uses_of items s.at s.item i m s.part there in
       let first = s.is_first in
-      let index : length (flat_map uses_in (take s.at pieces)) + i ≡ s.first + i = omega arith in
-      subst (λ (ms : List Mention). slice_get ms (s.first + i) ≡ Some m) the_uses (subst (λ (n : ℕ). slice_get (flat_map uses_in pieces) n ≡ Some m) index whole)
+      let index : length (flat_map uses_of (take s.at items)) + i ≡ s.first + i = omega arith in
+      subst (λ (ms : List Mention). slice_get ms (s.first + i) ≡ Some m) the_uses (subst (λ (n : ℕ). slice_get (flat_map uses_of items) n ≡ Some m) index whole)
 
-  pub all_given : (table : List (Option Measured)) → AreExact source table → AreGiven source table meanings (flat_map uses_in pieces) 0
-  all_given table exact = given_each source table meanings (flat_map uses_in pieces) 0 (λ i m at.
+  pub all_given : (table : List (Option Measured)) → AreExact source table → AreGiven source table meanings (flat_map uses_of items) 0
+  all_given table exact = given_each source table meanings (flat_map uses_of items) 0 (λ i m at.
       let there : slice_get (mentions source) i ≡ Some m = subst (λ (ms : List Mention). slice_get ms i ≡ Some m) the_uses at in
       let each = meant.each in
       let low : i < length (mentions source) = slice_get_within (mentions source) i m there in
@@ -104,35 +116,37 @@ module _ (source : Source) (pieces : List Piece) (meanings : List ℕ) (parts : 
         exact u.0 (slice_get_within (definitions source) u.0 means.meant.named.definition means.meant.named.here),
       ))
 
-  module _ (spans : List Stretch) (spanned : spans ≡ spans_from (length meanings) 0 pieces) where
-    count_bases : (ps : List Piece) (limit from : ℕ) → length (spans_from limit from ps) ≡ length (flat_map places_in ps)
-    count_bases [] limit from = refl
-    count_bases (piece.Kind m ∷ ps) limit from = count_bases ps limit (next_of limit from (piece.Kind m))
-    count_bases (piece.Loose w ∷ ps) limit from = count_bases ps limit (next_of limit from (piece.Loose w))
-    count_bases (piece.Defined place b ∷ ps) limit from = ap (λ (n : ℕ). suc n) (count_bases ps limit (next_of limit from (piece.Defined place b)))
+  module _ (spans : List Stretch) (spanned : spans ≡ spans_from (length meanings) 0 items) where
+    count_places : (ps : List Item) (limit from : ℕ) → length (spans_from limit from ps) ≡ length (flat_map places_of ps)
+    count_places [] limit from = refl
+    count_places (variant.Used since n ∷ ps) limit from = count_places ps limit (next_of limit from (variant.Used since n))
+    count_places (variant.Written since w ∷ ps) limit from = count_places ps limit (next_of limit from (variant.Written since w))
+    count_places (variant.Defined s ∷ ps) limit from = ap (λ (n : ℕ). suc n) (count_places ps limit (next_of limit from (variant.Defined s)))
+    count_places (variant.Enumerated e ∷ ps) limit from = ap (λ (n : ℕ). suc n) (count_places ps limit (next_of limit from (variant.Enumerated e)))
 
-    same_bases : (ps : List Piece) → length (flat_map places_in ps) ≡ length (flat_map bases_in ps)
-    same_bases [] = refl
-    same_bases (piece.Kind m ∷ ps) = same_bases ps
-    same_bases (piece.Loose w ∷ ps) = same_bases ps
-    same_bases (piece.Defined place b ∷ ps) = ap (λ (n : ℕ). suc n) (same_bases ps)
+    count_origins : (ps : List Item) → length (flat_map places_of ps) ≡ length (flat_map origins_of ps)
+    count_origins [] = refl
+    count_origins (variant.Used since n ∷ ps) = count_origins ps
+    count_origins (variant.Written since w ∷ ps) = count_origins ps
+    count_origins (variant.Defined s ∷ ps) = ap (λ (n : ℕ). suc n) (count_origins ps)
+    count_origins (variant.Enumerated e ∷ ps) = ap (λ (n : ℕ). suc n) (count_origins ps)
 
-    pub places_count : length spans ≡ length (flat_map places_in pieces)
-    places_count = ap (λ (xs : List Stretch). length xs) spanned ∙ count_bases pieces (length meanings) 0
+    pub places_count : length spans ≡ length (flat_map places_of items)
+    places_count = ap (λ (xs : List Stretch). length xs) spanned ∙ count_places items (length meanings) 0
 
     definitions_count : length spans ≡ length (definitions source)
     definitions_count = places_count ∙ ap (λ (xs : List Place). length xs) the_places ∙ length-map (definitions source) (λ d. d.place)
 
     origins_count : length spans ≡ length (origins source)
-    origins_count = places_count ∙ same_bases pieces ∙ ap (λ (bs : List Basis). length bs) the_bases ∙ length-map (origins source) basis_of
+    origins_count = places_count ∙ count_origins items ∙ ap (λ (os : List Origin). length os) the_origins
 
     there : (user used : ℕ) → Uses source user used → Edge spans meanings user used
     there user used u =
         let s = the_spot user u.origin u.here in
-        let same : uses_in_basis (basis_of u.origin) ≡ in_expression u.where_.scope u.where_.expression = written_uses u.origin u.where_ u.written in
+        let same : uses_of s.item ≡ in_expression u.where_.scope u.where_.expression = item_uses s.item u.origin s.gives ∙ ap (λ (o : Option Placed). in_optional in_placed o) u.written in
         let t = index_of (in_expression u.where_.scope u.where_.expression) u.mention u.mentioned in
-        let here : slice_get (uses_in_basis (basis_of u.origin)) t.0 ≡ Some u.mention = ap (λ (ms : List Mention). slice_get ms t.0) same ∙ t.1 in
-        let low : t.0 < length (uses_in_basis (basis_of u.origin)) = slice_get_within (uses_in_basis (basis_of u.origin)) t.0 u.mention here in
+        let here : slice_get (uses_of s.item) t.0 ≡ Some u.mention = ap (λ (ms : List Mention). slice_get ms t.0) same ∙ t.1 in
+        let low : t.0 < length (uses_of s.item) = slice_get_within (uses_of s.item) t.0 u.mention here in
         let at = meaning_at user u.origin s t.0 u.mention here in
         let each = meant.each in
         let below : s.first + t.0 < length (mentions source) = slice_get_within (mentions source) (s.first + t.0) u.mention at in
@@ -168,12 +182,13 @@ module _ (source : Source) (pieces : List Piece) (meanings : List ℕ) (parts : 
         let since = e.since in let before = e.before in let last = s.is_end in
         let i : ℕ = e.at - s.first in
         let index : s.first + i ≡ e.at = omega arith in
-        let m = item_below (uses_in_basis (basis_of o.0)) i (omega arith) in
+        let m = item_below (uses_of s.item) i (omega arith) in
         let at = meaning_at user o.0 s i m.0 m.1 in
         let target : slice_get meanings (s.first + i) ≡ Some used = subst (λ (n : ℕ). slice_get meanings n ≡ Some used) (sym index) e.target in
         let means = meant.meant (s.first + i) m.0 used at target in
-        let w = uses_written o.0 i m.0 m.1 in
-        let inside : slice_get (in_expression w.0.scope w.0.expression) i ≡ Some m.0 = ap (λ (ms : List Mention). slice_get ms i) (sym (written_uses o.0 w.0 w.1)) ∙ m.1 in
+        let those : slice_get (uses_there o.0) i ≡ Some m.0 = ap (λ (ms : List Mention). slice_get ms i) (sym (item_uses s.item o.0 s.gives)) ∙ m.1 in
+        let w = uses_written (written_in o.0) i m.0 those in
+        let inside : slice_get (in_expression w.0.scope w.0.expression) i ≡ Some m.0 = in_written (written_in o.0) w.0 i m.0 w.1 those in
         let grouped : m.0.group ≡ group.Value = value_names w.0.expression w.0.scope i m.0 inside in
         record {
           origin = o.0;

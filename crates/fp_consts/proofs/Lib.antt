@@ -8,11 +8,8 @@ pub mod Produced
 pub mod Gathering
 pub mod Sized
 pub mod Arms
-pub mod Flat
-pub mod Parted
 pub mod Grounded
 pub mod Marked
-pub mod Bases
 pub mod Reaching
 pub mod Places
 pub mod Stages
@@ -23,7 +20,7 @@ pub mod Steps
 pub mod Deepening
 pub mod Bridging
 pub mod Counted
-pub mod Based
+pub mod Valued
 pub mod Tabled
 pub mod Grouped
 pub mod Joined

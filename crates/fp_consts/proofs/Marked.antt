@@ -17,11 +17,11 @@ use Rattle.fp_meaning.specs.ConstantFaults.{BrokenIn}
 use Rattle.fp_base.proofs.Calculus.{least_none, least_same, least_along, least_either}
 use Rattle.fp_consts.specs.declared.measured.Measured.{Measured}
 use Rattle.fp_consts.specs.declared.found.Examination.{Examination}
-use Rattle.fp_consts.specs.declared.pieces.Piece.{Piece}
+use Rattle.fp_layout.specs.declared.item.Item.{Item}
 use Rattle.fp_consts.specs.declared.marking.Marking.{Marking}
 use Rattle.fp_consts.specs.Examined.{AreGiven, IsFound, Examines, plain}
-use Rattle.fp_consts.specs.Pieces.{uses_in, placed_in}
-use Rattle.fp_consts.specs.Marked.{AreValues, SomeBroken, AddsMarks, MarksExpression, MarksPiece, AddsFound, Counts, IsMarked, Marks}
+use Rattle.fp_layout.specs.Projections.{uses_of, expressions_of}
+use Rattle.fp_consts.specs.Marked.{AreValues, SomeBroken, AddsMarks, MarksExpression, MarksItem, AddsFound, Counts, IsMarked, Marks}
 use Rattle.fp_consts.proofs.Given.{given_split}
 use Rattle.fp_consts.proofs.Gathering.{stays, last_there}
 
@@ -96,55 +96,55 @@ module _ (source : Source) where
     next = refl;
   })
 
-  marked_more : (ps : List Piece) (p : Piece) (before after : Marking) → IsMarked source ps before → AddsMarks source (placed_in p) (uses_in p) before after
+  marked_more : (ps : List Item) (p : Item) (before after : Marking) → IsMarked source ps before → AddsMarks source (expressions_of p) (uses_of p) before after
       → IsMarked source (ps ++ p ∷ []) after
   marked_more ps p before after is adds =
-      let expressions : flat_map placed_in (ps ++ p ∷ []) ≡ flat_map placed_in ps ++ placed_in p =
-      flat_map-append placed_in ps (p ∷ []) ∙ ap (λ (xs : List Placed). flat_map placed_in ps ++ xs) (append-nil (placed_in p)) in
-      let uses : flat_map uses_in (ps ++ p ∷ []) ≡ flat_map uses_in ps ++ uses_in p =
-      flat_map-append uses_in ps (p ∷ []) ∙ ap (λ (xs : List Mention). flat_map uses_in ps ++ xs) (append-nil (uses_in p)) in
+      let expressions : flat_map expressions_of (ps ++ p ∷ []) ≡ flat_map expressions_of ps ++ expressions_of p =
+      flat_map-append expressions_of ps (p ∷ []) ∙ ap (λ (xs : List Placed). flat_map expressions_of ps ++ xs) (append-nil (expressions_of p)) in
+      let uses : flat_map uses_of (ps ++ p ∷ []) ≡ flat_map uses_of ps ++ uses_of p =
+      flat_map-append uses_of ps (p ∷ []) ∙ ap (λ (xs : List Mention). flat_map uses_of ps ++ xs) (append-nil (uses_of p)) in
       record {
-        values = subst (λ (xs : List Placed). AreValues source xs after.at) (sym expressions) (adds.values (flat_map placed_in ps) is.values);
-        first = subst (λ (xs : List Placed). IsLeast (SomeBroken source xs) after.first) (sym expressions) (adds.first (flat_map placed_in ps) is.first);
+        values = subst (λ (xs : List Placed). AreValues source xs after.at) (sym expressions) (adds.values (flat_map expressions_of ps) is.values);
+        first = subst (λ (xs : List Placed). IsLeast (SomeBroken source xs) after.first) (sym expressions) (adds.first (flat_map expressions_of ps) is.first);
         next =
-            let long = length-append (flat_map uses_in ps) (uses_in p) in
-            let whole : length (flat_map uses_in (ps ++ p ∷ [])) ≡ length (flat_map uses_in ps ++ uses_in p) = ap length uses in
+            let long = length-append (flat_map uses_of ps) (uses_of p) in
+            let whole : length (flat_map uses_of (ps ++ p ∷ [])) ≡ length (flat_map uses_of ps ++ uses_of p) = ap length uses in
             let one = adds.next in let other = is.next in omega arith;
       }
 
-  -- the uses of one of the parts are given where those of all are
-  pub piece_given : (table : List (Option Measured)) (numbers : List ℕ) (ps : List Piece) (k : ℕ) (p : Piece) (from : ℕ) → slice_get ps k ≡ Some p
-      → AreGiven source table numbers (flat_map uses_in ps) from → AreGiven source table numbers (uses_in p) (from + length (flat_map uses_in (take k ps)))
-  piece_given table numbers [] k p from at given = cc
-  piece_given table numbers (x ∷ ps) zero p from at given =
+  -- the uses of one of the items are given where those of all are
+  pub item_given : (table : List (Option Measured)) (numbers : List ℕ) (ps : List Item) (k : ℕ) (p : Item) (from : ℕ) → slice_get ps k ≡ Some p
+      → AreGiven source table numbers (flat_map uses_of ps) from → AreGiven source table numbers (uses_of p) (from + length (flat_map uses_of (take k ps)))
+  item_given table numbers [] k p from at given = cc
+  item_given table numbers (x ∷ ps) zero p from at given =
       let same : x ≡ p = cc in
-      subst (λ (y : Piece). AreGiven source table numbers (uses_in y) (from + 0)) same
-      (subst (λ (n : ℕ). AreGiven source table numbers (uses_in x) n) (omega arith) (given_split source table numbers (uses_in x) (flat_map uses_in ps) from given).0)
-  piece_given table numbers (x ∷ ps) (suc k) p from at given =
-      let rest = piece_given table numbers ps k p (from + length (uses_in x)) at (given_split source table numbers (uses_in x) (flat_map uses_in ps) from given).1 in
-      let long = length-append (uses_in x) (flat_map uses_in (take k ps)) in
-      let same : from + length (uses_in x) + length (flat_map uses_in (take k ps)) ≡ from + length (uses_in x ++ flat_map uses_in (take k ps)) = omega arith in
-      subst (λ (n : ℕ). AreGiven source table numbers (uses_in p) n) same rest
+      subst (λ (y : Item). AreGiven source table numbers (uses_of y) (from + 0)) same
+      (subst (λ (n : ℕ). AreGiven source table numbers (uses_of x) n) (omega arith) (given_split source table numbers (uses_of x) (flat_map uses_of ps) from given).0)
+  item_given table numbers (x ∷ ps) (suc k) p from at given =
+      let rest = item_given table numbers ps k p (from + length (uses_of x)) at (given_split source table numbers (uses_of x) (flat_map uses_of ps) from given).1 in
+      let long = length-append (uses_of x) (flat_map uses_of (take k ps)) in
+      let same : from + length (uses_of x) + length (flat_map uses_of (take k ps)) ≡ from + length (uses_of x ++ flat_map uses_of (take k ps)) = omega arith in
+      subst (λ (n : ℕ). AreGiven source table numbers (uses_of p) n) same rest
 
--- so many of the parts
-abbrev pub MarksFirst : List (Option Measured) → List ℕ → List Piece → ℕ → Marking → Type 0
-MarksFirst table numbers pieces k marking = (source : Source) → AreGiven source table numbers (flat_map uses_in pieces) 0 → IsMarked source (take k pieces) marking
+-- so many of the items
+abbrev pub MarksFirst : List (Option Measured) → List ℕ → List Item → ℕ → Marking → Type 0
+MarksFirst table numbers items k marking = (source : Source) → AreGiven source table numbers (flat_map uses_of items) 0 → IsMarked source (take k items) marking
 
-module _ (table : List (Option Measured)) (numbers : List ℕ) (pieces : List Piece) where
-  pub marks_none : (m : Marking) → m ≡ record { at = []; first = None; next = 0 } → MarksFirst table numbers pieces 0 m
+module _ (table : List (Option Measured)) (numbers : List ℕ) (items : List Item) where
+  pub marks_none : (m : Marking) → m ≡ record { at = []; first = None; next = 0 } → MarksFirst table numbers items 0 m
   marks_none m is source given = marked_none source m is
 
-  pub marks_next : (k : ℕ) (p : Piece) (before after : Marking) → slice_get pieces k ≡ Some p → MarksFirst table numbers pieces k before → MarksPiece table numbers p before after
-      → MarksFirst table numbers pieces (k + 1) after
+  pub marks_next : (k : ℕ) (p : Item) (before after : Marking) → slice_get items k ≡ Some p → MarksFirst table numbers items k before → MarksItem table numbers p before after
+      → MarksFirst table numbers items (k + 1) after
   marks_next k p before after at is adds source given =
       let so_far = is source given in
-      let here : AreGiven source table numbers (uses_in p) (0 + length (flat_map uses_in (take k pieces))) = piece_given source table numbers pieces k p 0 at given in
-      let same : 0 + length (flat_map uses_in (take k pieces)) ≡ before.next = let n = so_far.next in omega arith in
-      subst (λ (xs : List Piece). IsMarked source xs after) (sym (take_next pieces k p at))
-      (marked_more source (take k pieces) p before after so_far (adds source (subst (λ (n : ℕ). AreGiven source table numbers (uses_in p) n) same here)))
+      let here : AreGiven source table numbers (uses_of p) (0 + length (flat_map uses_of (take k items))) = item_given source table numbers items k p 0 at given in
+      let same : 0 + length (flat_map uses_of (take k items)) ≡ before.next = let n = so_far.next in omega arith in
+      subst (λ (xs : List Item). IsMarked source xs after) (sym (take_next items k p at))
+      (marked_more source (take k items) p before after so_far (adds source (subst (λ (n : ℕ). AreGiven source table numbers (uses_of p) n) same here)))
 
-  pub marks_all : (k : ℕ) (m : Marking) → length pieces ≤ k → MarksFirst table numbers pieces k m → Marks table numbers pieces m
-  marks_all k m past is source given = subst (λ (xs : List Piece). IsMarked source xs m) (take_all k pieces past) (is source given)
+  pub marks_all : (k : ℕ) (m : Marking) → length items ≤ k → MarksFirst table numbers items k m → Marks table numbers items m
+  marks_all k m past is source given = subst (λ (xs : List Item). IsMarked source xs m) (take_all k items past) (is source given)
 
 pub one_expression : (table : List (Option Measured)) (numbers : List ℕ) (e : Expr) (before : Marking) (found : Examination) (after : Marking)
     → Examines table numbers e before.next found → AddsFound before found after → MarksExpression table numbers e before after

@@ -1,6 +1,6 @@
 -- The leaves and levels of what is found.
 use Rattle.std.proofs.Common.{◌≡◌, ℕ, ◌+◌, ◌≤◌, ℤ, Bool, List, [], ◌∷◌, map, sum, Option, Some, None, option_map, refl, sym, ap, subst, ◌∙◌, arith}
-use Rattle.fp_base.specs.declared.value.Value.{Value, fold-Value, fold-roll-Value, Int, Bool as Truth, Text, Struct}
+use Rattle.fp_base.specs.declared.value.Value.{Value, fold-Value, fold-roll-Value, Int, Bool as Truth, Text, Enumerated, Struct}
 use Rattle.fp_base.specs.declared.value.Value.TheOpen as value
 use Rattle.fp_base.specs.declared.value.Value.TheVariants.{rolls-Struct}
 use Rattle.fp_base.specs.declared.value.Part.{Part, fold_out-Part, fold-Part}
@@ -10,7 +10,7 @@ use Rattle.fp_meaning.specs.Names.{Path}
 use Rattle.fp_meaning.specs.Values.{leaves, leaves_step, leaves_among, levels, levels_step, deepest, parts_with, values_in, Vals, more}
 use Rattle.fp_consts.specs.declared.measured.Measured.{Measured}
 use Rattle.fp_consts.specs.Examined.{IsMeasured, AreMeasured, plain, leaf_of, leaves_with}
-use Rattle.fp_consts.proofs.Sizes.{number_leaves, number_levels, text_leaves, text_levels, truth_leaves, truth_levels}
+use Rattle.fp_consts.proofs.Sizes.{number_leaves, number_levels, text_leaves, text_levels, truth_leaves, truth_levels, constant_leaves, constant_levels}
 
 -- a value without parts
 pub leaf_measured : (v : Value) → leaves v ≡ 1 → levels v ≡ 1 → IsMeasured (leaf_of v)
@@ -28,6 +28,9 @@ text_measured t = leaf_measured (Text t) (text_leaves t) (text_levels t)
 
 pub truth_measured : (b : Bool) → IsMeasured (leaf_of (Truth b))
 truth_measured b = leaf_measured (Truth b) (truth_leaves b) (truth_levels b)
+
+pub constant_measured : (of name : List ℕ) (n : ℤ) → IsMeasured (leaf_of (Enumerated of name n))
+constant_measured of name n = leaf_measured (Enumerated of name n) (constant_leaves of name n) (constant_levels of name n)
 
 pub some_measured : (m : Measured) → IsMeasured m → AreMeasured (Some m)
 some_measured m is other e = let same : m ≡ other = cc in subst (λ (x : Measured). IsMeasured x) same is

@@ -1,8 +1,8 @@
 -- The leaves and levels of values.
 use Rattle.std.proofs.Common.{◌≡◌, ℕ, ◌+◌, ℤ, Bool, List, map, sym, ap, ◌∙◌}
-use Rattle.fp_base.specs.declared.value.Value.{Value, fold-roll-Value, Int, Bool as Truth, Text, Array}
+use Rattle.fp_base.specs.declared.value.Value.{Value, fold-roll-Value, Int, Bool as Truth, Text, Enumerated, Array}
 use Rattle.fp_base.specs.declared.value.Value.TheOpen as value
-use Rattle.fp_base.specs.declared.value.Value.TheVariants.{rolls-Int, rolls-Text, rolls-Bool, rolls-Array}
+use Rattle.fp_base.specs.declared.value.Value.TheVariants.{rolls-Int, rolls-Text, rolls-Bool, rolls-Enumerated, rolls-Array}
 use Rattle.fp_meaning.specs.Values.{leaves, leaves_step, leaves_among, levels, levels_step, deepest}
 
 abbrev part_step : value.Part-F ℕ ℕ → ℕ
@@ -25,6 +25,12 @@ truth_leaves b = ap leaves (sym (rolls-Bool b)) ∙ fold-roll-Value ℕ ℕ leav
 
 pub truth_levels : (b : Bool) → levels (Truth b) ≡ 1
 truth_levels b = ap levels (sym (rolls-Bool b)) ∙ fold-roll-Value ℕ ℕ levels_step part_step (value.Bool b)
+
+pub constant_leaves : (of name : List ℕ) (n : ℤ) → leaves (Enumerated of name n) ≡ 1
+constant_leaves of name n = ap leaves (sym (rolls-Enumerated of name n)) ∙ fold-roll-Value ℕ ℕ leaves_step part_step (value.Enumerated of name n)
+
+pub constant_levels : (of name : List ℕ) (n : ℤ) → levels (Enumerated of name n) ≡ 1
+constant_levels of name n = ap levels (sym (rolls-Enumerated of name n)) ∙ fold-roll-Value ℕ ℕ levels_step part_step (value.Enumerated of name n)
 
 pub array_leaves : (vs : List Value) → leaves (Array vs) ≡ leaves_among (map leaves vs)
 array_leaves vs = ap leaves (sym (rolls-Array vs)) ∙ fold-roll-Value ℕ ℕ leaves_step part_step (value.Array vs)

@@ -1,32 +1,28 @@
 -- The definitions of a source in an order in which each stands behind those that it uses, evaluated one after another.
-use Rattle.std.proofs.Common.{◌≡◌, ℕ, zero, suc, ◌+◌, ◌<◌, ◌≤◌, ◌⊎◌, Bool, true, false, List, [], ◌∷◌, ◌++◌, length, flat_map, map, slice_get, take, set, Option, Some, option_map, refl, inl, inr, sym, ap, subst, ◌∙◌, arith, length-append}
-use Rattle.std.proofs.lemmas.List.{length-map}
-use Rattle.std.proofs.lemmas.List.Concat.{flat_map_single}
-use Rattle.std.proofs.lemmas.Option.{slice_get_within, slice_get-map}
+use Rattle.std.proofs.Common.{◌≡◌, ℕ, zero, suc, ◌+◌, ◌<◌, ◌≤◌, ◌⊎◌, Bool, true, false, List, [], ◌∷◌, ◌++◌, length, flat_map, slice_get, take, set, Option, Some, None, refl, inl, inr, sym, ap, subst, ◌∙◌, arith, length-append}
+use Rattle.std.proofs.lemmas.Option.{slice_get_within}
 use Rattle.fp_base.proofs.Lists.{get_front}
-use Rattle.fp_base.specs.declared.place.Place.{Place}
 use Rattle.fp_tree.specs.declared.source.Source.{Source}
 use Rattle.fp_meaning.specs.declared.names.Mention.{Mention}
 use Rattle.fp_meaning.specs.Meaning.{Means}
 use Rattle.fp_meaning.specs.Names.{definitions, mentions}
 use Rattle.fp_meaning.specs.Origins.{Origin, origins}
+use Rattle.fp_layout.specs.declared.item.Item.{Item}
+use Rattle.fp_layout.specs.declared.item.Item.TheVariants as variant
+use Rattle.fp_layout.specs.Projections.{origins_of, uses_of}
+use Rattle.fp_layout.proofs.Projected.{source_origins, source_uses}
 use Rattle.fp_consts.specs.declared.measured.Measured.{Measured}
 use Rattle.fp_consts.specs.declared.stretch.Stretch.{Stretch}
-use Rattle.fp_consts.specs.declared.pieces.Basis.{Basis}
-use Rattle.fp_consts.specs.declared.pieces.Piece.{Piece}
-use Rattle.fp_consts.specs.declared.pieces.Piece.TheVariants as piece
 use Rattle.fp_consts.specs.Examined.{AreGiven, IsExact, value_at, entry}
 use Rattle.fp_consts.specs.Graph.{Edge, IsCyclic, IsSorted}
 use Rattle.fp_consts.specs.Laid.{past, next_of, spans_from, spots_from}
-use Rattle.fp_consts.specs.Pieces.{uses_in, uses_in_basis, bases_in}
-use Rattle.fp_consts.specs.Settled.{basis_of}
+use Rattle.fp_consts.specs.Settled.{Settles}
 use Rattle.fp_consts.specs.Tabled.{IsLaidOut, IsDefined, AreExact, AreExactFirst}
-use Rattle.fp_consts.proofs.Based.{settled_exact}
 use Rattle.fp_consts.proofs.Bridging.{on_cycle_from}
 use Rattle.fp_consts.proofs.Grounded.{none_on_cycle}
 use Rattle.fp_consts.proofs.Measures.{none_measured}
-use Rattle.fp_consts.proofs.Parted.{source_uses, source_bases}
 use Rattle.fp_consts.proofs.Places.{get_right, item_below, get_set_same, get_set_other, same_or_other, before_or_not}
+use Rattle.fp_consts.proofs.Valued.{settled_exact}
 
 -- what an element gives stands in what all give
 pub flat_at : {A B : Type 0} (f : A → List B) (xs : List A) (k : ℕ) (x : A) (i : ℕ) (y : B) → slice_get xs k ≡ Some x → slice_get (f x) i ≡ Some y
@@ -42,39 +38,41 @@ flat_at f (z ∷ xs) (suc k) x i y at there =
     let index : length (f z ++ flat_map f (take k xs)) + i ≡ length (f z) + (length (flat_map f (take k xs)) + i) = omega arith in
     get_right (f z) (flat_map f xs) y (length (f z ++ flat_map f (take k xs)) + i) (length (flat_map f (take k xs)) + i) index (flat_at f xs k x i y at there)
 
--- the part that is the definition with a number, from a part on that has an index and whose first use has a number
-pub record IsSpot (ps : List Piece) (index limit from number : ℕ) (b : Basis) : Type 0 where
+-- the item that is the definition with a number, from an item on that has an index and whose first use has a number
+pub record IsSpot (ps : List Item) (index limit from number : ℕ) (origin : Origin) : Type 0 where
   pub at : ℕ
-  pub place : Place
+  pub item : Item
+  pub gives : origins_of item ≡ origin ∷ []
   pub spot : slice_get (spots_from index ps) number ≡ Some (index + at)
-  pub part : slice_get ps at ≡ Some (piece.Defined place b)
+  pub part : slice_get ps at ≡ Some item
   pub first : ℕ
   pub end : ℕ
   pub span : slice_get (spans_from limit from ps) number ≡ Some (record { first = first; end = end })
-  pub is_first : first ≡ from + length (flat_map uses_in (take at ps))
-  pub is_end : end ≡ first + length (uses_in_basis b)
+  pub is_first : first ≡ from + length (flat_map uses_of (take at ps))
+  pub is_end : end ≡ first + length (uses_of item)
 
 past_within : (n limit from : ℕ) → from + n ≤ limit → past n limit from ≡ from + n
 past_within n limit from h = omega arith
 
--- one part further on
-further : (p : Piece) (ps : List Piece) (index limit from number earlier : ℕ) (b : Basis) → from + length (uses_in p) ≤ limit
+-- one item further on
+further : (p : Item) (ps : List Item) (index limit from number earlier : ℕ) (origin : Origin) → from + length (uses_of p) ≤ limit
     → slice_get (spots_from index (p ∷ ps)) number ≡ slice_get (spots_from (suc index) ps) earlier
     → slice_get (spans_from limit from (p ∷ ps)) number ≡ slice_get (spans_from limit (next_of limit from p) ps) earlier
-    → IsSpot ps (suc index) limit (from + length (uses_in p)) earlier b → IsSpot (p ∷ ps) index limit from number b
-further p ps index limit from number earlier b fits spots spans is = record {
+    → IsSpot ps (suc index) limit (from + length (uses_of p)) earlier origin → IsSpot (p ∷ ps) index limit from number origin
+further p ps index limit from number earlier origin fits spots spans is = record {
   at = suc is.at;
-  place = is.place;
+  item = is.item;
+  gives = is.gives;
   spot = spots ∙ is.spot ∙ ap (λ (n : ℕ). Some n) (moved index is.at);
   part = is.part;
   first = is.first;
   end = is.end;
   span =
-      spans ∙ ap (λ (n : ℕ). slice_get (spans_from limit n ps) earlier) (past_within (length (uses_in p)) limit from fits) ∙ is.span;
+      spans ∙ ap (λ (n : ℕ). slice_get (spans_from limit n ps) earlier) (past_within (length (uses_of p)) limit from fits) ∙ is.span;
   is_first =
-      let long = length-append (uses_in p) (flat_map uses_in (take is.at ps)) in
+      let long = length-append (uses_of p) (flat_map uses_of (take is.at ps)) in
       let before = is.is_first in
-      let same : is.first ≡ from + length (uses_in p ++ flat_map uses_in (take is.at ps)) = omega arith in
+      let same : is.first ≡ from + length (uses_of p ++ flat_map uses_of (take is.at ps)) = omega arith in
       same;
   is_end = is.is_end;
 }
@@ -82,40 +80,53 @@ further p ps index limit from number earlier b fits spots spans is = record {
     moved : (m n : ℕ) → suc m + n ≡ m + suc n
     moved m n = omega arith
 
-within_all : (p : Piece) (ps : List Piece) (from limit : ℕ) → from + length (uses_in p ++ flat_map uses_in ps) ≤ limit
-    → (from + length (uses_in p) ≤ limit) × (from + length (uses_in p) + length (flat_map uses_in ps) ≤ limit)
-within_all p ps from limit h = let long = length-append (uses_in p) (flat_map uses_in ps) in (omega arith, omega arith)
-
-pub spot_of : (ps : List Piece) (index limit from number : ℕ) (b : Basis) → from + length (flat_map uses_in ps) ≤ limit → slice_get (flat_map bases_in ps) number ≡ Some b
-    → IsSpot ps index limit from number b
-spot_of [] index limit from number b fits at = cc
-spot_of (piece.Kind m ∷ ps) index limit from number b fits at =
-    let t = within_all (piece.Kind m) ps from limit fits in
-    further (piece.Kind m) ps index limit from number number b t.0 refl refl (spot_of ps (suc index) limit (from + length (uses_in (piece.Kind m))) number b t.1 at)
-spot_of (piece.Loose w ∷ ps) index limit from number b fits at =
-    let t = within_all (piece.Loose w) ps from limit fits in
-    further (piece.Loose w) ps index limit from number number b t.0 refl refl (spot_of ps (suc index) limit (from + length (uses_in (piece.Loose w))) number b t.1 at)
-spot_of (piece.Defined place basis ∷ ps) index limit from (suc number) b fits at =
-    let t = within_all (piece.Defined place basis) ps from limit fits in
-    further (piece.Defined place basis) ps index limit from (suc number) number b t.0 refl refl
-    (spot_of ps (suc index) limit (from + length (uses_in (piece.Defined place basis))) number b t.1 at)
-spot_of (piece.Defined place basis ∷ ps) index limit from zero b fits at =
-    let t = within_all (piece.Defined place basis) ps from limit fits in
-    let same : basis ≡ b = cc in
-    subst (λ (x : Basis). IsSpot (piece.Defined place basis ∷ ps) index limit from zero x) same (record {
-      at = 0;
-      place = place;
-      spot = ap (λ (n : ℕ). Some n) (plus_none index);
-      part = refl;
-      first = from;
-      end = from + length (uses_in_basis basis);
-      span = ap (λ (n : ℕ). Some (record { first = from; end = n })) (past_within (length (uses_in_basis basis)) limit from t.0);
-      is_first = plus_none from;
-      is_end = refl;
-    })
+-- or this one
+here : (p : Item) (ps : List Item) (index limit from : ℕ) (origin : Origin) → from + length (uses_of p) ≤ limit
+    → slice_get (spots_from index (p ∷ ps)) 0 ≡ Some index
+    → slice_get (spans_from limit from (p ∷ ps)) 0 ≡ Some (record { first = from; end = next_of limit from p })
+    → origins_of p ≡ origin ∷ [] → IsSpot (p ∷ ps) index limit from 0 origin
+here p ps index limit from origin fits spot span gives = record {
+  at = 0;
+  item = p;
+  gives = gives;
+  spot = spot ∙ ap (λ (n : ℕ). Some n) (plus_none index);
+  part = refl;
+  first = from;
+  end = from + length (uses_of p);
+  span = span ∙ ap (λ (n : ℕ). Some (record { first = from; end = n })) (past_within (length (uses_of p)) limit from fits);
+  is_first = plus_none from;
+  is_end = refl;
+}
   where
     plus_none : (n : ℕ) → n ≡ n + 0
     plus_none n = omega arith
+
+within_all : (p : Item) (ps : List Item) (from limit : ℕ) → from + length (uses_of p ++ flat_map uses_of ps) ≤ limit
+    → (from + length (uses_of p) ≤ limit) × (from + length (uses_of p) + length (flat_map uses_of ps) ≤ limit)
+within_all p ps from limit h = let long = length-append (uses_of p) (flat_map uses_of ps) in (omega arith, omega arith)
+
+alone : {x y : Origin} → Some x ≡ Some y → x ∷ [] ≡ y ∷ []
+alone e = cc
+
+pub spot_of : (ps : List Item) (index limit from number : ℕ) (origin : Origin) → from + length (flat_map uses_of ps) ≤ limit → slice_get (flat_map origins_of ps) number ≡ Some origin
+    → IsSpot ps index limit from number origin
+spot_of [] index limit from number origin fits at = cc
+spot_of (variant.Used since n ∷ ps) index limit from number origin fits at =
+    let t = within_all (variant.Used since n) ps from limit fits in
+    further (variant.Used since n) ps index limit from number number origin t.0 refl refl (spot_of ps (suc index) limit (from + length (uses_of (variant.Used since n))) number origin t.1 at)
+spot_of (variant.Written since w ∷ ps) index limit from number origin fits at =
+    let t = within_all (variant.Written since w) ps from limit fits in
+    further (variant.Written since w) ps index limit from number number origin t.0 refl refl (spot_of ps (suc index) limit (from + length (uses_of (variant.Written since w))) number origin t.1 at)
+spot_of (variant.Defined s ∷ ps) index limit from zero origin fits at =
+    here (variant.Defined s) ps index limit from origin (within_all (variant.Defined s) ps from limit fits).0 refl refl (alone at)
+spot_of (variant.Defined s ∷ ps) index limit from (suc number) origin fits at =
+    let t = within_all (variant.Defined s) ps from limit fits in
+    further (variant.Defined s) ps index limit from (suc number) number origin t.0 refl refl (spot_of ps (suc index) limit (from + length (uses_of (variant.Defined s))) number origin t.1 at)
+spot_of (variant.Enumerated e ∷ ps) index limit from zero origin fits at =
+    here (variant.Enumerated e) ps index limit from origin (within_all (variant.Enumerated e) ps from limit fits).0 refl refl (alone at)
+spot_of (variant.Enumerated e ∷ ps) index limit from (suc number) origin fits at =
+    let t = within_all (variant.Enumerated e) ps from limit fits in
+    further (variant.Enumerated e) ps index limit from (suc number) number origin t.0 refl refl (spot_of ps (suc index) limit (from + length (uses_of (variant.Enumerated e))) number origin t.1 at)
 
 -- uses are given where each is
 pub given_each : (source : Source) (table : List (Option Measured)) (numbers : List ℕ) (ms : List Mention) (from : ℕ)
@@ -145,35 +156,31 @@ value_same table number o h = ap entry (get_set_same table number o h)
 value_other : (table : List (Option Measured)) (number other : ℕ) (o : Option Measured) → (other ≡ number → ⊥) → value_at (set table number o) other ≡ value_at table other
 value_other table number other o apart = ap entry (get_set_other table number other o apart)
 
-module _ (source : Source) (pieces : List Piece) (spans : List Stretch) (spots meanings order : List ℕ) (cyclic : List Bool) (out : IsLaidOut source pieces spans spots meanings)
+module _ (source : Source) (items : List Item) (spans : List Stretch) (spots meanings order : List ℕ) (cyclic : List Bool) (out : IsLaidOut source items spans spots meanings)
     (sorted : IsSorted spans meanings order cyclic) where
-  all_uses : flat_map uses_in pieces ≡ mentions source
-  all_uses = ap (λ (ps : List Piece). flat_map uses_in ps) out.parts ∙ source_uses source
+  all_uses : flat_map uses_of items ≡ mentions source
+  all_uses = ap (λ (ps : List Item). flat_map uses_of ps) out.laid ∙ source_uses source
 
-  all_bases : flat_map bases_in pieces ≡ map basis_of (origins source)
-  all_bases = ap (λ (ps : List Piece). flat_map bases_in ps) out.parts ∙ source_bases source ∙ flat_map_single basis_of (origins source)
+  all_origins : flat_map origins_of items ≡ origins source
+  all_origins = ap (λ (ps : List Item). flat_map origins_of ps) out.laid ∙ source_origins source
 
-  basis_at : (number : ℕ) (origin : Origin) → slice_get (origins source) number ≡ Some origin → slice_get (flat_map bases_in pieces) number ≡ Some (basis_of origin)
-  basis_at number origin at =
-      ap (λ (bs : List Basis). slice_get bs number) all_bases ∙ slice_get-map basis_of (origins source) number ∙ ap (λ (o : Option Origin). option_map basis_of o) at
-
-  spot_at : (number : ℕ) (b : Basis) → slice_get (flat_map bases_in pieces) number ≡ Some b → IsSpot pieces 0 (length meanings) 0 number b
-  spot_at number b at =
+  spot_at : (number : ℕ) (origin : Origin) → slice_get (origins source) number ≡ Some origin → IsSpot items 0 (length meanings) 0 number origin
+  spot_at number origin at =
       let each = out.meant.each in
-      let same : length (flat_map uses_in pieces) ≡ length (mentions source) = ap length all_uses in
-      spot_of pieces 0 (length meanings) 0 number b (omega arith) at
+      let same : length (flat_map uses_of items) ≡ length (mentions source) = ap length all_uses in
+      spot_of items 0 (length meanings) 0 number origin (omega arith) (ap (λ (os : List Origin). slice_get os number) all_origins ∙ at)
 
   -- what a use of a definition means
-  use_given : (table : List (Option Measured)) (k number : ℕ) (b : Basis) (s : IsSpot pieces 0 (length meanings) 0 number b) → slice_get order k ≡ Some number
-      → (IsCyclic spans meanings number → ⊥) → AreExactFirst source order k table → (i : ℕ) (m : Mention) → slice_get (uses_in_basis b) i ≡ Some m
+  use_given : (table : List (Option Measured)) (k number : ℕ) (origin : Origin) (s : IsSpot items 0 (length meanings) 0 number origin) → slice_get order k ≡ Some number
+      → (IsCyclic spans meanings number → ⊥) → AreExactFirst source order k table → (i : ℕ) (m : Mention) → slice_get (uses_of s.item) i ≡ Some m
       → (used : ℕ) × (slice_get meanings (s.first + i) ≡ Some used) × Means (definitions source) m.scope m.name m.group used × IsExact source used (value_at table used)
-  use_given table k number b s at off exact i m there =
-      let low : i < length (uses_in_basis b) = slice_get_within (uses_in_basis b) i m there in
-      let whole : slice_get (flat_map uses_in pieces) (length (flat_map uses_in (take s.at pieces)) + i) ≡ Some m = flat_at uses_in pieces s.at (piece.Defined s.place b) i m s.part there in
+  use_given table k number origin s at off exact i m there =
+      let low : i < length (uses_of s.item) = slice_get_within (uses_of s.item) i m there in
+      let whole : slice_get (flat_map uses_of items) (length (flat_map uses_of (take s.at items)) + i) ≡ Some m = flat_at uses_of items s.at s.item i m s.part there in
       let first = s.is_first in
-      let index : length (flat_map uses_in (take s.at pieces)) + i ≡ s.first + i = omega arith in
+      let index : length (flat_map uses_of (take s.at items)) + i ≡ s.first + i = omega arith in
       let mentioned : slice_get (mentions source) (s.first + i) ≡ Some m =
-      subst (λ (ms : List Mention). slice_get ms (s.first + i) ≡ Some m) all_uses (subst (λ (n : ℕ). slice_get (flat_map uses_in pieces) n ≡ Some m) index whole) in
+      subst (λ (ms : List Mention). slice_get ms (s.first + i) ≡ Some m) all_uses (subst (λ (n : ℕ). slice_get (flat_map uses_of items) n ≡ Some m) index whole) in
       let each = out.meant.each in
       let below : s.first + i < length (mentions source) = slice_get_within (mentions source) (s.first + i) m mentioned in
       let u = item_below meanings (s.first + i) (omega arith) in
@@ -195,7 +202,7 @@ module _ (source : Source) (pieces : List Piece) (spans : List Stretch) (spots m
 
   -- one definition more
   exact_here : (table : List (Option Measured)) (k number : ℕ) (o : Option Measured) (origin : Origin) → slice_get (origins source) number ≡ Some origin → slice_get order k ≡ Some number
-      → AreExactFirst source order k table → IsDefined pieces spans spots meanings cyclic table number o → (flag : Bool) → slice_get cyclic number ≡ Some flag → IsExact source number o
+      → AreExactFirst source order k table → IsDefined items spans spots meanings cyclic table number o → (flag : Bool) → slice_get cyclic number ≡ Some flag → IsExact source number o
   exact_here table k number o origin there at exact is true flagged =
       let none = is.on_cycle flagged in
       let cycle = sorted.exact number true flagged in
@@ -206,30 +213,30 @@ module _ (source : Source) (pieces : List Piece) (spans : List Stretch) (spots m
       })
   exact_here table k number o origin there at exact is false flagged =
       let off = sorted.exact number false flagged in
-      let s = spot_at number (basis_of origin) (basis_at number origin there) in
-      let settles = is.off_cycle (0 + s.at) (record { first = s.first; end = s.end }) s.place (basis_of origin) flagged
+      let s = spot_at number origin there in
+      let settles = is.off_cycle (0 + s.at) (record { first = s.first; end = s.end }) s.item flagged
       (ap (λ (xs : List ℕ). slice_get xs number) out.spotted ∙ s.spot)
       (ap (λ (xs : List Stretch). slice_get xs number) out.spanned ∙ s.span)
-      (subst (λ (n : ℕ). slice_get pieces n ≡ Some (piece.Defined s.place (basis_of origin))) (none_more s.at) s.part) in
+      (subst (λ (n : ℕ). slice_get items n ≡ Some s.item) (none_more s.at) s.part) in
       settled_exact source number origin o there
-      (settles source (given_each source table meanings (uses_in_basis (basis_of origin)) s.first (use_given table k number (basis_of origin) s at off exact)))
+      (settles source origin s.gives (given_each source table meanings (uses_of s.item) s.first (use_given table k number origin s at off exact)))
     where
       none_more : (n : ℕ) → n ≡ 0 + n
       none_more n = omega arith
 
-  spans_length : (ps : List Piece) (limit from : ℕ) → length (spans_from limit from ps) ≡ length (flat_map bases_in ps)
+  spans_length : (ps : List Item) (limit from : ℕ) → length (spans_from limit from ps) ≡ length (flat_map origins_of ps)
   spans_length [] limit from = refl
-  spans_length (piece.Kind m ∷ ps) limit from = spans_length ps limit (next_of limit from (piece.Kind m))
-  spans_length (piece.Loose w ∷ ps) limit from = spans_length ps limit (next_of limit from (piece.Loose w))
-  spans_length (piece.Defined place b ∷ ps) limit from = ap (λ (n : ℕ). suc n) (spans_length ps limit (next_of limit from (piece.Defined place b)))
+  spans_length (variant.Used since n ∷ ps) limit from = spans_length ps limit (next_of limit from (variant.Used since n))
+  spans_length (variant.Written since w ∷ ps) limit from = spans_length ps limit (next_of limit from (variant.Written since w))
+  spans_length (variant.Defined s ∷ ps) limit from = ap (λ (n : ℕ). suc n) (spans_length ps limit (next_of limit from (variant.Defined s)))
+  spans_length (variant.Enumerated e ∷ ps) limit from = ap (λ (n : ℕ). suc n) (spans_length ps limit (next_of limit from (variant.Enumerated e)))
 
   origins_length : length spans ≡ length (origins source)
   origins_length =
-      ap (λ (xs : List Stretch). length xs) out.spanned ∙ spans_length pieces (length meanings) 0 ∙ ap (λ (bs : List Basis). length bs) all_bases
-      ∙ length-map (origins source) basis_of
+      ap (λ (xs : List Stretch). length xs) out.spanned ∙ spans_length items (length meanings) 0 ∙ ap (λ (os : List Origin). length os) all_origins
 
   exact_of : (table : List (Option Measured)) (k number : ℕ) (o : Option Measured) → slice_get order k ≡ Some number
-      → AreExactFirst source order k table → IsDefined pieces spans spots meanings cyclic table number o → IsExact source number o
+      → AreExactFirst source order k table → IsDefined items spans spots meanings cyclic table number o → IsExact source number o
   exact_of table k number o at exact is =
       let low = sorted.within k number at in
       let same = origins_length in
@@ -239,7 +246,7 @@ module _ (source : Source) (pieces : List Piece) (spans : List Stretch) (spots m
       exact_here table k number o origin.0 origin.1 at exact is flag.0 flag.1
 
   pub exact_next : (table : List (Option Measured)) (k number : ℕ) (o : Option Measured) → slice_get order k ≡ Some number → number < length table
-      → AreExactFirst source order k table → IsDefined pieces spans spots meanings cyclic table number o → AreExactFirst source order (k + 1) (set table number o)
+      → AreExactFirst source order k table → IsDefined items spans spots meanings cyclic table number o → AreExactFirst source order (k + 1) (set table number o)
   exact_next table k number o at low exact is j other before there = go (same_or_other other number) (before_or_not j k)
     where
       new : IsExact source number o
@@ -267,3 +274,23 @@ module _ (source : Source) (pieces : List Piece) (spans : List Stretch) (spots m
 
 pub exact_none : (source : Source) (order : List ℕ) (table : List (Option Measured)) → AreExactFirst source order 0 table
 exact_none source order table j number before at = absurd (omega arith)
+
+-- what is settled of the item in its place
+module _ (items : List Item) (spans : List Stretch) (spots meanings : List ℕ) (cyclic : List Bool) (table : List (Option Measured)) (number spot : ℕ) (off : slice_get cyclic number ≡ Some false)
+    (spotted : Some spot ≡ slice_get spots number) where
+  pub defined_there : (span : Stretch) (item : Item) (o : Option Measured) → Some span ≡ slice_get spans number → Some item ≡ slice_get items spot
+      → Settles table meanings item span.first o → IsDefined items spans spots meanings cyclic table number o
+  defined_there span item o spanned part settles = record {
+    on_cycle = λ flagged. absurd (cc);
+    off_cycle = λ s p i flagged at there here.
+        let same : spot ≡ s = cc in
+        let span_same : span ≡ p = cc in
+        let item_same : item ≡ i = cc in
+        subst (λ (x : Item). Settles table meanings x p.first o) item_same (subst (λ (y : Stretch). Settles table meanings item y.first o) span_same settles);
+  }
+
+  pub defined_nowhere : None ≡ slice_get items spot → IsDefined items spans spots meanings cyclic table number None
+  defined_nowhere none = record {
+    on_cycle = λ flagged. refl;
+    off_cycle = λ s p i flagged at there here. let same : spot ≡ s = cc in absurd (cc);
+  }

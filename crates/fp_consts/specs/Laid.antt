@@ -1,11 +1,12 @@
--- For each definition of a source that is laid out flat, where its uses stand among all uses, and which part it is.
-use Rattle.std.specs.Prelude.{◌≡◌, ℕ, suc, ◌+◌, min, max, List, [], ◌∷◌, ◌++◌, length}
+-- For each definition of a source that is laid out flat, where its uses stand among all uses, which item it is, and where its name stands.
+use Rattle.std.specs.Prelude.{◌≡◌, ℕ, suc, ◌+◌, min, max, List, [], ◌∷◌, ◌++◌, length, map}
+use Rattle.fp_base.specs.declared.place.Place.{Place}
+use Rattle.fp_meaning.specs.declared.names.Definition.{Definition}
 use Rattle.fp_meaning.specs.declared.names.Mention.{Mention}
+use Rattle.fp_layout.specs.declared.item.Item.{Item}
+use Rattle.fp_layout.specs.Projections.{definitions_of, uses_of}
 use Rattle.fp_consts.specs.declared.stretch.Stretch.{Stretch}
-use Rattle.fp_consts.specs.declared.pieces.Piece.{Piece}
-use Rattle.fp_consts.specs.declared.pieces.Piece.TheVariants as piece
 use Rattle.fp_consts.specs.declared.laying.Laid.{Laid}
-use Rattle.fp_consts.specs.Pieces.{uses_in, places_in}
 
 -- so many uses on, as far as there are uses
 abbrev pub past : ℕ → ℕ → ℕ → ℕ
@@ -14,27 +15,32 @@ past n limit next = max next (min (next + n) limit)
 abbrev pub IsPast : List Mention → ℕ → ℕ → ℕ → Type 0
 IsPast ms limit next reached = reached ≡ past (length ms) limit next
 
-abbrev pub next_of : ℕ → ℕ → Piece → ℕ
-next_of limit next p = past (length (uses_in p)) limit next
+abbrev pub next_of : ℕ → ℕ → Item → ℕ
+next_of limit next i = past (length (uses_of i)) limit next
 
-abbrev pub spans_of : ℕ → ℕ → Piece → List Stretch
-spans_of limit next (piece.Defined place b) = record { first = next; end = next_of limit next (piece.Defined place b) } ∷ []
-spans_of limit next _ = []
+abbrev pub stretch : ℕ → ℕ → Stretch
+stretch from to = record { first = from; end = to }
 
-abbrev pub spans_from : ℕ → ℕ → List Piece → List Stretch
+-- for each definition that an item is
+abbrev pub spans_of : ℕ → ℕ → Item → List Stretch
+spans_of limit next i = map (λ (d : Definition). stretch next (next_of limit next i)) (definitions_of i)
+
+abbrev pub spans_from : ℕ → ℕ → List Item → List Stretch
 spans_from limit next [] = []
-spans_from limit next (p ∷ ps) = spans_of limit next p ++ spans_from limit (next_of limit next p) ps
+spans_from limit next (i ∷ is) = spans_of limit next i ++ spans_from limit (next_of limit next i) is
 
-abbrev pub spots_of : ℕ → Piece → List ℕ
-spots_of index (piece.Defined place b) = index ∷ []
-spots_of index _ = []
+abbrev pub spots_of : ℕ → Item → List ℕ
+spots_of index i = map (λ (d : Definition). index) (definitions_of i)
 
-abbrev pub spots_from : ℕ → List Piece → List ℕ
+abbrev pub spots_from : ℕ → List Item → List ℕ
 spots_from index [] = []
-spots_from index (p ∷ ps) = spots_of index p ++ spots_from (suc index) ps
+spots_from index (i ∷ is) = spots_of index i ++ spots_from (suc index) is
 
-pub record IsLaidWith (limit index : ℕ) (p : Piece) (before after : Laid) : Type 0 where
-  pub spans : after.spans ≡ before.spans ++ spans_of limit before.next p
-  pub spots : after.spots ≡ before.spots ++ spots_of index p
-  pub places : after.places ≡ before.places ++ places_in p
-  pub next : after.next ≡ next_of limit before.next p
+abbrev pub places_of : Item → List Place
+places_of i = map (λ (d : Definition). d.place) (definitions_of i)
+
+pub record IsLaidWith (limit index : ℕ) (i : Item) (before after : Laid) : Type 0 where
+  pub spans : after.spans ≡ before.spans ++ spans_of limit before.next i
+  pub spots : after.spots ≡ before.spots ++ spots_of index i
+  pub places : after.places ≡ before.places ++ places_of i
+  pub next : after.next ≡ next_of limit before.next i

@@ -1,6 +1,5 @@
 pub mod Operands
 pub mod Examined
-pub mod Pieces
 pub mod Settled
 pub mod Marked
 pub mod Graph

@@ -6,18 +6,16 @@ use Rattle.fp_tree.specs.declared.source.Source.{Source}
 use Rattle.fp_tree.specs.declared.expression.Expr.{Expr}
 use Rattle.fp_meaning.specs.declared.names.Mention.{Mention}
 use Rattle.fp_base.specs.Least.{IsLeast, InSome, lesser_of}
-use Rattle.fp_meaning.specs.Names.{Path, in_expression}
-use Rattle.fp_meaning.specs.Origins.{Placed, placed}
+use Rattle.fp_meaning.specs.Names.{Path, in_expression, in_optional}
+use Rattle.fp_meaning.specs.Origins.{Placed, placed, one}
 use Rattle.fp_meaning.specs.Values.{opened, IsValue}
 use Rattle.fp_meaning.specs.ConstantFaults.{BrokenIn}
+use Rattle.fp_layout.specs.declared.item.Item.{Item}
+use Rattle.fp_layout.specs.Projections.{expressions_of, uses_of}
 use Rattle.fp_consts.specs.declared.measured.Measured.{Measured}
 use Rattle.fp_consts.specs.declared.found.Examination.{Examination}
-use Rattle.fp_consts.specs.declared.pieces.Numbered.{Numbered}
-use Rattle.fp_consts.specs.declared.pieces.Basis.{Basis}
-use Rattle.fp_consts.specs.declared.pieces.Piece.{Piece}
 use Rattle.fp_consts.specs.declared.marking.Marking.{Marking}
 use Rattle.fp_consts.specs.Examined.{AreGiven, plain}
-use Rattle.fp_consts.specs.Pieces.{uses_in, uses_in_basis, uses_in_numbered, placed_in, placed_in_basis, placed_in_numbered}
 
 -- each expression has its value, or none where it has none
 pub record AreValues (source : Source) (ps : List Placed) (values : List (Option Value)) : Type 0 where
@@ -39,17 +37,14 @@ MarksExpression table numbers e before after =
     (source : Source) (scope : Path) → AreGiven source table numbers (in_expression scope e) before.next
     → AddsMarks source (placed scope e ∷ []) (in_expression scope e) before after
 
-abbrev pub MarksNumber : List (Option Measured) → List ℕ → Numbered → Marking → Marking → Type 0
-MarksNumber table numbers number before after =
-    (source : Source) → AreGiven source table numbers (uses_in_numbered number) before.next → AddsMarks source (placed_in_numbered number) (uses_in_numbered number) before after
+abbrev pub MarksOptional : List (Option Measured) → List ℕ → Option Expr → Marking → Marking → Type 0
+MarksOptional table numbers o before after =
+    (source : Source) (scope : Path) → AreGiven source table numbers (in_optional (in_expression scope) o) before.next
+    → AddsMarks source (in_optional (one scope) o) (in_optional (in_expression scope) o) before after
 
-abbrev pub MarksBasis : List (Option Measured) → List ℕ → Basis → Marking → Marking → Type 0
-MarksBasis table numbers b before after =
-    (source : Source) → AreGiven source table numbers (uses_in_basis b) before.next → AddsMarks source (placed_in_basis b) (uses_in_basis b) before after
-
-abbrev pub MarksPiece : List (Option Measured) → List ℕ → Piece → Marking → Marking → Type 0
-MarksPiece table numbers piece before after =
-    (source : Source) → AreGiven source table numbers (uses_in piece) before.next → AddsMarks source (placed_in piece) (uses_in piece) before after
+abbrev pub MarksItem : List (Option Measured) → List ℕ → Item → Marking → Marking → Type 0
+MarksItem table numbers item before after =
+    (source : Source) → AreGiven source table numbers (uses_of item) before.next → AddsMarks source (expressions_of item) (uses_of item) before after
 
 -- past one use, where there is one
 abbrev pub Counts : List ℕ → ℕ → ℕ → Type 0
@@ -60,12 +55,12 @@ pub record AddsFound (before : Marking) (found : Examination) (after : Marking) 
   pub first : after.first ≡ lesser_of before.first found.first
   pub next : after.next ≡ found.next
 
--- of all expressions of the parts
-pub record IsMarked (source : Source) (pieces : List Piece) (marking : Marking) : Type 0 where
-  pub values : AreValues source (flat_map placed_in pieces) marking.at
-  pub first : IsLeast (SomeBroken source (flat_map placed_in pieces)) marking.first
-  pub next : marking.next ≡ length (flat_map uses_in pieces)
+-- of all expressions of the items
+pub record IsMarked (source : Source) (items : List Item) (marking : Marking) : Type 0 where
+  pub values : AreValues source (flat_map expressions_of items) marking.at
+  pub first : IsLeast (SomeBroken source (flat_map expressions_of items)) marking.first
+  pub next : marking.next ≡ length (flat_map uses_of items)
 
 -- where what all uses mean has its values in the table
-abbrev pub Marks : List (Option Measured) → List ℕ → List Piece → Marking → Type 0
-Marks table numbers pieces marking = (source : Source) → AreGiven source table numbers (flat_map uses_in pieces) 0 → IsMarked source pieces marking
+abbrev pub Marks : List (Option Measured) → List ℕ → List Item → Marking → Type 0
+Marks table numbers items marking = (source : Source) → AreGiven source table numbers (flat_map uses_of items) 0 → IsMarked source items marking

@@ -1,33 +1,30 @@
 -- The values of the definitions of a source, by their numbers.
 use Rattle.std.specs.Prelude.{◌≡◌, ℕ, ◌<◌, Bool, true, false, List, length, slice_get, Option, Some, None}
 use Rattle.fp_tree.specs.declared.source.Source.{Source}
-use Rattle.fp_base.specs.declared.place.Place.{Place}
 use Rattle.fp_meaning.specs.Meaning.{AreMeanings}
-use Rattle.fp_meaning.specs.Names.{in_source, definitions, mentions}
+use Rattle.fp_meaning.specs.Names.{definitions, mentions}
+use Rattle.fp_layout.specs.declared.item.Item.{Item}
+use Rattle.fp_layout.specs.Layout as layout
 use Rattle.fp_consts.specs.declared.measured.Measured.{Measured}
 use Rattle.fp_consts.specs.declared.stretch.Stretch.{Stretch}
-use Rattle.fp_consts.specs.declared.pieces.Basis.{Basis}
-use Rattle.fp_consts.specs.declared.pieces.Piece.{Piece}
-use Rattle.fp_consts.specs.declared.pieces.Piece.TheVariants as piece
 use Rattle.fp_consts.specs.Chains.{SameUses}
 use Rattle.fp_consts.specs.Examined.{IsExact, value_at}
 use Rattle.fp_consts.specs.Laid.{spans_from, spots_from}
-use Rattle.fp_consts.specs.Pieces.{pieces_in}
 use Rattle.fp_consts.specs.Settled.{Settles}
 
--- the parts of the source, where the uses of its definitions stand, and what its uses mean
-pub record IsLaidOut (source : Source) (pieces : List Piece) (spans : List Stretch) (spots meanings : List ℕ) : Type 0 where
-  pub parts : pieces ≡ in_source pieces_in source
+-- the items of the source, where the uses of its definitions stand, and what its uses mean
+pub record IsLaidOut (source : Source) (items : List Item) (spans : List Stretch) (spots meanings : List ℕ) : Type 0 where
+  pub laid : items ≡ layout.items source
   pub meant : AreMeanings (definitions source) (mentions source) meanings
-  pub spanned : spans ≡ spans_from (length meanings) 0 pieces
-  pub spotted : spots ≡ spots_from 0 pieces
+  pub spanned : spans ≡ spans_from (length meanings) 0 items
+  pub spotted : spots ≡ spots_from 0 items
   pub uses : SameUses source spans meanings
 
 -- what is found of the definition with a number: nothing where it is on a cycle, and else what it settles to
-pub record IsDefined (pieces : List Piece) (spans : List Stretch) (spots meanings : List ℕ) (cyclic : List Bool) (table : List (Option Measured)) (number : ℕ) (o : Option Measured) : Type 0 where
+pub record IsDefined (items : List Item) (spans : List Stretch) (spots meanings : List ℕ) (cyclic : List Bool) (table : List (Option Measured)) (number : ℕ) (o : Option Measured) : Type 0 where
   pub on_cycle : slice_get cyclic number ≡ Some true → o ≡ None
-  pub off_cycle : (spot : ℕ) (span : Stretch) (place : Place) (b : Basis) → slice_get cyclic number ≡ Some false → slice_get spots number ≡ Some spot
-      → slice_get spans number ≡ Some span → slice_get pieces spot ≡ Some (piece.Defined place b) → Settles table meanings b span.first o
+  pub off_cycle : (spot : ℕ) (span : Stretch) (item : Item) → slice_get cyclic number ≡ Some false → slice_get spots number ≡ Some spot
+      → slice_get spans number ≡ Some span → slice_get items spot ≡ Some item → Settles table meanings item span.first o
 
 -- the table has the value of each definition
 abbrev pub AreExact : Source → List (Option Measured) → Type 0

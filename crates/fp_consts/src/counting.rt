@@ -1,10 +1,11 @@
 ghost use Rattle.std.specs.Prelude.{◌≡◌, flat_map};
-ghost use Rattle.fp_meaning.specs.Names.{Path, in_expression};
+ghost use Rattle.std.specs.Option.{option_copied};
+ghost use Rattle.fp_meaning.specs.Names.{Path, in_expression, in_optional};
 ghost use Rattle.fp_meaning.specs.Values.{values_in};
-ghost use Rattle.fp_consts.specs.Pieces.{uses_in, uses_in_basis, uses_in_numbered};
+ghost use Rattle.fp_layout.specs.Projections.{uses_of};
 ghost use Rattle.fp_consts.specs.Laid.{IsPast, past};
 
-use crate::pieces::{Basis, Numbered, Piece};
+use fp_layout::Item;
 use fp_tree::{Assignment, Expr, Form};
 
 /// The number of the use behind a use, where there are so many uses.
@@ -65,33 +66,23 @@ fn past_member(member: &Assignment, next: usize, limit: usize) -> usize
     past_expression(&member.value, next, limit)
 }
 
-/// The number of the use behind a part of a source.
-pub fn past_piece(piece: &Piece, next: usize, limit: usize) -> usize
-    ensures { IsPast (uses_in piece.now) limit next result }
+/// The number of the use behind an item of a source.
+pub fn past_item(item: &Item, next: usize, limit: usize) -> usize
+    ensures { IsPast (uses_of item.now) limit next result }
 {
-    match piece {
-        Piece::Kind(_) => past_use(next, limit),
-        Piece::Loose(written) => past_expression(written.expression(), next, limit),
-        Piece::Defined { basis, .. } => past_basis(basis, next, limit),
+    match item {
+        Item::Defined(sited) => past_optional(sited.value(), next, limit),
+        Item::Enumerated(listed) => past_optional(listed.value(), next, limit),
+        Item::Used { .. } => past_use(next, limit),
+        Item::Written { expression, .. } => past_expression(expression.expression(), next, limit),
     }
 }
 
-fn past_basis(basis: &Basis, next: usize, limit: usize) -> usize
-    ensures { IsPast (uses_in_basis basis.now) limit next result }
+fn past_optional(expression: Option<&Expr>, next: usize, limit: usize) -> usize
+    ensures { (scope : Path) → IsPast (in_optional (in_expression scope) (option_copied expression.entry)) limit next result }
 {
-    match basis {
-        Basis::Nothing => next,
-        Basis::Constant(written) => past_expression(written.expression(), next, limit),
-        Basis::Enumerated { number, .. } => past_number(number, next, limit),
-    }
-}
-
-fn past_number(number: &Numbered, next: usize, limit: usize) -> usize
-    ensures { IsPast (uses_in_numbered number.now) limit next result }
-{
-    match number {
-        Numbered::Written(written) => past_expression(written.expression(), next, limit),
-        Numbered::Position(_) => next,
-        Numbered::Missing => next,
+    match expression {
+        Some(expression) => past_expression(expression, next, limit),
+        None => next,
     }
 }

@@ -1,59 +1,83 @@
 ghost use Rattle.std.specs.Prelude.{◌≡◌, IfOk, option_map};
-ghost use Rattle.fp_base.specs.declared.value.Value.TheVariants.{Enumerated};
-ghost use Rattle.fp_meaning.specs.Values.{number_in};
+ghost use Rattle.std.specs.Option.{option_copied};
+ghost use Rattle.fp_meaning.specs.Values.{constant_value, number_in};
 ghost use Rattle.fp_consts.specs.Examined.{leaf_of, plain};
-ghost use Rattle.fp_consts.specs.Settled.{Numbers, Settles, number_within};
+ghost use Rattle.fp_consts.specs.Settled.{Numbers, Settles, SettlesWith, implied_number, number_within};
 
+use crate::dotting::with_dots;
 use crate::examining::examine;
-use crate::located::ConstantName;
 use crate::measured::{Measured, leaf};
-use crate::pieces::{Basis, Numbered};
-use fp_base::{NoMemory, Text, Value};
+use fp_base::{NoMemory, Value};
+use fp_layout::{Item, Listed};
+use fp_meaning::behind;
+use fp_tree::Expr;
 use std::alloc::Global;
 
-/// The value of a definition, from the values of the definitions that it uses.
+/// The value of an item that is a definition, from the values of the definitions that it uses.
 pub fn settled(
     alloc: Global,
-    basis: &Basis,
+    item: &Item,
     table: &[Option<Measured>],
     meanings: &[u32],
     next: usize,
 ) -> Result<Option<Measured>, NoMemory>
-    ensures { IfOk result (Settles table.now meanings.now basis.now next) }
+    ensures { IfOk result (Settles table.now meanings.now item.now next) }
 {
-    match basis {
-        Basis::Nothing => Ok(None),
-        Basis::Constant(written) => {
-            let found = examine(alloc, written.expression(), table, meanings, next)?;
+    match item {
+        Item::Defined(sited) => value_of(alloc, sited.value(), table, meanings, next),
+        Item::Enumerated(listed) => {
+            let number = number_of(alloc, listed, table, meanings, next)?;
+            enumerated(alloc, listed, number)
+        }
+        Item::Used { .. } => Ok(None),
+        Item::Written { .. } => Ok(None),
+    }
+}
+
+fn value_of(
+    alloc: Global,
+    expression: Option<&Expr>,
+    table: &[Option<Measured>],
+    meanings: &[u32],
+    next: usize,
+) -> Result<Option<Measured>, NoMemory>
+    ensures { IfOk result (SettlesWith table.now meanings.now (option_copied expression.entry) next) }
+{
+    match expression {
+        Some(expression) => {
+            let found = examine(alloc, expression, table, meanings, next)?;
             Ok(found.value)
         }
-        Basis::Enumerated {
-            of,
-            constant,
-            number,
-        } => {
-            let number = number_of(alloc, number, table, meanings, next)?;
-            enumerated(alloc, of, constant, number)
-        }
+        None => Ok(None),
     }
 }
 
 fn number_of(
     alloc: Global,
-    number: &Numbered,
+    listed: &Listed,
     table: &[Option<Measured>],
     meanings: &[u32],
     next: usize,
 ) -> Result<Option<i128>, NoMemory>
-    ensures { IfOk result (Numbers table.now meanings.now number.now next) }
+    ensures { IfOk result (Numbers table.now meanings.now listed.now next) }
 {
-    match number {
-        Numbered::Written(written) => {
-            let found = examine(alloc, written.expression(), table, meanings, next)?;
+    match listed.value() {
+        Some(expression) => {
+            let found = examine(alloc, expression, table, meanings, next)?;
             Ok(number_found(&found.value))
         }
-        Numbered::Position(position) => Ok(Some(*position as i128)),
-        Numbered::Missing => Ok(None),
+        None => Ok(number_implied(listed)),
+    }
+}
+
+/// The position of a constant, where its enumeration has no value written.
+fn number_implied(listed: &Listed) -> Option<i128>
+    ensures { result ≡ implied_number listed.now }
+{
+    if listed.implied() {
+        Some(listed.position() as i128)
+    } else {
+        None
     }
 }
 
@@ -78,17 +102,17 @@ fn number_with(value: &Value) -> Option<i128>
 
 fn enumerated(
     alloc: Global,
-    of: &Text,
-    constant: &ConstantName,
+    listed: &Listed,
     number: Option<i128>,
 ) -> Result<Option<Measured>, NoMemory>
-    ensures { IfOk result (λ o. o ≡ option_map (λ n. leaf_of (Enumerated of.now constant.now n)) number) }
+    ensures { IfOk result (λ o. o ≡ option_map (λ n. leaf_of (constant_value listed.now.scope listed.now.enumeration listed.now.constant n)) number) }
 {
     let Some(number) = number else {
         return Ok(None);
     };
-    let of = of.copy(alloc)?;
-    let constant = constant.copy(alloc)?;
+    let names = behind(alloc, listed.scope(), &listed.enumeration().name)?;
+    let of = with_dots(alloc, names.as_slice())?;
+    let constant = listed.constant().name.text.copy(alloc)?;
     Ok(Some(leaf(Value::Enumerated {
         of,
         constant,

@@ -12,9 +12,9 @@ use crate::components::in_order;
 use crate::depths::too_deep;
 use crate::laying::lay;
 use crate::marking::marked;
-use crate::pieces::pieces_of;
 use crate::tabling::table_of;
 use fp_base::{NoMemory, Row, Stop, Value, lesser};
+use fp_layout::lay_out;
 use fp_meaning::Marks;
 use fp_tree::{Source, Uses, Values};
 use std::alloc::Global;
@@ -27,16 +27,16 @@ pub fn evaluate_all(alloc: Global, source: &Source, uses: &Uses) -> Result<Marks
     ensures first { IfOk result (λ marks. IsLeast (ConstantsBroken source.now) marks.first) }
 {
     let meanings = uses.meanings.as_slice();
-    let row = pieces_of(alloc, source)?;
-    let pieces = row.as_slice();
+    let layout = lay_out(alloc, source)?;
+    let items = layout.items();
     let limit = meanings.len();
-    let laid = lay(alloc, pieces, limit)?;
+    let laid = lay(alloc, items, limit)?;
     let spans = laid.spans.as_slice();
     let sorted = in_order(alloc, spans, meanings)?;
     let deep = too_deep(alloc, spans, meanings, &sorted)?;
-    let table = table_of(alloc, pieces, &laid, &sorted, meanings)?;
+    let table = table_of(alloc, items, &laid, &sorted, meanings)?;
     let values = table.as_slice();
-    let marking = marked(alloc, pieces, values, meanings)?;
+    let marking = marked(alloc, items, values, meanings)?;
     let places = laid.places.as_slice();
     let cyclic = sorted.cyclic.as_slice();
     let flags = deep.as_slice();

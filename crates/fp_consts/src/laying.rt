@@ -1,14 +1,13 @@
 ghost use Rattle.std.specs.Prelude.{◌≡◌, ◌++◌, [], ◌∷◌, flat_map, IfOk};
-ghost use Rattle.fp_consts.specs.Pieces.{places_in};
-ghost use Rattle.fp_consts.specs.Laid.{spans_from, spots_from, IsLaidWith};
+ghost use Rattle.fp_consts.specs.Laid.{places_of, spans_from, spots_from, IsLaidWith};
 
-use crate::counting::past_piece;
-use crate::pieces::Piece;
+use crate::counting::past_item;
 use crate::stretch::Stretch;
 use fp_base::{NoMemory, Place, Row};
+use fp_layout::{Item, name_of};
 use std::alloc::Global;
 
-/// For each definition of a source that is laid out flat: where its uses stand among all uses, which part it is, and where its name
+/// For each definition of a source that is laid out flat: where its uses stand among all uses, which item it is, and where its name
 /// stands; and the number of the use behind.
 #[derive(Drop)]
 pub struct Laid {
@@ -18,14 +17,14 @@ pub struct Laid {
     pub next: usize,
 }
 
-pub fn lay(alloc: Global, pieces: &[Piece], limit: usize) -> Result<Laid, NoMemory>
-    ensures spans { IfOk result (λ laid. laid.spans ≡ spans_from limit 0 pieces.now) }
-    ensures spots { IfOk result (λ laid. laid.spots ≡ spots_from 0 pieces.now) }
-    ensures places { IfOk result (λ laid. laid.places ≡ flat_map places_in pieces.now) }
+pub fn lay(alloc: Global, items: &[Item], limit: usize) -> Result<Laid, NoMemory>
+    ensures spans { IfOk result (λ laid. laid.spans ≡ spans_from limit 0 items.now) }
+    ensures spots { IfOk result (λ laid. laid.spots ≡ spots_from 0 items.now) }
+    ensures places { IfOk result (λ laid. laid.places ≡ flat_map places_of items.now) }
 {
     let mut laid = nothing_laid(alloc);
-    for (index, piece) in pieces.iter().enumerate() {
-        laid = with_piece(laid, index, piece, limit)?;
+    for (index, item) in items.iter().enumerate() {
+        laid = with_item(laid, index, item, limit)?;
     }
     Ok(laid)
 }
@@ -41,14 +40,20 @@ fn nothing_laid(alloc: Global) -> Laid
     }
 }
 
-fn with_piece(before: Laid, index: usize, piece: &Piece, limit: usize) -> Result<Laid, NoMemory>
-    ensures { IfOk result (IsLaidWith limit index piece.now before) }
+fn with_item(before: Laid, index: usize, item: &Item, limit: usize) -> Result<Laid, NoMemory>
+    ensures { IfOk result (IsLaidWith limit index item.now before) }
 {
-    let end = past_piece(piece, before.next, limit);
-    match piece {
-        Piece::Kind(_) => Ok(moved(before, end)),
-        Piece::Loose(_) => Ok(moved(before, end)),
-        Piece::Defined { place, .. } => with_definition(before, index, *place, end),
+    let end = past_item(item, before.next, limit);
+    match item {
+        Item::Defined(sited) => {
+            let place = name_of(sited.definition()).at.first;
+            with_definition(before, index, place, end)
+        }
+        Item::Enumerated(listed) => {
+            with_definition(before, index, listed.constant().name.at.first, end)
+        }
+        Item::Used { .. } => Ok(moved(before, end)),
+        Item::Written { .. } => Ok(moved(before, end)),
     }
 }
 

@@ -1,12 +1,13 @@
 ghost use Rattle.std.specs.Prelude.{◌≡◌, [], None, IfOk};
+ghost use Rattle.std.specs.Option.{option_copied};
 ghost use Rattle.fp_consts.specs.Examined.{plain};
-ghost use Rattle.fp_consts.specs.Marked.{AddsFound, Counts, Marks, MarksBasis, MarksExpression, MarksNumber, MarksPiece};
+ghost use Rattle.fp_consts.specs.Marked.{AddsFound, Counts, Marks, MarksExpression, MarksItem, MarksOptional};
 
 use crate::examining::examine;
 use crate::found::Examination;
 use crate::measured::Measured;
-use crate::pieces::{Basis, Numbered, Piece};
 use fp_base::{NoMemory, Refusal, Row, Value, lesser};
+use fp_layout::Item;
 use fp_tree::Expr;
 use std::alloc::Global;
 
@@ -22,15 +23,15 @@ pub struct Marking {
 /// What is found of the expressions of a source that is laid out flat, from the values of its definitions.
 pub fn marked(
     alloc: Global,
-    pieces: &[Piece],
+    items: &[Item],
     table: &[Option<Measured>],
     meanings: &[u32],
 ) -> Result<Marking, NoMemory>
-    ensures { IfOk result (Marks table.now meanings.now pieces.now) }
+    ensures { IfOk result (Marks table.now meanings.now items.now) }
 {
     let mut marking = started(alloc);
-    for piece in pieces {
-        marking = with_piece(alloc, piece, marking, table, meanings)?;
+    for item in items {
+        marking = with_item(alloc, item, marking, table, meanings)?;
     }
     Ok(marking)
 }
@@ -45,69 +46,41 @@ fn started(alloc: Global) -> Marking
     }
 }
 
-fn with_piece(
+fn with_item(
     alloc: Global,
-    piece: &Piece,
+    item: &Item,
     before: Marking,
     table: &[Option<Measured>],
     meanings: &[u32],
 ) -> Result<Marking, NoMemory>
-    ensures { IfOk result (MarksPiece table.now meanings.now piece.now before) }
+    ensures { IfOk result (MarksItem table.now meanings.now item.now before) }
 {
-    match piece {
-        Piece::Kind(_) => Ok(past_use(before, meanings)),
-        Piece::Loose(written) => with_expression(
+    match item {
+        Item::Defined(sited) => with_optional(alloc, sited.value(), before, table, meanings),
+        Item::Enumerated(listed) => with_optional(alloc, listed.value(), before, table, meanings),
+        Item::Used { .. } => Ok(past_use(before, meanings)),
+        Item::Written { expression, .. } => with_expression(
             alloc,
-            written.expression(),
+            expression.expression(),
             before,
             table,
             meanings,
         ),
-        Piece::Defined { basis, .. } => with_basis(alloc, basis, before, table, meanings),
     }
 }
 
-fn with_basis(
+fn with_optional(
     alloc: Global,
-    basis: &Basis,
+    expression: Option<&Expr>,
     before: Marking,
     table: &[Option<Measured>],
     meanings: &[u32],
 ) -> Result<Marking, NoMemory>
-    ensures { IfOk result (MarksBasis table.now meanings.now basis.now before) }
+    ensures { IfOk result (MarksOptional table.now meanings.now (option_copied expression.entry) before) }
 {
-    match basis {
-        Basis::Nothing => Ok(before),
-        Basis::Constant(written) => with_expression(
-            alloc,
-            written.expression(),
-            before,
-            table,
-            meanings,
-        ),
-        Basis::Enumerated { number, .. } => with_number(alloc, number, before, table, meanings),
-    }
-}
-
-fn with_number(
-    alloc: Global,
-    number: &Numbered,
-    before: Marking,
-    table: &[Option<Measured>],
-    meanings: &[u32],
-) -> Result<Marking, NoMemory>
-    ensures { IfOk result (MarksNumber table.now meanings.now number.now before) }
-{
-    match number {
-        Numbered::Written(written) => with_expression(
-            alloc,
-            written.expression(),
-            before,
-            table,
-            meanings,
-        ),
-        Numbered::Position(_) => Ok(before),
-        Numbered::Missing => Ok(before),
+    match expression {
+        Some(expression) => with_expression(alloc, expression, before, table, meanings),
+        None => Ok(before),
     }
 }
 

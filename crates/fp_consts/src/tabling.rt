@@ -1,4 +1,5 @@
-ghost use Rattle.std.specs.Prelude.{◌≡◌, ◌<◌, IfOk, length, set};
+ghost use Rattle.std.specs.Prelude.{◌≡◌, ◌<◌, IfOk, length, set, slice_get};
+ghost use Rattle.std.specs.Option.{option_copied};
 ghost use Rattle.fp_tree.specs.declared.source.Source.{Source as Whole};
 ghost use Rattle.fp_consts.specs.Graph.{IsSorted};
 ghost use Rattle.fp_consts.specs.Tabled.{AreExact, IsDefined, IsLaidOut};
@@ -8,20 +9,20 @@ use crate::defining::settled;
 use crate::depths::is_flagged;
 use crate::laying::Laid;
 use crate::measured::Measured;
-use crate::pieces::Piece;
 use fp_base::NoMemory;
+use fp_layout::Item;
 use std::alloc::Global;
 
 /// The values of the definitions of a source, by their numbers, where they have some. Each is evaluated once, behind those that it uses.
 pub fn table_of(
     alloc: Global,
-    pieces: &[Piece],
+    items: &[Item],
     laid: &Laid,
     sorted: &Sorted,
     meanings: &[u32],
 ) -> Result<Vec<Option<Measured>>, NoMemory>
     requires { IsSorted laid.now.spans meanings.now sorted.now.order.items sorted.now.cyclic.items }
-    ensures { IfOk result (λ table. (source : Whole) → IsLaidOut source pieces.now laid.now.spans laid.now.spots meanings.now → AreExact source table.items) }
+    ensures { IfOk result (λ table. (source : Whole) → IsLaidOut source items.now laid.now.spans laid.now.spots meanings.now → AreExact source table.items) }
 {
     let mut table = no_values(alloc, laid.spans.len())?;
     let order = sorted.order.as_slice();
@@ -29,7 +30,7 @@ pub fn table_of(
         let value = value_of(
             alloc,
             *number,
-            pieces,
+            items,
             laid,
             sorted,
             table.as_slice(),
@@ -61,14 +62,14 @@ fn put(table: &mut Vec<Option<Measured>>, number: usize, value: Option<Measured>
 fn value_of(
     alloc: Global,
     number: usize,
-    pieces: &[Piece],
+    items: &[Item],
     laid: &Laid,
     sorted: &Sorted,
     table: &[Option<Measured>],
     meanings: &[u32],
 ) -> Result<Option<Measured>, NoMemory>
     requires { number < length sorted.now.cyclic.items }
-    ensures { IfOk result (IsDefined pieces.now laid.now.spans laid.now.spots meanings.now sorted.now.cyclic.items table.now number) }
+    ensures { IfOk result (IsDefined items.now laid.now.spans laid.now.spots meanings.now sorted.now.cyclic.items table.now number) }
 {
     if is_flagged(sorted.cyclic.as_slice(), number) {
         return Ok(None);
@@ -79,8 +80,15 @@ fn value_of(
     let Some(span) = laid.spans.get(number) else {
         return Ok(None);
     };
-    match pieces.get(*spot) {
-        Some(Piece::Defined { basis, .. }) => settled(alloc, basis, table, meanings, span.first),
-        _ => Ok(None),
+    match item_at(items, *spot) {
+        Some(item) => settled(alloc, item, table, meanings, span.first),
+        None => Ok(None),
     }
+}
+
+fn item_at<'a, 'b>(items: &'b [Item<'a>], at: usize) -> Option<&'b Item<'a>>
+    ensures { option_copied result ≡ slice_get items.now at }
+{
+    let item = items.get(at)?;
+    Some(item)
 }

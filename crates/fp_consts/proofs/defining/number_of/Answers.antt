@@ -1,14 +1,11 @@
-use Rattle.std.proofs.Common.{sym, subst}
-use Rattle.fp_tree.specs.declared.expression.Expr.{Expr}
-use Rattle.fp_consts.specs.declared.pieces.Numbered.{Numbered}
-use Rattle.fp_consts.specs.Examined.{Examines}
-use Rattle.fp_consts.specs.Settled.{Numbers}
-use Rattle.fp_consts.proofs.Bases.{number_written}
+use Rattle.fp_consts.proofs.Valued.{number_of_position, number_written}
 use Rattle.fp_consts.proofs.defining.number_of.Goals as goal
 
-pub returns-in_ok-found-in-Written : goal.returns-in_ok-found-in-Written
-returns-in_ok-found-in-Written c =
-    subst (λ (x : Numbered). Numbers c.args.table.now c.args.meanings.now x c.args.next c.number_found.result) (sym c.in-Written.is)
-    (number_written c.args.table.now c.args.meanings.now c.in-Written.written c.args.next c.in_ok-found-in-Written.found c.number_found.result
-    (subst (λ (e : Expr). Examines c.args.table.now c.args.meanings.now e c.args.next c.in_ok-found-in-Written.found) c.expression.ensures c.in_ok-found-in-Written.ensures)
-    c.number_found.ensures)
+pub returns-in_ok-found-in-Some : goal.returns-in_ok-found-in-Some
+returns-in_ok-found-in-Some c =
+    number_written c.args.table.now c.args.meanings.now c.args.listed.now c.args.next c.in-Some.expression.now c.in_ok-found-in-Some.found c.number_found.result
+    c.in-Some.ensures c.in_ok-found-in-Some.ensures c.number_found.ensures
+
+pub returns-in-None : goal.returns-in-None
+returns-in-None c =
+    number_of_position c.args.table.now c.args.meanings.now c.args.listed.now c.args.next c.number_implied.result c.in-None.ensures c.number_implied.ensures

@@ -1,13 +1,21 @@
-use Rattle.std.proofs.Common.{sym, subst}
+use Rattle.std.proofs.Common.{Option, sym, subst}
+use Rattle.std.specs.Prelude.{IfOk}
+use Rattle.fp_base.proofs.Options.{if_ok_then}
 use Rattle.fp_tree.specs.declared.expression.Expr.{Expr}
-use Rattle.fp_consts.specs.declared.pieces.Basis.{Basis}
-use Rattle.fp_consts.specs.Examined.{Examines}
-use Rattle.fp_consts.specs.Settled.{Settles}
-use Rattle.fp_consts.proofs.Bases.{constant_settled}
+use Rattle.fp_layout.specs.declared.item.Item.{Item}
+use Rattle.fp_consts.specs.Settled.{Settles, SettlesWith}
+use Rattle.fp_consts.proofs.Valued.{defined_settled, enumerated_settled}
 use Rattle.fp_consts.proofs.defining.settled.Goals as goal
 
-pub returns-in_ok-found-in-Constant : goal.returns-in_ok-found-in-Constant
-returns-in_ok-found-in-Constant c =
-    subst (λ (x : Basis). Settles c.args.table.now c.args.meanings.now x c.args.next c.in_ok-found-in-Constant.found.value) (sym c.in-Constant.is)
-    (constant_settled c.args.table.now c.args.meanings.now c.in-Constant.written c.args.next c.in_ok-found-in-Constant.found
-    (subst (λ (e : Expr). Examines c.args.table.now c.args.meanings.now e c.args.next c.in_ok-found-in-Constant.found) c.expression.ensures c.in_ok-found-in-Constant.ensures))
+pub returns-in-Defined : goal.returns-in-Defined
+returns-in-Defined c =
+    subst (λ (x : Item). IfOk c.value_of.result (Settles c.args.table.now c.args.meanings.now x c.args.next)) (sym c.in-Defined.is)
+    (if_ok_then c.value_of.result _ _ (λ o is. defined_settled c.args.table.now c.args.meanings.now c.in-Defined.sited c.args.next o is)
+    (subst (λ (v : Option Expr). IfOk c.value_of.result (SettlesWith c.args.table.now c.args.meanings.now v c.args.next)) c.value.ensures c.value_of.ensures))
+
+pub returns-in_ok-number-in-Enumerated : goal.returns-in_ok-number-in-Enumerated
+returns-in_ok-number-in-Enumerated c =
+    subst (λ (x : Item). IfOk c.enumerated.result (Settles c.args.table.now c.args.meanings.now x c.args.next)) (sym c.in-Enumerated.is)
+    (if_ok_then c.enumerated.result _ _
+    (λ o is. enumerated_settled c.args.table.now c.args.meanings.now c.in-Enumerated.listed c.args.next c.in_ok-number-in-Enumerated.number o c.in_ok-number-in-Enumerated.ensures is)
+    c.enumerated.ensures)

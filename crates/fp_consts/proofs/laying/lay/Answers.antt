@@ -5,8 +5,8 @@ use Rattle.fp_consts.proofs.laying.lay.Goals as goal
 
 pub loop-index-preserved : goal.loop-index-preserved
 loop-index-preserved c =
-    let all = c.args.pieces.now in
+    let all = c.args.items.now in
     let n = c.loop-index.index in
-    let piece = c.index-pieces-index.result in
-    let at : slice_get all n ≡ Some piece = slice_get_read all (length all) n piece refl c.loop-index-test.true c.index-pieces-index.is in
-    laid_next c.args.limit all n piece c.loop-index.laid c.in_ok-laid.laid at c.loop-index.invariant c.in_ok-laid.ensures
+    let item = c.index-items-index.result in
+    let at : slice_get all n ≡ Some item = slice_get_read all (length all) n item refl c.loop-index-test.true c.index-items-index.is in
+    laid_next c.args.limit all n item c.loop-index.laid c.in_ok-laid.laid at c.loop-index.invariant c.in_ok-laid.ensures

@@ -1,5 +1,5 @@
 use Rattle.fp_consts.proofs.Marked.{MarksFirst}
 use Rattle.fp_consts.proofs.marking.marked.Given as goal
 
-abbrev pub invariant-loop-piece : goal.invariant-loop-piece
-invariant-loop-piece l = MarksFirst l.table l.meanings l.pieces l.piece-index l.marking
+abbrev pub invariant-loop-item : goal.invariant-loop-item
+invariant-loop-item l = MarksFirst l.table l.meanings l.items l.item-index l.marking

@@ -18,13 +18,13 @@ loop-number-preserved c =
     let long = c.loop-number.invariant.long in
     let within = sorted.within k (get_or order k 0) at in
     let low : get_or order k 0 < length table = omega arith in
-    let defined : IsDefined c.args.pieces.now spans c.args.laid.now.spots c.args.meanings.now cyclic table (get_or order k 0) c.in_ok-value.value =
-    subst (λ (xs : List (Option Measured)). IsDefined c.args.pieces.now spans c.args.laid.now.spots c.args.meanings.now cyclic xs (get_or order k 0) c.in_ok-value.value) c.as_slice.ensures.value c.in_ok-value.ensures in
+    let defined : IsDefined c.args.items.now spans c.args.laid.now.spots c.args.meanings.now cyclic table (get_or order k 0) c.in_ok-value.value =
+    subst (λ (xs : List (Option Measured)). IsDefined c.args.items.now spans c.args.laid.now.spots c.args.meanings.now cyclic xs (get_or order k 0) c.in_ok-value.value) c.as_slice.ensures.value c.in_ok-value.ensures in
     record {
       long = ap (λ (xs : List (Option Measured)). length xs) c.put.ensures ∙ length-set table (get_or order k 0) c.in_ok-value.value ∙ long;
       exact = λ source out.
           subst (λ (xs : List (Option Measured)). AreExactFirst source order (k + 1) xs) (sym c.put.ensures)
-          (exact_next source c.args.pieces.now spans c.args.laid.now.spots c.args.meanings.now order cyclic out sorted table k (get_or order k 0) c.in_ok-value.value at low
+          (exact_next source c.args.items.now spans c.args.laid.now.spots c.args.meanings.now order cyclic out sorted table k (get_or order k 0) c.in_ok-value.value at low
           (c.loop-number.invariant.exact source out) defined);
     }
 
@@ -34,5 +34,5 @@ returns c source out =
     let spans = c.args.laid.now.spans in
     let cyclic = c.args.sorted.now.cyclic.items in
     let sorted : IsSorted spans c.args.meanings.now order cyclic = subst (λ (xs : List ℕ). IsSorted spans c.args.meanings.now xs cyclic) (sym c.as_slice-order.ensures.value) c.requires in
-    exact_all source c.args.pieces.now spans c.args.laid.now.spots c.args.meanings.now order cyclic out sorted c.loop-number.table.items c.loop-number.number-index c.loop-number-test.false
+    exact_all source c.args.items.now spans c.args.laid.now.spots c.args.meanings.now order cyclic out sorted c.loop-number.table.items c.loop-number.number-index c.loop-number-test.false
     (c.loop-number.invariant.exact source out)
