@@ -1,4 +1,5 @@
-use crate::sketch::{Arrow, Reaction, Sketch, flat_of};
+use crate::sketch::{Arrow, Reaction, Sketch};
+use crate::sketching::flat_of;
 use crate::walking::{Told, walk};
 use fp_base::NoMemory;
 use fp_machine_flat::FlatMachine;

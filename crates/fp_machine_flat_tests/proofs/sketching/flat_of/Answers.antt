@@ -9,7 +9,7 @@ use Rattle.fp_tables.specs.declared.machine.Step.{Step}
 use Rattle.fp_tables.specs.declared.machine.Machine.{Machine}
 use Rattle.fp_machine_flat.specs.SoundMachine.{IsSoundMachine}
 use Rattle.fp_machine_flat_tests.specs.Sketched.{is_sound}
-use Rattle.fp_machine_flat_tests.proofs.sketch.flat_of.Goals as goal
+use Rattle.fp_machine_flat_tests.proofs.sketching.flat_of.Goals as goal
 
 is_not : (b : Bool) → not b ≡ true → b ≡ false
 is_not true h = absurd (cc)
