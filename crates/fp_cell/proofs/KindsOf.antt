@@ -10,7 +10,6 @@ use Rattle.fp_tables.specs.declared.component.Param.{Param}
 use Rattle.fp_tables.specs.declared.component.Part.TheVariants.{SetParam}
 use Rattle.fp_tables.specs.declared.kind.Formal.{Formal}
 use Rattle.fp_tables.specs.declared.kind.Kind.{Kind}
-use Rattle.fp_tables.specs.declared.kind.Kind.TheVariants as kind
 use Rattle.fp_tables.specs.declared.kind.TypeDef.{TypeDef}
 use Rattle.fp_tables.proofs.Optional.{some_and_of}
 use Rattle.fp_tables.proofs.OneKind.{same_kind_is}

@@ -3,7 +3,6 @@ use Rattle.std.proofs.Common.{◌≡◌, ℕ, true, false, ◌&&◌, nat_lt, nat
 use Rattle.std.proofs.lemmas.Bool.Decides.{nat_tests}
 use Rattle.fp_base.specs.declared.value.Value.{Value}
 use Rattle.fp_base.proofs.Bools.{both, join}
-use Rattle.fp_tables.specs.Acts as acts
 use Rattle.fp_tables.specs.Acts.{bound_to, command_of, machine_at, has_role, result_at, component_at, is_placed}
 use Rattle.fp_tables.specs.Arguments.{Scope, with_bound, kinds_of, arguments_suit}
 use Rattle.fp_tables.specs.Lists.{some_and}
