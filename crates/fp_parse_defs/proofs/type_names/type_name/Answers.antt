@@ -4,4 +4,4 @@ use Rattle.fp_parse_defs.proofs.DefinitionsFit.{type_body_fits}
 use Rattle.fp_parse_defs.proofs.type_names.type_name.Goals as goal
 
 pub returns : goal.returns
-returns c = handing (λ x to p. sealed_accepts p) (λ to p. sealed_refuses p) _ (c.read.ensures.parses (type_body_fits _))
+returns c = handing (λ x to p. sealed_accepts p) (λ to p. sealed_refuses p) _ (c.read.ensures.parses (type_body_fits c.args.depth))
