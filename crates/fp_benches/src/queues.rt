@@ -1,6 +1,3 @@
-//! Measures the priority queue beside a binary heap on the same work, where it is asked to.
-#![tactic(auto)]
-
 ghost use Rattle.std.specs.Prelude.{◌≢◌, ◌<◌, length};
 ghost use Rattle.std.specs.List.{AllPairs};
 
@@ -9,12 +6,15 @@ use fp_queue::Queue;
 use std::alloc::{AllocError, Global};
 use std::cmp::Reverse;
 use std::collections::BinaryHeap;
+use std::io;
 use std::time::Instant;
-use std::{env, io};
 
 const DEPTH: u32 = 1_000;
 
-const PAIRS: u64 = 10_000_000;
+/// How many values are put.
+const MANY: u64 = 10_001_000;
+
+const FEW: u64 = 10_000;
 
 #[derive(Drop)]
 struct Random {
@@ -36,14 +36,14 @@ fn mixed(sum: u64, taken: Option<u64>) -> u64 {
     sum.wrapping_mul(31).wrapping_add(taken.unwrap_or(0))
 }
 
-fn drive_queue(alloc: Global, priorities: &[i32]) -> Result<u64, NoMemory>
+fn drive_queue(alloc: Global, priorities: &[i32], count: u64) -> Result<u64, NoMemory>
     requires some { 0 < length priorities.now }
     requires differ { AllPairs (λ a b. a ≢ b) priorities.now }
 {
     let mut queue = Queue::new(alloc, DEPTH, priorities)?;
     let mut random = Random { state: 1 };
     let mut sum = 0;
-    for number in 0..DEPTH as u64 + PAIRS {
+    for number in 0..count {
         if queue.is_full() {
             sum = mixed(sum, queue.take());
         }
@@ -52,13 +52,13 @@ fn drive_queue(alloc: Global, priorities: &[i32]) -> Result<u64, NoMemory>
     Ok(sum)
 }
 
-fn drive_heap(alloc: Global, priorities: &[i32]) -> Result<u64, AllocError>
+fn drive_heap(alloc: Global, priorities: &[i32], count: u64) -> Result<u64, AllocError>
     requires some { 0 < length priorities.now }
 {
     let mut heap = BinaryHeap::with_capacity(alloc, DEPTH as usize)?;
     let mut random = Random { state: 1 };
     let mut sum = 0;
-    for number in 0..DEPTH as u64 + PAIRS {
+    for number in 0..count {
         if heap.len() == DEPTH as usize {
             sum = mixed(sum, heap.pop().map(|(_, Reverse(earliest))| earliest));
         }
@@ -70,27 +70,44 @@ fn drive_heap(alloc: Global, priorities: &[i32]) -> Result<u64, AllocError>
     Ok(sum)
 }
 
-fn main(rt: HostRuntime) -> io::Result<()> {
-    let mut words = env::args(&rt)?;
-    let _ = words.next();
-    if words.next().is_none_or(|word| word.as_str() != "measure") {
-        println!(rt; "to measure, give the word measure")?;
-        return Ok(());
-    }
+/// Microseconds of the queue and the heap, and whether they gave the same.
+#[derive(Clone, Copy, Drop)]
+struct Times {
+    queue: u128,
+    heap: u128,
+    alike: bool,
+}
+
+fn driven(rt: &HostRuntime, count: u64) -> io::Result<Times> {
     let priorities = [10, 20, 30, 40];
-    let start = Instant::now(&rt)?;
-    let queue_sum = drive_queue(rt.alloc(), &priorities).map_err(|_| AllocError)?;
-    let queue_time = start.elapsed(&rt)?.as_micros();
-    let start = Instant::now(&rt)?;
-    let heap_sum = drive_heap(rt.alloc(), &priorities)?;
-    let heap_time = start.elapsed(&rt)?.as_micros();
+    let start = Instant::now(rt)?;
+    let queue_sum = drive_queue(rt.alloc(), &priorities, count).map_err(|_| AllocError)?;
+    let queue = start.elapsed(rt)?.as_micros();
+    let start = Instant::now(rt)?;
+    let heap_sum = drive_heap(rt.alloc(), &priorities, count)?;
+    let heap = start.elapsed(rt)?.as_micros();
+    Ok(Times {
+        queue,
+        heap,
+        alike: queue_sum == heap_sum,
+    })
+}
+
+/// Measures the priority queue beside a binary heap on the same work.
+pub fn measure(rt: &HostRuntime) -> io::Result<()> {
+    let times = driven(rt, MANY)?;
     println!(rt;
-        "queue {queue_time} us, heap {heap_time} us, alike: {}",
-        queue_sum == heap_sum
+        "queue {} us, heap {} us, alike: {}",
+        times.queue, times.heap, times.alike
     )?;
     println!(rt;
         "queue time / heap time in percent: {}",
-        queue_time * 100 / heap_time.max(1)
-    )?;
-    Ok(())
+        times.queue.saturating_mul(100) / times.heap.max(1)
+    )
+}
+
+/// Drives both for a short while.
+pub fn run(rt: &HostRuntime) -> io::Result<()> {
+    let times = driven(rt, FEW)?;
+    println!(rt; "queue: alike: {}", times.alike)
 }

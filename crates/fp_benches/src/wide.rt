@@ -1,18 +1,16 @@
 use fp_base::{NoMemory, Row, Text};
 use fp_tables::{
-    Channel, Component, End, Instance, Item, Kind, Model, Port, PortDef, Queueing, Role, Topology,
-    Way, Wire,
+    Component, End, Instance, Item, Model, Port, PortDef, Queueing, Role, Topology, Way, Wire,
 };
 use std::alloc::Global;
 
-const INSTANCES: u32 = 256;
-
 /// The wires of each instance to the next.
-const WIRES: u32 = 79;
+pub const WIRES: u32 = 79;
 
 fn port(alloc: Global, name: &str, role: Role) -> Result<Port, NoMemory> {
+    let name = Text::from_str(alloc, name)?;
     Ok(Port {
-        name: Text::from_str(alloc, name)?,
+        name,
         role,
         size: WIRES,
         of: Some(0),
@@ -20,36 +18,18 @@ fn port(alloc: Global, name: &str, role: Role) -> Result<Port, NoMemory> {
     })
 }
 
-fn ports(alloc: Global) -> Result<Row<Port>, NoMemory> {
+fn components(alloc: Global) -> Result<Row<Component>, NoMemory> {
     let mut ports = Row::new(alloc);
     ports.push(port(alloc, "o", Role::Output)?)?;
     ports.push(port(alloc, "i", Role::Input(Way::Sync))?)?;
-    Ok(ports)
-}
-
-fn channels(alloc: Global) -> Result<Row<Channel>, NoMemory> {
-    let mut channels = Row::new(alloc);
-    channels.push(Channel {
-        name: Text::from_str(alloc, "t")?,
-        id: 0,
-        kind: Kind::U8,
-        on_change: false,
-        format: None,
-        limits: Row::new(alloc),
-        note: Text::new(alloc),
-    })?;
-    Ok(channels)
-}
-
-fn components(alloc: Global) -> Result<Row<Component>, NoMemory> {
     let mut components = Row::new(alloc);
     components.push(Component {
         name: Text::from_str(alloc, "C")?,
         queueing: Queueing::Passive,
-        ports: ports(alloc)?,
+        ports,
         commands: Row::new(alloc),
         events: Row::new(alloc),
-        channels: channels(alloc)?,
+        channels: Row::new(alloc),
         params: Row::new(alloc),
         matches: Row::new(alloc),
         machines: Row::new(alloc),
@@ -57,14 +37,14 @@ fn components(alloc: Global) -> Result<Row<Component>, NoMemory> {
     Ok(components)
 }
 
-fn instances(alloc: Global) -> Result<Row<Instance>, NoMemory> {
+fn instances(alloc: Global, count: u32) -> Result<Row<Instance>, NoMemory> {
     let mut instances = Row::new(alloc);
-    for number in 0..INSTANCES {
+    for number in 0..count {
         let name = format!(in alloc; "i{number}")?;
         instances.push(Instance {
             name: Text::from_str(alloc, name.as_str())?,
             component: 0,
-            base: 10 * number,
+            base: number.saturating_mul(10),
             queue: None,
             stack: None,
             priority: None,
@@ -74,11 +54,17 @@ fn instances(alloc: Global) -> Result<Row<Instance>, NoMemory> {
     Ok(instances)
 }
 
-/// Wires in a ring of instances, those of one number together.
-pub fn wires(alloc: Global) -> Result<Row<Wire>, NoMemory> {
+/// The instance behind another one in a ring of so many.
+fn after(instance: u32, count: u32) -> u32 {
+    let next = instance.saturating_add(1);
+    if next < count { next } else { 0 }
+}
+
+/// Wires in a ring of so many instances, those of one number together.
+pub fn wires(alloc: Global, count: u32) -> Result<Row<Wire>, NoMemory> {
     let mut wires = Row::new(alloc);
     for number in 0..WIRES {
-        for from in 0..INSTANCES {
+        for from in 0..count {
             wires.push(Wire {
                 from: End {
                     instance: from,
@@ -86,7 +72,7 @@ pub fn wires(alloc: Global) -> Result<Row<Wire>, NoMemory> {
                     number,
                 },
                 to: End {
-                    instance: (from + 1) % INSTANCES,
+                    instance: after(from, count),
                     port: 1,
                     number,
                 },
@@ -96,29 +82,31 @@ pub fn wires(alloc: Global) -> Result<Row<Wire>, NoMemory> {
     Ok(wires)
 }
 
-fn topologies(alloc: Global) -> Result<Row<Topology>, NoMemory> {
-    let mut members = Row::new(alloc);
-    for number in 0..INSTANCES {
-        members.push(number)?;
+fn topology(alloc: Global, count: u32) -> Result<Topology, NoMemory> {
+    let mut instances = Row::new(alloc);
+    for number in 0..count {
+        instances.push(number)?;
     }
-    let mut topologies = Row::new(alloc);
-    topologies.push(Topology {
-        name: Text::from_str(alloc, "T")?,
-        instances: members,
+    let name = Text::from_str(alloc, "T")?;
+    let wires = wires(alloc, count)?;
+    Ok(Topology {
+        name,
+        instances,
         links: Row::new(alloc),
-        wires: wires(alloc)?,
-    })?;
-    Ok(topologies)
+        wires,
+    })
 }
 
-/// A model of many instances and wires.
-pub fn wide(alloc: Global) -> Result<Model, NoMemory> {
+/// A model of so many instances in a ring.
+pub fn wide(alloc: Global, count: u32) -> Result<Model, NoMemory> {
     let mut ports = Row::new(alloc);
     ports.push(PortDef {
         name: Text::from_str(alloc, "P")?,
         formals: Row::new(alloc),
         result: None,
     })?;
+    let mut topologies = Row::new(alloc);
+    topologies.push(topology(alloc, count)?)?;
     let mut order = Row::new(alloc);
     order.push(Item::Topology(0))?;
     Ok(Model {
@@ -127,8 +115,8 @@ pub fn wide(alloc: Global) -> Result<Model, NoMemory> {
         ports,
         components: components(alloc)?,
         machines: Row::new(alloc),
-        instances: instances(alloc)?,
-        topologies: topologies(alloc)?,
+        instances: instances(alloc, count)?,
+        topologies,
         order,
     })
 }

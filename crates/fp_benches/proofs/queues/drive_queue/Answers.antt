@@ -1,8 +1,8 @@
 use Rattle.std.proofs.Common.{◌≡◌, ℤ, ◌%◌, FitsSigned, w32, length, get_or, pos, ap, ◌∙◌, arith, rules}
 use Rattle.std.proofs.lemmas.Int.{to_z-of_z}
-use Rattle.fp_queue_bench.proofs.Known.{known_at}
-use Rattle.fp_queue_bench.proofs.drive_queue.Goals.{then-is_full, else-is_full}
-use Rattle.fp_queue_bench.proofs.drive_queue.Goals as goal
+use Rattle.fp_benches.proofs.Known.{known_at}
+use Rattle.fp_benches.proofs.queues.drive_queue.Goals.{then-is_full, else-is_full}
+use Rattle.fp_benches.proofs.queues.drive_queue.Goals as goal
 
 pub put-requires : goal.put-requires
 put-requires c =

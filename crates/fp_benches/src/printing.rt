@@ -1,6 +1,3 @@
-//! Measures the printing of a log beside the copying of its text, where it is asked to.
-#![tactic(auto)]
-
 ghost use Rattle.std.specs.Prelude.{◌≡◌, true};
 ghost use Rattle.fp_logtext.specs.Named.{are_named, set_and_save_commands};
 
@@ -14,12 +11,27 @@ use fp_worked_models::naming::{are_named, set_and_save_commands};
 use fp_worked_models::plans::{model, program};
 use fp_worked_models::printing::tables_of;
 use std::alloc::{AllocError, Global};
+use std::io;
 use std::time::Instant;
-use std::{env, io};
-
-const ENTRIES: usize = 100_000;
 
 const ROUNDS: usize = 21;
+
+/// Whether a short log is printed once, or the printing of a long one is measured.
+#[derive(Clone, Copy)]
+enum How {
+    Once,
+    Timed,
+}
+
+impl How {
+    /// How many entries the log has at least.
+    fn count(self) -> usize {
+        match self {
+            How::Once => 100,
+            How::Timed => 100_000,
+        }
+    }
+}
 
 /// How a text is copied: at once, in pieces of some length, or byte by byte.
 #[derive(Clone, Copy)]
@@ -54,10 +66,10 @@ fn copied(alloc: Global, text: &[u8], by: By) -> Result<Row<u8>, NoMemory> {
 }
 
 /// The entries of a case, over and over.
-fn many_entries(alloc: Global, case: &Case) -> Result<Row<Entry>, NoMemory> {
+fn many_entries(alloc: Global, case: &Case, count: usize) -> Result<Row<Entry>, NoMemory> {
     let lines = case.lines;
     let mut many = Row::new(alloc);
-    for _ in 0..ENTRIES.div_ceil(lines.len().max(1)) {
+    for _ in 0..count.div_ceil(lines.len().max(1)) {
         many.append(entries(alloc, lines)?)?;
     }
     Ok(many)
@@ -110,7 +122,7 @@ fn compare(rt: &HostRuntime, text: &[u8], printing: u128, by: By, how: &str) -> 
     )
 }
 
-fn measure(
+fn compare_all(
     rt: &HostRuntime,
     tables: &Tables,
     program: &Program,
@@ -138,31 +150,50 @@ fn measure(
     compare(rt, text, printing, By::Bytes, "byte by byte")
 }
 
-fn measure_named(rt: &HostRuntime, tables: &Tables, case: &Case) -> io::Result<()> {
+// Prints a log once.
+fn print_once(
+    rt: &HostRuntime,
+    tables: &Tables,
+    program: &Program,
+    entries: &Row<Entry>,
+) -> io::Result<()>
+    requires named { are_named tables.now program.now entries.now ≡ true }
+    requires commands { set_and_save_commands tables.now entries.now ≡ true }
+{
+    let log = print_log(rt.alloc(), tables, program, entries, Finish::Complete).map_err(
+        |_| AllocError,
+    )?;
+    println!(rt; "log: {} entries, {} bytes", entries.len(), log.len())
+}
+
+fn with_tables(rt: &HostRuntime, tables: &Tables, case: &Case, how: How) -> io::Result<()> {
     let program = program(rt.alloc(), case.callers).map_err(|_| AllocError)?;
-    let entries = many_entries(rt.alloc(), case).map_err(|_| AllocError)?;
+    let entries = many_entries(rt.alloc(), case, how.count()).map_err(|_| AllocError)?;
     let named = are_named(rt.alloc(), tables, &program, &entries).map_err(|_| AllocError)?;
     if named && set_and_save_commands(tables, &entries) {
-        measure(rt, tables, &program, &entries)
+        match how {
+            How::Once => print_once(rt, tables, &program, &entries),
+            How::Timed => compare_all(rt, tables, &program, &entries),
+        }
     } else {
         println!(rt; "a position names nothing")
     }
 }
 
-fn measure_case(rt: &HostRuntime, case: &Case) -> io::Result<()> {
+fn with_case(rt: &HostRuntime, case: &Case, how: How) -> io::Result<()> {
     let model = model(rt.alloc(), &case.plan).map_err(|_| AllocError)?;
     match tables_of(rt.alloc(), model).map_err(|_| AllocError)? {
-        Some(tables) => measure_named(rt, &tables, case),
+        Some(tables) => with_tables(rt, &tables, case, how),
         None => println!(rt; "the model isn't sound"),
     }
 }
 
-fn main(rt: HostRuntime) -> io::Result<()> {
-    let mut words = env::args(&rt)?;
-    let _ = words.next();
-    if words.next().is_none_or(|word| word.as_str() != "measure") {
-        println!(rt; "to measure, give the word measure")?;
-        return Ok(());
-    }
-    measure_case(&rt, &COMMAND_TO_RESPONSE)
+/// Measures the printing of a log beside the copying of its text.
+pub fn measure(rt: &HostRuntime) -> io::Result<()> {
+    with_case(rt, &COMMAND_TO_RESPONSE, How::Timed)
+}
+
+/// Prints a short log once.
+pub fn run(rt: &HostRuntime) -> io::Result<()> {
+    with_case(rt, &COMMAND_TO_RESPONSE, How::Once)
 }
