@@ -1,4 +1,5 @@
 use crate::escapes::unescaped;
+use crate::repeated::repeated;
 use fp_base::NoMemory;
 use std::alloc::Global;
 use std::str;
@@ -46,16 +47,16 @@ impl<'a> Case<'a> {
 
 fn part_of<'a>(alloc: Global, text: &'a str) -> Result<Section<'a>, NoMemory> {
     let (label, body) = text.split_once('\n').unwrap_or((text, ""));
-    match label.strip_suffix(" escaped") {
-        Some(label) => Ok(Section {
-            label,
-            body: unescaped(alloc, body.as_bytes())?,
-        }),
-        None => Ok(Section {
-            label,
-            body: Vec::from_slice(alloc, body.as_bytes())?,
-        }),
+    if let Some(label) = label.strip_suffix(" escaped") {
+        let body = unescaped(alloc, body.as_bytes())?;
+        return Ok(Section { label, body });
     }
+    if let Some(label) = label.strip_suffix(" repeated") {
+        let body = repeated(alloc, body)?;
+        return Ok(Section { label, body });
+    }
+    let body = Vec::from_slice(alloc, body.as_bytes())?;
+    Ok(Section { label, body })
 }
 
 fn case_of<'a>(alloc: Global, text: &'a str) -> Result<Case<'a>, NoMemory> {

@@ -10,6 +10,7 @@ mod escapes;
 mod expressions;
 mod grammar;
 mod members;
+mod repeated;
 mod scenarios;
 mod serving;
 mod sources;

@@ -1,8 +1,20 @@
-use crate::refused::{push_times, refused};
-use fp_base::NoMemory;
+use fp_base::{NoMemory, Stop};
 use fp_lexer::{Word, lex};
 use std::alloc::Global;
 use std::test::Fail;
+
+/// The rule that is broken, its line and its column.
+fn refused(alloc: Global, stop: Stop) -> Result<String, NoMemory> {
+    match stop {
+        Stop::Broken(refusal) => {
+            let rule = refusal.rule.text();
+            let place = refusal.place;
+            let text = format!(in alloc; "{}:{} {rule}", place.line, place.column)?;
+            Ok(text)
+        }
+        Stop::NoMemory => Err(NoMemory),
+    }
+}
 
 /// The names of a text, or the rule that it breaks and where.
 fn names(alloc: Global, text: &[u8]) -> Result<String, NoMemory> {
@@ -35,27 +47,6 @@ fn refuses_bytes(rt: HostRuntime) -> Result<(), Fail> {
             "1:2 L1 bad character"
         };
         assert_eq!(rt; found.as_str() == wanted, !begins, "at {byte}");
-    }
-    Ok(())
-}
-
-const LONGEST: u32 = 4_194_304;
-
-/// A beginning, so many bytes in all, and what comes of it.
-static LONG: [(&str, u32, &str); 4] = [
-    ("a", LONGEST, "a"),
-    ("a", LONGEST + 1, "1:1 L5 text too long"),
-    ("?", LONGEST + 1, "1:1 L1 bad character"),
-    ("\"\"\"\\\n\"\"\"", LONGEST + 1, "1:1 L5 text too long"),
-];
-
-#[test]
-fn refuses_long_texts(rt: HostRuntime) -> Result<(), Fail> {
-    for (first, length, wanted) in LONG.iter() {
-        let mut text = String::from_str(rt.alloc(), first)?;
-        push_times(&mut text, " ", length.saturating_sub(first.len() as u32))?;
-        let found = names(rt.alloc(), text.as_bytes())?;
-        assert_eq!(rt; found.as_str(), *wanted, "at {first:?}");
     }
     Ok(())
 }

@@ -1,0 +1,18 @@
+//! Tests of the front end and of what it stands on, where they need code: rows, texts, values and places; files and sinks; formats;
+//! all bytes, lists of uses, and the laws.
+#![tactic(auto)]
+
+#[cfg(test)]
+mod base;
+#[cfg(test)]
+mod bytes;
+#[cfg(test)]
+mod formats;
+#[cfg(test)]
+mod grammars;
+#[cfg(test)]
+mod laws;
+#[cfg(test)]
+mod outside;
+#[cfg(test)]
+mod uses;
