@@ -8,7 +8,6 @@ use Rattle.fp_lexer.specs.declared.token.Token.{Token}
 use Rattle.fp_tree.specs.declared.name.Name.{Name}
 use Rattle.fp_tree.specs.declared.name.Qual.{Qual}
 use Rattle.fp_tree.specs.declared.name.Str.{Str}
-use Rattle.fp_tree.specs.declared.expression.Expr.{Expr}
 use Rattle.fp_tree.specs.declared.definition.Def.{Def}
 use Rattle.fp_tree.specs.declared.definition.Def.TheVariants as def
 use Rattle.fp_tree.specs.declared.member.Include.{Include}
@@ -17,6 +16,7 @@ use Rattle.fp_tree.specs.declared.member.Module.{Module, out-Module}
 use Rattle.fp_tree.specs.declared.member.Member.TheVariants as node
 use Rattle.fp_meaning.specs.declared.names.Definition.{Definition}
 use Rattle.fp_meaning.specs.Names.{Path, in_member, in_members, definitions_in, mentions_in}
+use Rattle.fp_meaning.specs.Origins.{Placed, expressions_in}
 use Rattle.fp_grammar.specs.Grammar.{Language}
 use Rattle.fp_parse_pieces.specs.Kinds.{k_open_brace, k_close_brace}
 use Rattle.fp_parse_pieces.specs.Lists.{joined, or_none}
@@ -25,16 +25,15 @@ use Rattle.fp_parse_parts.specs.declared.bare.BareMember.{BareMember}
 use Rattle.fp_parse_parts.specs.declared.bare.BareMember.TheVariants as bare
 use Rattle.fp_parse_parts.specs.Members.{k_include, k_module, semicolons, definition_begins, definition_goes_on, definition_member, made_include, include, made_locate, locate, noted_definition, noted_member, with_member, member_of, members_of, made_module, modules, members}
 use Rattle.fp_sites.specs.Depths.{depth_of, modules_within, modules_in}
-use Rattle.fp_sites.specs.Expressions.{expressions_within, expressions_in}
 use Rattle.fp_sites.specs.Names.{names_within, names_in}
 use Rattle.fp_sites.specs.Includes.{includes_within, includes_in}
 use Rattle.fp_base.proofs.Lists.{each_push, each_flat, each_weaker}
 use Rattle.fp_sites.proofs.Preserving.{LanguageGives, gives_anything, gives_map, gives_seq, gives_alt, gives_optional, gives_ref, gives_seal, gives_after}
 use Rattle.fp_sites.proofs.Lists.{each_or_none, gives_some_of}
-use Rattle.fp_sites.proofs.Walks.{in_module, in_definition, in_include, in_locate, module_includes, definition_includes, include_includes, locate_includes, module_names, definition_names, include_names, locate_names, module_expressions, definition_expressions, include_expressions, locate_expressions, module_depth, definition_depth, include_depth, locate_depth}
+use Rattle.fp_sites.proofs.Walks.{in_module, in_definition, in_include, in_locate, module_includes, definition_includes, include_includes, locate_includes, module_names, definition_names, include_names, locate_names, module_depth, definition_depth, include_depth, locate_depth}
 use Rattle.fp_sites.proofs.Words.{IsTold, Yields, SitedName, SitedQual, at_yields, name_yields, qual_yields}
 use Rattle.fp_sites.proofs.Expressions.{Stand, same_stand, same_names}
-use Rattle.fp_sites.proofs.Definitions.{Kept, Sited, definition_yields}
+use Rattle.fp_sites.proofs.Definitions.{Kept, same_kept, Sited, definition_yields}
 
 no_modules : (n k : ℕ) → n ≡ 0 → n ≤ k
 no_modules n k e = omega arith
@@ -60,7 +59,7 @@ module _ (G : Place → Type 0) (N : Name → Type 0) (expressions : ℕ) where
     pub uses : (scope : Path) → Stand G N (in_member mentions_in scope m)
     pub includes : Included (includes_within m)
     pub names : Each N (names_within m)
-    pub kept : Kept G N expressions (expressions_within m)
+    pub kept : (scope : Path) → Kept G N expressions (in_member expressions_in scope m)
     pub modules : modules_within m ≤ depth
 
   -- the same of a member in any annotation
@@ -80,8 +79,8 @@ module _ (G : Place → Type 0) (N : Name → Type 0) (expressions : ℕ) where
     pub names_of_all : (ms : List Member) → Each (SitedMember depth) ms → Each N (names_in ms)
     names_of_all ms hs = each_flat N names_within ms (each_weaker (SitedMember depth) (λ m. Each N (names_within m)) (λ m h. h.names) ms hs)
 
-    pub kept_of_all : (ms : List Member) → Each (SitedMember depth) ms → Kept G N expressions (expressions_in ms)
-    kept_of_all ms hs = each_flat (λ (e : Expr). depth_of e ≤ expressions) expressions_within ms (each_weaker (SitedMember depth) (λ m. Kept G N expressions (expressions_within m)) (λ m h. h.kept) ms hs)
+    pub kept_of_all : (ms : List Member) → Each (SitedMember depth) ms → (scope : Path) → Kept G N expressions (in_members expressions_in scope ms)
+    kept_of_all ms hs scope = each_flat (λ (p : Placed). depth_of p.expression ≤ expressions) (in_member expressions_in scope) ms (each_weaker (SitedMember depth) (λ m. Kept G N expressions (in_member expressions_in scope m)) (λ m h. h.kept scope) ms hs)
 
     pub modules_of_all : (ms : List Member) → Each (SitedMember depth) ms → modules_in ms ≤ depth
     modules_of_all [] hs = omega arith
@@ -93,16 +92,13 @@ module _ (G : Place → Type 0) (N : Name → Type 0) (expressions : ℕ) where
   same_included : (is js : List Include) → is ≡ js → Included js → Included is
   same_included is js e h = subst Included (sym e) h
 
-  same_kept : (es fs : List Expr) → es ≡ fs → Kept G N expressions fs → Kept G N expressions es
-  same_kept es fs e h = subst (Kept G N expressions) (sym e) h
-
   module_sited : (depth : ℕ) (m : Module) → N (out-Module m).name → Each (SitedMember depth) (out-Module m).members → SitedMember (suc depth) (node.Module m)
   module_sited depth m name hs = record {
     given = λ scope. same_given _ _ (in_module definitions_in scope m) (given_of_all depth (out-Module m).members hs (scope ++ (out-Module m).name.text ∷ []));
     uses = λ scope. same_stand G N _ _ (in_module mentions_in scope m) (uses_of_all depth (out-Module m).members hs (scope ++ (out-Module m).name.text ∷ []));
     includes = same_included _ _ (module_includes m) (includes_of_all depth (out-Module m).members hs);
     names = same_names G N _ _ (module_names m) (name, names_of_all depth (out-Module m).members hs);
-    kept = same_kept _ _ (module_expressions m) (kept_of_all depth (out-Module m).members hs);
+    kept = λ scope. same_kept G N expressions _ _ (in_module expressions_in scope m) (kept_of_all depth (out-Module m).members hs (scope ++ (out-Module m).name.text ∷ []));
     modules = one_module _ _ depth (module_depth m) (modules_of_all depth (out-Module m).members hs);
   }
 
@@ -112,7 +108,7 @@ module _ (G : Place → Type 0) (N : Name → Type 0) (expressions : ℕ) where
     uses = λ scope. same_stand G N _ _ (in_definition mentions_in scope d) (h.uses scope);
     includes = same_included _ _ (definition_includes d) tt;
     names = same_names G N _ _ (definition_names d) h.names;
-    kept = same_kept _ _ (definition_expressions d) h.kept;
+    kept = λ scope. same_kept G N expressions _ _ (in_definition expressions_in scope d) (h.kept scope);
     modules = no_modules _ depth (definition_depth d);
   }
 
@@ -122,7 +118,7 @@ module _ (G : Place → Type 0) (N : Name → Type 0) (expressions : ℕ) where
     uses = λ scope. same_stand G N _ _ (in_include mentions_in scope i) tt;
     includes = same_included _ _ (include_includes i) (h, tt);
     names = same_names G N _ _ (include_names i) tt;
-    kept = same_kept _ _ (include_expressions i) tt;
+    kept = λ scope. same_kept G N expressions _ _ (in_include expressions_in scope i) tt;
     modules = no_modules _ depth (include_depth i);
   }
 
@@ -133,7 +129,7 @@ module _ (G : Place → Type 0) (N : Name → Type 0) (expressions : ℕ) where
     uses = λ scope. same_stand G N _ _ (in_locate mentions_in scope _) tt;
     includes = same_included _ _ (locate_includes _) tt;
     names = same_names G N _ _ (locate_names _) names;
-    kept = same_kept _ _ (locate_expressions _) tt;
+    kept = λ scope. same_kept G N expressions _ _ (in_locate expressions_in scope _) tt;
     modules = no_modules _ depth (locate_depth _);
   }
 

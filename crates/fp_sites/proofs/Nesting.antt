@@ -4,8 +4,8 @@ use Rattle.fp_base.proofs.Lists.{each_of_any, of_contained}
 use Rattle.fp_base.specs.declared.place.Place.{Place}
 use Rattle.fp_lexer.specs.declared.token.Token.{Token}
 use Rattle.fp_tree.specs.declared.name.Name.{Name}
-use Rattle.fp_tree.specs.declared.expression.Expr.{Expr}
 use Rattle.fp_tree.specs.declared.member.Member.{Member}
+use Rattle.fp_meaning.specs.Origins.{Placed}
 use Rattle.fp_parse_defs.specs.Reading.{limit}
 use Rattle.fp_parse_parts.specs.Units.{SpellsUnit}
 use Rattle.fp_sites.specs.Depths.{depth_of}
@@ -25,6 +25,6 @@ keeping tokens ms spelled =
     let told = each_of_any (IsTold AnyPlace AnyName) (λ t. record { begins = tt; named = λ text e. tt }) tokens in
     let all = (all_yield AnyPlace AnyName limit limit).given tokens ms spelled told in
     record {
-      expressions = λ e there. of_contained (λ (x : Expr). depth_of x ≤ limit) _ e (kept_of_all AnyPlace AnyName limit limit ms all) there;
+      expressions = λ scope p there. of_contained (λ (x : Placed). depth_of x.expression ≤ limit) _ p (kept_of_all AnyPlace AnyName limit limit ms all scope) there;
       modules = modules_of_all AnyPlace AnyName limit limit ms all;
     }

@@ -21,7 +21,6 @@ use Rattle.fp_meaning.specs.declared.names.Mention.{Mention}
 use Rattle.fp_meaning.specs.Names.{Path, member_step, module_step, in_member, in_members, mentioned, form_step, assignment_step, expression_step, in_form, in_expression, in_assignment}
 use Rattle.fp_meaning.specs.Values.{deepest}
 use Rattle.fp_sites.specs.Depths.{depth_of_form, depth_of_assignment, depth_of_expression, depth_of, depth_in_form, depth_in_assignment, modules_of_member, modules_of_module, modules_within, modules_in}
-use Rattle.fp_sites.specs.Expressions.{expressions_in_definition, expressions_of_member, expressions_of_module, expressions_within, expressions_in}
 use Rattle.fp_sites.specs.Names.{names_of_form, names_of_assignment, names_of_expression, names_in_expression, names_in_form, names_in_assignment, names_in_definition, names_of_member, names_of_module, names_within, names_in}
 use Rattle.fp_sites.specs.Includes.{includes_of_member, includes_of_module, includes_within, includes_in}
 
@@ -232,23 +231,6 @@ include_names i = ap names_within (sym (node.rolls-Include i)) ∙ fold-roll-Mem
 
 pub locate_names : (l : Located) → names_within (node.Locate l) ≡ l.of.names
 locate_names l = ap names_within (sym (node.rolls-Locate l)) ∙ fold-roll-Member (List Name) (List Name) names_of_member names_of_module (member.Locate l)
-
--- the expressions in a member
-pub module_expressions : (m : Opened) → expressions_within (node.Module m) ≡ expressions_in (out-Module m).members
-module_expressions m =
-    ap expressions_within (sym (node.rolls-Module m))
-    ∙ fold-roll-Member (List Expr) (List Expr) expressions_of_member expressions_of_module (member.Module m)
-    ∙ fold_out-Module (List Expr) (List Expr) expressions_of_member expressions_of_module m
-    ∙ flat_map-map (λ (es : List Expr). es) expressions_within (out-Module m).members
-
-pub definition_expressions : (d : Def) → expressions_within (node.Def d) ≡ expressions_in_definition d
-definition_expressions d = ap expressions_within (sym (node.rolls-Def d)) ∙ fold-roll-Member (List Expr) (List Expr) expressions_of_member expressions_of_module (member.Def d)
-
-pub include_expressions : (i : Included) → expressions_within (node.Include i) ≡ []
-include_expressions i = ap expressions_within (sym (node.rolls-Include i)) ∙ fold-roll-Member (List Expr) (List Expr) expressions_of_member expressions_of_module (member.Include i)
-
-pub locate_expressions : (l : Located) → expressions_within (node.Locate l) ≡ []
-locate_expressions l = ap expressions_within (sym (node.rolls-Locate l)) ∙ fold-roll-Member (List Expr) (List Expr) expressions_of_member expressions_of_module (member.Locate l)
 
 -- how deep modules nest in a member
 pub module_depth : (m : Opened) → modules_within (node.Module m) ≡ modules_in (out-Module m).members + 1

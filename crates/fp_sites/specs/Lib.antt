@@ -1,5 +1,4 @@
 pub mod Depths
-pub mod Expressions
 pub mod Includes
 pub mod Names
 pub mod Nesting
