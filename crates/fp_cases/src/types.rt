@@ -75,9 +75,10 @@ fn constants(alloc: Global, of: &str, names: &[&str]) -> Result<Row<Constant>, S
     for name in names {
         let mut value = Text::from_str(alloc, of)?;
         push_all(&mut value, &[".$", name])?;
+        let value = value_of(alloc, value.as_str())?;
         constants.push(Constant {
             name: Text::from_str(alloc, name)?,
-            value: value_of(alloc, value.as_str())?,
+            value,
             note: Text::new(alloc),
         })?;
     }
@@ -105,10 +106,12 @@ fn form(alloc: Global, name: &str, shape: Shape) -> Result<Form, Stop> {
 pub fn model(alloc: Global) -> Result<Model, Stop> {
     let mut types = Row::new(alloc);
     for (name, shape, default) in TYPES.iter() {
+        let form = form(alloc, name, *shape)?;
+        let default = value_of(alloc, default)?;
         types.push(TypeDef {
             name: Text::from_str(alloc, name)?,
-            form: form(alloc, name, *shape)?,
-            default: value_of(alloc, default)?,
+            form,
+            default,
             note: Text::new(alloc),
         })?;
     }
