@@ -25,7 +25,7 @@ use Rattle.fp_base.proofs.Lists.{each_append, each_before, each_behind, each_con
 use Rattle.fp_main.proofs.PartsHold.{Hold}
 use Rattle.fp_main.proofs.StandBelow.{IncludesBelow, IsNumbered, StandBelow, files_below, none_below}
 use Rattle.fp_main.specs.gathering.Gathered.{InFiles, SourceBroken, StandsAmong, file_of, names_read, source_of}
-use Rattle.fp_main.specs.gathering.Reading.{Reading, BreaksGrammar, BreaksTokens, Gives}
+use Rattle.fp_main.specs.gathering.Reading.{Reading, BreaksGrammar, BreaksTokenRule, Gives}
 use Rattle.fp_main.specs.gathering.Walks.{Walked, Went, WalksFiles, nothing_read}
 
 -- what the law says that uses this file's lemmas
@@ -83,7 +83,7 @@ gift_below sites r ms (inl (tokens, has, spelled)) = sites_below r tokens ms (to
 gift_below sites r ms (inr (broken, e)) =
     subst (λ (xs : List Member). StandBelow (suc r.number) xs × IncludesBelow (suc r.number) xs) (sym e) (none_below (suc r.number), tt)
 
-broken_tokens : (r : Reading) (f : Refusal) → BreaksTokens r f → f.place.file ≡ r.number
+broken_tokens : (r : Reading) (f : Refusal) → BreaksTokenRule r f → f.place.file ≡ r.number
 broken_tokens r f (inl b) = ap (λ (p : Place). p.file) b.1.1
 broken_tokens r f (inr b) = ap (λ (g : Refusal). g.place.file) b.0
 
@@ -142,7 +142,7 @@ in_files_below P stands walked f num (r, there, b) =
 
 source_below : (walked : Walked) (units : List (List Member)) (f : Refusal) → IsNumbered walked → AllByRecursion (StandBelow (length walked.readings)) units
     → SourceBroken walked (source_of walked units) f → f.place.file < length walked.readings
-source_below walked units f num below (inl b) = in_files_below BreaksTokens broken_tokens walked f num b
+source_below walked units f num below (inl b) = in_files_below BreaksTokenRule broken_tokens walked f num b
 source_below walked units f num below (inr (inl b, none)) = in_files_below BreaksGrammar broken_grammar walked f num b
 source_below walked units f num below (inr (inr (inl (inl there), quiet), none)) =
     of_contained (λ (g : Refusal). g.place.file < length walked.readings) walked.refused f num.refused there

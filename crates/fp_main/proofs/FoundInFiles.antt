@@ -17,7 +17,7 @@ use Rattle.fp_base.proofs.Calculus.{least_none, least_only, least_one, least_sam
 use Rattle.fp_parse_parts.specs.Units.{SpellsUnit, BreaksUnit}
 use Rattle.fp_main.specs.gathering.Answers.{IsFound}
 use Rattle.fp_main.specs.gathering.Gathered.{InFiles}
-use Rattle.fp_main.specs.gathering.Reading.{Reading, BreaksText, BreaksTokens, HasTokens, Passes}
+use Rattle.fp_main.specs.gathering.Reading.{Reading, BreaksText, BreaksTokenRule, HasTokens, Passes}
 use Rattle.fp_main.specs.gathering.Walks.{Walked, with_reading}
 
 no_later_of : (number : ℕ) (text : List ℕ) (f g : Refusal) → BreaksTokens number text f.rule f.place → BreaksTokens number text g.rule g.place → NotBehind f.rule f.place g.rule g.place → NoLater f g
@@ -43,11 +43,11 @@ limit_of r = broken_at TextTooLong (place_at r.number r.text 0)
 
 -- with the limit on all files
 tokens_least : (r : Reading) (passes : Bool) (own : Option Refusal) → MatchBool passes (Passes r) (Passes r → ⊥) → IsLeast (BreaksText r) own
-    → IsLeast (BreaksTokens r) (lesser_of own (cond passes (Some (broken_at TextTooLong (place_at r.number r.text 0))) None))
+    → IsLeast (BreaksTokenRule r) (lesser_of own (cond passes (Some (broken_at TextTooLong (place_at r.number r.text 0))) None))
 tokens_least r passes own p l = least_either own _ l (least_flag (Passes r) passes (broken_at TextTooLong (place_at r.number r.text 0)) p)
 
 -- where a rule of tokens is broken
-found_broken : (r : Reading) (tokens : Option Refusal) (f : Refusal) → tokens ≡ Some f → IsLeast (BreaksTokens r) tokens
+found_broken : (r : Reading) (tokens : Option Refusal) (f : Refusal) → tokens ≡ Some f → IsLeast (BreaksTokenRule r) tokens
     → IsFound r (record { members = []; tokens = tokens; grammar = None })
 found_broken r tokens f e l = record {
   tokens = l;
@@ -88,7 +88,7 @@ module _ (r : Reading) (number : ℕ) (text : List ℕ) (en : r.number ≡ numbe
   found_in_broken passes limit place f p e at first o =
       let h = some_lesser f limit in
       found_broken r (lesser_of (Some f) limit) h.0 h.1
-      (subst (λ (x : Option Refusal). IsLeast (BreaksTokens r) (lesser_of (Some f) x)) (sym (limit_at passes limit place e at))
+      (subst (λ (x : Option Refusal). IsLeast (BreaksTokenRule r) (lesser_of (Some f) x)) (sym (limit_at passes limit place e at))
       (tokens_least r passes (Some f) p (text_least r f o (first_at f.rule f.place first))))
 
   -- a text with which there are too many bytes
@@ -96,7 +96,7 @@ module _ (r : Reading) (number : ℕ) (text : List ℕ) (en : r.number ≡ numbe
       → IsWhole number text → IsFound r (record { members = []; tokens = limit; grammar = None })
   found_in_long limit place p e at whole =
       found_broken r limit (broken_at TextTooLong place) e
-      (subst (λ (x : Option Refusal). IsLeast (BreaksTokens r) x) (sym (limit_at true limit place e at))
+      (subst (λ (x : Option Refusal). IsLeast (BreaksTokenRule r) x) (sym (limit_at true limit place e at))
       (tokens_least r true None p (text_none r (whole_at whole))))
 
   pub has_tokens : (tokens : List Token) → (Passes r → ⊥) → Lexed number text tokens → IsWhole number text → HasTokens r tokens

@@ -14,7 +14,7 @@ use Rattle.fp_sites.specs.Includes.{includes_in}
 use Rattle.fp_main.proofs.Absent.{gone_not_stopped}
 use Rattle.fp_main.proofs.FoundInFiles.{same_tokens}
 use Rattle.fp_main.specs.gathering.Includes.{included_name, replaced}
-use Rattle.fp_main.specs.gathering.Reading.{Reading, BreaksTokens, BreaksGrammar, Gives, HasTokens}
+use Rattle.fp_main.specs.gathering.Reading.{Reading, BreaksTokenRule, BreaksGrammar, Gives, HasTokens}
 use Rattle.fp_main.specs.gathering.Walks.{Walked, Walk, Outcome, Went, Stops, Stopped, NoFile, ReadFault, Each, NoReadFault, Reads, WalksFile, WalksInclude, WalksFiles, most_levels, next_reading, with_reading}
 
 -- a walk has one outcome
@@ -83,7 +83,7 @@ no_text (Some x) text d e = cc
 -- tokens spell one list of members, and none where they break the grammar
 module _ (one_spelled : (tokens : List Token) (xs ys : List Member) → SpellsUnit tokens xs → SpellsUnit tokens ys → xs ≡ ys)
     (never : (tokens : List Token) (rule : Rule) (place : Place) (xs : List Member) → BreaksUnit tokens rule place → SpellsUnit tokens xs → ⊥) where
-  not_broken : (r : Reading) (tokens : List Token) (ms : List Member) (f : Refusal) → HasTokens r tokens → SpellsUnit tokens ms → BreaksTokens r f ⊎ BreaksGrammar r f → ⊥
+  not_broken : (r : Reading) (tokens : List Token) (ms : List Member) (f : Refusal) → HasTokens r tokens → SpellsUnit tokens ms → BreaksTokenRule r f ⊎ BreaksGrammar r f → ⊥
   not_broken r tokens ms f has spelled (inl b) = has.unbroken f b
   not_broken r tokens ms f has spelled (inr (ts, h, o, b)) =
       never tokens f.rule f.place ms (subst (λ (us : List Token). BreaksUnit us f.rule f.place) (same_tokens r ts tokens h has) b) spelled

@@ -3,7 +3,7 @@ use Rattle.std.specs.Prelude.{ℕ, ◌≡◌, ◌+◌, ◌-◌, ◌<◌, nat_le,
 use Rattle.fp_outside.specs.declared.files.HeldFile.{HeldFile}
 use Rattle.fp_base.specs.Least.{IsLeast}
 use Rattle.fp_main.specs.FilesRun.{FilesRun, NoFault, NoMiss, HadFault, HadMiss}
-use Rattle.fp_main.specs.gathering.Reading.{Reading, BreaksTokens, BreaksGrammar, Gives, most_bytes}
+use Rattle.fp_main.specs.gathering.Reading.{Reading, BreaksTokenRule, BreaksGrammar, Gives, most_bytes}
 use Rattle.fp_main.specs.gathering.Walks.{Walked, Walk, Went, Stops, NoFile, ReadFault, bytes_of, is_included}
 use Rattle.fp_main.specs.gathering.Gathered.{InFiles, names_read}
 use Rattle.fp_main.specs.declared.gathering.Halt.{Halt}
@@ -13,7 +13,7 @@ use Rattle.fp_main.specs.declared.gathering.reading.FileFound.{FileFound}
 
 -- what was found in a file
 pub record IsFound (r : Reading) (found : FileFound) : Type 0 where
-  pub tokens : IsLeast (BreaksTokens r) found.tokens
+  pub tokens : IsLeast (BreaksTokenRule r) found.tokens
   pub grammar : IsLeast (BreaksGrammar r) found.grammar
   pub gives : Gives r found.members
 
@@ -27,7 +27,7 @@ pub record Knows (progress : Progress) (walked : Walked) : Type 0 where
   pub names : progress.names ≡ names_read walked
   pub room : MatchOption progress.room (most_bytes < bytes_of walked.readings) (λ left. bytes_of walked.readings + left ≡ most_bytes)
   pub inclusions : progress.inclusions ≡ count_by is_included walked.readings
-  pub tokens : IsLeast (InFiles BreaksTokens walked) progress.tokens
+  pub tokens : IsLeast (InFiles BreaksTokenRule walked) progress.tokens
   pub grammar : IsLeast (InFiles BreaksGrammar walked) progress.grammar
   pub includes : IsLeast (Contains walked.refused) progress.includes
 

@@ -9,7 +9,7 @@ use Rattle.fp_meaning.specs.Broken.{NamesBroken}
 use Rattle.fp_base.specs.Least.{Either, IsLeast}
 use Rattle.fp_main.specs.Phases.{InPhases}
 use Rattle.fp_main.specs.FilesRun.{FilesRun, NoFault, NoMiss, HadFault, HadMiss}
-use Rattle.fp_main.specs.gathering.Reading.{Reading, BreaksTokens, BreaksGrammar}
+use Rattle.fp_main.specs.gathering.Reading.{Reading, BreaksTokenRule, BreaksGrammar}
 use Rattle.fp_main.specs.gathering.Walks.{Walked, Went, Stops, NoFile, ReadFault, nothing_read, WalksFiles}
 use Rattle.fp_main.specs.declared.gathering.Gathered.{Gathered}
 use Rattle.fp_main.specs.declared.gathering.Halt.{Halt}
@@ -32,7 +32,7 @@ InFiles P walked f = (r : Reading) × Contains walked.readings r × P r f
 
 -- what each phase breaks, the earliest first: the rules of tokens, of the grammar, and of includes and names
 abbrev pub phases : Walked → Source → List (Refusal → Type 0)
-phases walked source = InFiles BreaksTokens walked ∷ InFiles BreaksGrammar walked ∷ Either (Contains walked.refused) (NamesBroken source) ∷ []
+phases walked source = InFiles BreaksTokenRule walked ∷ InFiles BreaksGrammar walked ∷ Either (Contains walked.refused) (NamesBroken source) ∷ []
 
 -- broken in the earliest phase in which something is
 abbrev pub SourceBroken : Walked → Source → Refusal → Type 0
@@ -68,7 +68,7 @@ pub record IsUnread (names : List (List ℕ)) (files : FilesRun) (failed : List 
 
 -- the least of what the files break, by the phases that need no names
 pub record AreJudged (walked : Walked) (gathered : Gathered) : Type 0 where
-  pub tokens : IsLeast (InFiles BreaksTokens walked) gathered.tokens
+  pub tokens : IsLeast (InFiles BreaksTokenRule walked) gathered.tokens
   pub grammar : IsLeast (InFiles BreaksGrammar walked) gathered.grammar
   pub includes : IsLeast (Contains walked.refused) gathered.includes
 

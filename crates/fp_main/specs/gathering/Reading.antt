@@ -32,13 +32,13 @@ Passes r = (r.bytes_before ≤ most_bytes) × (most_bytes < r.bytes_before + len
 abbrev pub BreaksText : Reading → Refusal → Type 0
 BreaksText r f = (f.other ≡ None) × BreaksTokens r.number r.text f.rule f.place
 
-abbrev pub BreaksTokens : Reading → Refusal → Type 0
-BreaksTokens r = Either (BreaksText r) (λ f. (f ≡ broken_at TextTooLong (place_at r.number r.text 0)) × Passes r)
+abbrev pub BreaksTokenRule : Reading → Refusal → Type 0
+BreaksTokenRule r = Either (BreaksText r) (λ f. (f ≡ broken_at TextTooLong (place_at r.number r.text 0)) × Passes r)
 
 -- no rule of tokens is broken in the file, and these are its tokens
 pub record HasTokens (r : Reading) (tokens : List Token) : Type 0 where
   pub lexed : Lexed r.number r.text tokens
-  pub unbroken : IsUnbroken (BreaksTokens r)
+  pub unbroken : IsUnbroken (BreaksTokenRule r)
 
 -- its tokens break the grammar
 abbrev pub BreaksGrammar : Reading → Refusal → Type 0
@@ -48,4 +48,4 @@ BreaksGrammar r f = (tokens : List Token) × HasTokens r tokens × (f.other ≡ 
 abbrev pub Gives : Reading → List Member → Type 0
 Gives r ms =
     ((tokens : List Token) × HasTokens r tokens × SpellsUnit tokens ms)
-    ⊎ (((f : Refusal) × Either (BreaksTokens r) (BreaksGrammar r) f) × (ms ≡ []))
+    ⊎ (((f : Refusal) × Either (BreaksTokenRule r) (BreaksGrammar r) f) × (ms ≡ []))
