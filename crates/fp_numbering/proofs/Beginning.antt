@@ -1,0 +1,71 @@
+-- Connections that begin with a number where an earlier one does.
+use Rattle.std.proofs.Common.{◌≡◌, ◌∙◌, ap, refl, ℕ, zero, suc, ◌<◌, Bool, true, false, ◌&&◌, ◌||◌, List, [], ◌∷◌, take, Option, None, Some, slice_get, arith}
+use Rattle.std.specs.Prelude.{ℤ, ◌==◌}
+use Rattle.std.specs.List.{list_any}
+use Rattle.std.specs.Ordering.{int_eq}
+use Rattle.std.proofs.lemmas.Cmp.{int_eq_equiv}
+use Rattle.std.proofs.lemmas.Int.{ints}
+use Rattle.fp_tables.specs.Lists.{some_and}
+use Rattle.fp_numbering.specs.declared.tips.Tip.{Tip}
+use Rattle.fp_numbering.specs.Ends.{written_number, at_one_port}
+use Rattle.fp_numbering.specs.Faults.{begins_at, repeats}
+
+pub any_at : {A : Type 0} (test : A → Bool) (xs : List A) (k j : ℕ) (x : A) → j < k → slice_get xs j ≡ Some x → test x ≡ true → list_any test (take k xs) ≡ true
+any_at test [] k j x l at h = cc
+any_at test (y ∷ xs) zero j x l at h = absurd (omega arith)
+any_at test (y ∷ xs) (suc k) zero x l at h =
+    let same : y ≡ x = cc in
+    ap (λ (b : Bool). b || list_any test (take k xs)) (ap test same ∙ h)
+any_at test (y ∷ xs) (suc k) (suc j) x l at h = ap (λ (b : Bool). test y || b) (any_at test xs k j x (omega arith) at h) ∙ go (test y)
+  where
+    go : (b : Bool) → (b || true) ≡ true
+    go true = refl
+    go false = refl
+
+pub found_any : {A : Type 0} (test : A → Bool) (xs : List A) (k : ℕ) → list_any test (take k xs) ≡ true → (j : ℕ) × (x : A) × (j < k) × (slice_get xs j ≡ Some x) × (test x ≡ true)
+found_any test [] zero h = cc
+found_any test [] (suc k) h = cc
+found_any test (y ∷ xs) zero h = cc
+found_any {A = A} test (y ∷ xs) (suc k) h = go (test y) refl h (λ e. found_any test xs k e)
+  where
+    go : (b : Bool) → test y ≡ b → (b || list_any test (take k xs)) ≡ true → (list_any test (take k xs) ≡ true → (j : ℕ) × (x : A) × (j < k) × (slice_get xs j ≡ Some x) × (test x ≡ true))
+        → (j : ℕ) × (x : A) × (j < suc k) × (slice_get (y ∷ xs) j ≡ Some x) × (test x ≡ true)
+    go true e h rest = (0, y, omega arith, refl, e)
+    go false e h rest = let r = rest h in (suc r.0, r.1, omega (arith, r.2), r.3, r.4)
+
+pub is_begun : (s t : Tip) (z : ℤ) → s.begins ≡ true → at_one_port s t ≡ true → written_number s ≡ Some z → begins_at (t.instance, t.port, z) s ≡ true
+is_begun s t z b p w =
+    ap (λ (x : Bool). x && (s.instance == t.instance && s.port == t.port && some_and (λ y. int_eq y z) (written_number s))) b
+    ∙ ap (λ (o : Option ℤ). s.instance == t.instance && s.port == t.port && some_and (λ y. int_eq y z) o) w
+    ∙ ap (λ (x : Bool). s.instance == t.instance && s.port == t.port && x) (int_eq_equiv.refl z)
+    ∙ go (s.instance == t.instance) (s.port == t.port) p
+  where
+    go : (x y : Bool) → (x && y) ≡ true → (x && y && true) ≡ true
+    go true true e = refl
+    go true false e = cc
+    go false y e = cc
+
+int_same : (y z : ℤ) → int_eq y z ≡ true → y ≡ z
+int_same y z e = grind (arith, ints)
+
+pub begun_is : (s t : Tip) (z : ℤ) → begins_at (t.instance, t.port, z) s ≡ true → (s.begins ≡ true) × (at_one_port s t ≡ true) × (written_number s ≡ Some z)
+begun_is s t z h = go s.begins (s.instance == t.instance) (s.port == t.port) (written_number s) h
+  where
+    go : (b x y : Bool) (o : Option ℤ) → (b && (x && y && some_and (λ w. int_eq w z) o)) ≡ true → (b ≡ true) × ((x && y) ≡ true) × (o ≡ Some z)
+    go true true true (Some w) e = (refl, refl, ap (λ (v : ℤ). Some v) (int_same w z e))
+    go true true true None e = cc
+    go true true false o e = cc
+    go true false y o e = cc
+    go false x y o e = cc
+
+pub repeats_from : (begun : ℕ × ℕ × ℤ → Bool) (t : Tip) (z : ℤ) → t.begins ≡ true → written_number t ≡ Some z → begun (t.instance, t.port, z) ≡ true → repeats begun t ≡ true
+repeats_from begun t z b w h =
+    ap (λ (x : Bool). x && some_and (λ y. begun (t.instance, t.port, y)) (written_number t)) b ∙ ap (λ (o : Option ℤ). some_and (λ y. begun (t.instance, t.port, y)) o) w ∙ h
+
+pub repeats_is : (begun : ℕ × ℕ × ℤ → Bool) (t : Tip) → repeats begun t ≡ true → (t.begins ≡ true) × ((z : ℤ) × (written_number t ≡ Some z) × (begun (t.instance, t.port, z) ≡ true))
+repeats_is begun t h = go t.begins (written_number t) h
+  where
+    go : (b : Bool) (o : Option ℤ) → (b && some_and (λ y. begun (t.instance, t.port, y)) o) ≡ true → (b ≡ true) × ((z : ℤ) × (o ≡ Some z) × (begun (t.instance, t.port, z) ≡ true))
+    go true (Some z) e = (refl, (z, refl, e))
+    go true None e = cc
+    go false o e = cc
