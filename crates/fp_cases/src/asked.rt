@@ -21,7 +21,6 @@ pub fn is_given(label: &str) -> bool {
     let named = match label {
         "source" | "second file" | "from" | "scope" | "use" => true,
         "value" | "type" => true,
-        "item" | "times" => true,
         "words" | "files" | "failing read" | "failing out" | "failing diag" => true,
         _ => false,
     };

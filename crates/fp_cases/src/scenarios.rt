@@ -6,23 +6,6 @@ use std::alloc::Global;
 
 const CUT_OFF: &str = "H1 not JSON at /";
 
-/// The text of a scenario: where the case has an item, each `#` of the source stands for it, as often as it is repeated.
-fn text(alloc: Global, case: &Case) -> Result<Vec<u8>, NoMemory> {
-    let item = case.text("item").as_bytes();
-    let times = case.number("times");
-    let mut bytes = Vec::new(alloc);
-    for byte in case.source() {
-        if times > 0 && *byte == b'#' {
-            for _ in 0..times {
-                bytes.extend_from_slice(item)?;
-            }
-        } else {
-            bytes.push(*byte)?;
-        }
-    }
-    Ok(bytes)
-}
-
 /// The rule that is broken, and where: `H2 unknown key at /step`.
 fn stopped(alloc: Global, stop: ScenarioStop) -> Result<Text, NoMemory> {
     match stop {
@@ -42,14 +25,9 @@ fn told(alloc: Global, bytes: &[u8]) -> Result<Text, NoMemory> {
     }
 }
 
-fn judged(alloc: Global, case: &Case) -> Result<Text, NoMemory> {
-    let bytes = text(alloc, case)?;
-    told(alloc, bytes.as_slice())
-}
-
 /// The lengths at which the text, cut there, isn't merely JSON that is cut off, each with its answer.
 fn cuts(alloc: Global, case: &Case) -> Result<Text, NoMemory> {
-    let bytes = text(alloc, case)?;
+    let bytes = case.source();
     let mut out = Text::new(alloc);
     for length in 0..=bytes.len() {
         let came = told(alloc, &bytes[..length])?;
@@ -121,8 +99,7 @@ fn listed(alloc: Global, scenario: &Scenario) -> Result<Text, NoMemory> {
 }
 
 fn read(alloc: Global, case: &Case) -> Result<Text, NoMemory> {
-    let bytes = text(alloc, case)?;
-    match read_scenario(alloc, bytes.as_slice()) {
+    match read_scenario(alloc, case.source()) {
         Ok(scenario) => listed(alloc, &scenario),
         Err(stop) => stopped(alloc, stop),
     }
@@ -131,7 +108,7 @@ fn read(alloc: Global, case: &Case) -> Result<Text, NoMemory> {
 /// What comes of a question on a scenario; None where it is no such question.
 pub fn of_scenario(alloc: Global, case: &Case, question: &str) -> Option<Result<Text, NoMemory>> {
     match question {
-        "scenario" => Some(judged(alloc, case)),
+        "scenario" => Some(told(alloc, case.source())),
         "scenario read" => Some(read(alloc, case)),
         "cuts" => Some(cuts(alloc, case)),
         _ => None,
