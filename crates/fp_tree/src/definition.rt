@@ -172,9 +172,9 @@ impl Array {
         let name = self.name.copy(alloc)?;
         let size = self.size.copy(alloc)?;
         let element = self.element.copy(alloc)?;
+        let note = self.note.copy(alloc)?;
         let default = copy_optional(alloc, &self.default)?;
         let format = copy_optional_str(alloc, &self.format)?;
-        let note = self.note.copy(alloc)?;
         Ok(Array {
             name,
             size,
@@ -193,8 +193,8 @@ impl Struct {
     {
         let name = self.name.copy(alloc)?;
         let fields = copy_fields(alloc, self.fields.as_slice())?;
-        let default = copy_optional(alloc, &self.default)?;
         let note = self.note.copy(alloc)?;
+        let default = copy_optional(alloc, &self.default)?;
         Ok(Struct {
             name,
             fields,
@@ -210,10 +210,10 @@ impl Enum {
         ensures { IfOk result (λ copy. copy ≡ self.now) }
     {
         let name = self.name.copy(alloc)?;
-        let repr = copy_optional_type(alloc, &self.repr)?;
         let constants = copy_constants(alloc, self.constants.as_slice())?;
-        let default = copy_optional(alloc, &self.default)?;
         let note = self.note.copy(alloc)?;
+        let repr = copy_optional_type(alloc, &self.repr)?;
+        let default = copy_optional(alloc, &self.default)?;
         Ok(Enum {
             name,
             repr,
@@ -231,8 +231,8 @@ impl Port {
     {
         let name = self.name.copy(alloc)?;
         let formals = copy_formals(alloc, self.formals.as_slice())?;
-        let result = copy_optional_type(alloc, &self.result)?;
         let note = self.note.copy(alloc)?;
+        let result = copy_optional_type(alloc, &self.result)?;
         Ok(Port {
             name,
             formals,

@@ -41,10 +41,10 @@ impl Field {
         ensures { IfOk result (λ copy. copy ≡ self.now) }
     {
         let name = self.name.copy(alloc)?;
-        let size = copy_optional(alloc, &self.size)?;
         let of = self.of.copy(alloc)?;
-        let format = copy_optional_str(alloc, &self.format)?;
         let note = self.note.copy(alloc)?;
+        let size = copy_optional(alloc, &self.size)?;
+        let format = copy_optional_str(alloc, &self.format)?;
         Ok(Field {
             name,
             size,
@@ -61,8 +61,8 @@ impl EnumConst {
         ensures { IfOk result (λ copy. copy ≡ self.now) }
     {
         let name = self.name.copy(alloc)?;
-        let value = copy_optional(alloc, &self.value)?;
         let note = self.note.copy(alloc)?;
+        let value = copy_optional(alloc, &self.value)?;
         Ok(EnumConst {
             name,
             value,
