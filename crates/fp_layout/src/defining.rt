@@ -1,18 +1,15 @@
 ghost use Rattle.std.specs.Prelude.{◌≡◌, ◌++◌, ◌∷◌, [], flat_map, IfOk, OnOk};
+ghost use Rattle.fp_meaning.specs.Names as named;
 ghost use Rattle.fp_meaning.specs.Names.{constant_of, defined, definitions};
-ghost use Rattle.fp_layout.specs.Layout.{items};
-ghost use Rattle.fp_layout.specs.Projections as projection;
 
-use crate::item::{Item, Listed};
-use crate::laws::laid_definitions;
 use crate::laying::lay_out;
 use fp_base::{NoMemory, Row, Text};
-use fp_meaning::{Definition, Group, behind};
+use fp_meaning::{Definition, Group, Item, Listed, behind};
 use fp_tree::{Def, Name, Source};
 use std::alloc::Global;
 
 fn group_of(definition: &Def) -> Group
-    ensures { result ≡ projection.group_of definition.now }
+    ensures { result ≡ named.group_of definition.now }
 {
     match definition {
         Def::Constant(_) => Group::Value,
@@ -27,7 +24,7 @@ fn group_of(definition: &Def) -> Group
 
 /// The name of a definition.
 pub fn name_of(definition: &Def) -> &Name
-    ensures { result.now ≡ projection.name_of definition.now }
+    ensures { result.now ≡ named.name_of definition.now }
 {
     match definition {
         Def::Constant(constant) => &constant.name,
@@ -44,14 +41,13 @@ pub fn name_of(definition: &Def) -> &Name
 pub fn definitions_of(alloc: Global, source: &Source) -> Result<Row<Definition>, NoMemory>
     ensures { IfOk result (λ row. row ≡ definitions source.now) }
 {
-    laid_definitions();
     let layout = lay_out(alloc, source)?;
     definitions_in(alloc, layout.items())
 }
 
 /// The definitions of items, in their order.
 pub fn definitions_in(alloc: Global, items: &[Item]) -> Result<Row<Definition>, NoMemory>
-    ensures { IfOk result (λ row. row ≡ flat_map projection.definitions_of items.now) }
+    ensures { IfOk result (λ row. row ≡ flat_map named.definitions_of items.now) }
 {
     let mut found = Row::new(alloc);
     for item in items {
@@ -61,7 +57,7 @@ pub fn definitions_in(alloc: Global, items: &[Item]) -> Result<Row<Definition>, 
 }
 
 fn of_item(alloc: Global, item: &Item, found: &mut Row<Definition>) -> Result<(), NoMemory>
-    ensures { OnOk result (found.new ≡ found.old ++ projection.definitions_of item.now) }
+    ensures { OnOk result (found.new ≡ found.old ++ named.definitions_of item.now) }
 {
     match item {
         Item::Defined(sited) => {

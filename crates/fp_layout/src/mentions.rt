@@ -1,13 +1,10 @@
 ghost use Rattle.std.specs.Prelude.{◌≡◌, ◌++◌, flat_map, IfOk, OnOk};
-ghost use Rattle.fp_meaning.specs.Names.{mentions};
-ghost use Rattle.fp_layout.specs.Projections.{uses_of};
+ghost use Rattle.fp_meaning.specs.Names.{mentions, uses_of};
 
 use crate::expressions::{mention, of_expression, of_optional};
-use crate::item::Item;
-use crate::laws::laid_uses;
 use crate::laying::lay_out;
 use fp_base::{NoMemory, Row};
-use fp_meaning::Mention;
+use fp_meaning::{Item, Mention};
 use fp_tree::Source;
 use std::alloc::Global;
 
@@ -15,7 +12,6 @@ use std::alloc::Global;
 pub fn mentions_of(alloc: Global, source: &Source) -> Result<Row<Mention>, NoMemory>
     ensures { IfOk result (λ row. row ≡ mentions source.now) }
 {
-    laid_uses();
     let layout = lay_out(alloc, source)?;
     mentions_in(alloc, layout.items())
 }

@@ -1,10 +1,12 @@
--- What a module, an array and a struct give in a walk, from what is in them.
+-- What a member, an array and a struct give in a walk, from what is in them.
 use Rattle.std.proofs.Common.{◌≡◌, List, [], ◌∷◌, ◌++◌, flat_map, sym, ap, ◌∙◌}
 use Rattle.std.proofs.lemmas.List.Folds.{flat_map-map}
 use Rattle.fp_tree.specs.declared.definition.Def.{Def}
+use Rattle.fp_tree.specs.declared.member.Include.{Include}
+use Rattle.fp_tree.specs.declared.member.Locate.{Locate}
 use Rattle.fp_tree.specs.declared.member.Member.{fold-Member, fold-roll-Member}
 use Rattle.fp_tree.specs.declared.member.Member.TheOpen as member
-use Rattle.fp_tree.specs.declared.member.Member.TheVariants.{Module, rolls-Module}
+use Rattle.fp_tree.specs.declared.member.Member.TheVariants as node
 use Rattle.fp_tree.specs.declared.member.Module.{Module as Opened, out-Module, fold_out-Module}
 use Rattle.fp_tree.specs.declared.expression.Expr.{Expr}
 use Rattle.fp_tree.specs.declared.expression.Assignment.{Assignment}
@@ -12,17 +14,35 @@ use Rattle.fp_tree.specs.declared.expression.Form.{fold-roll-Form}
 use Rattle.fp_tree.specs.declared.expression.Form.TheOpen as form
 use Rattle.fp_tree.specs.declared.expression.Form.TheVariants.{Array, rolls-Array, Struct, rolls-Struct}
 use Rattle.fp_meaning.specs.declared.names.Mention.{Mention}
-use Rattle.fp_meaning.specs.Names.{Path, member_step, module_step, in_member, in_members, form_step, assignment_step, expression_step, in_form, in_expression, in_assignment}
+use Rattle.fp_meaning.specs.declared.item.Item.{Item}
+use Rattle.fp_meaning.specs.Layout.{member_step, module_step, in_member, in_members, items_in}
+use Rattle.fp_meaning.specs.Names.{Path, form_step, assignment_step, expression_step, in_form, in_expression, in_assignment}
 
 -- a module gives what its members give behind its name
-pub module_gives : {A : Type 0} (given : Path → Def → List A) (scope : Path) (m : Opened)
-    → in_member given scope (Module m) ≡ in_members given (scope ++ (out-Module m).name.text ∷ []) (out-Module m).members
-module_gives {A = A} given scope m =
-    ap (in_member given scope) (sym (rolls-Module m))
-    ∙ ap (λ (f : Path → List A). f scope) (fold-roll-Member (Path → List A) (Path → List A) (member_step given) (module_step given) (member.Module m))
-    ∙ ap (λ (f : Path → List A). f scope) (fold_out-Module (Path → List A) (Path → List A) (member_step given) (module_step given) m)
-    ∙ flat_map-map (λ (inner : Path → List A). inner (scope ++ (out-Module m).name.text ∷ []))
-    (fold-Member (Path → List A) (Path → List A) (member_step given) (module_step given)) (out-Module m).members
+pub module_gives : (scope : Path) (m : Opened) → in_member scope (node.Module m) ≡ in_members (scope ++ (out-Module m).name.text ∷ []) (out-Module m).members
+module_gives scope m =
+    ap (in_member scope) (sym (node.rolls-Module m))
+    ∙ ap (λ (f : Path → List Item). f scope) (fold-roll-Member (Path → List Item) (Path → List Item) member_step module_step (member.Module m))
+    ∙ ap (λ (f : Path → List Item). f scope) (fold_out-Module (Path → List Item) (Path → List Item) member_step module_step m)
+    ∙ flat_map-map (λ (inner : Path → List Item). inner (scope ++ (out-Module m).name.text ∷ []))
+    (fold-Member (Path → List Item) (Path → List Item) member_step module_step) (out-Module m).members
+
+-- a definition gives its items
+pub definition_gives : (scope : Path) (d : Def) → in_member scope (node.Def d) ≡ items_in scope d
+definition_gives scope d =
+    ap (in_member scope) (sym (node.rolls-Def d))
+    ∙ ap (λ (f : Path → List Item). f scope) (fold-roll-Member (Path → List Item) (Path → List Item) member_step module_step (member.Def d))
+
+-- others give nothing
+pub include_gives : (scope : Path) (i : Include) → in_member scope (node.Include i) ≡ []
+include_gives scope i =
+    ap (in_member scope) (sym (node.rolls-Include i))
+    ∙ ap (λ (f : Path → List Item). f scope) (fold-roll-Member (Path → List Item) (Path → List Item) member_step module_step (member.Include i))
+
+pub locate_gives : (scope : Path) (l : Locate) → in_member scope (node.Locate l) ≡ []
+locate_gives scope l =
+    ap (in_member scope) (sym (node.rolls-Locate l))
+    ∙ ap (λ (f : Path → List Item). f scope) (fold-roll-Member (Path → List Item) (Path → List Item) member_step module_step (member.Locate l))
 
 -- an array gives what its items give
 pub array_gives : (scope : Path) (items : List Expr) → in_form scope (Array items) ≡ flat_map (in_expression scope) items

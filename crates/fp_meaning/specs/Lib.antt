@@ -1,6 +1,9 @@
+pub mod Sites
+pub mod Layout
 pub mod Names
 pub mod Meaning
 pub mod Broken
 pub mod Origins
 pub mod Values
 pub mod ConstantFaults
+pub mod Worked

@@ -1,61 +1,29 @@
--- The expressions of a source, in source order, and what gives each definition its value. FPP Language Specification, "Constant Definitions",
--- "Enum Definitions", "Expressions".
-use Rattle.std.specs.Prelude.{ℕ, suc, List, [], ◌∷◌, ◌++◌, flat_map, Option, Some, None}
+-- The expressions of a source, in source order, and what gives each definition its value: what its items have written. FPP Language
+-- Specification, "Constant Definitions", "Enum Definitions", "Expressions".
+use Rattle.std.specs.Prelude.{ℕ, List, [], ◌∷◌, flat_map, Option, Some, None}
 use Rattle.fp_tree.specs.declared.source.Source.{Source}
-use Rattle.fp_tree.specs.declared.definition.Def.{Def}
-use Rattle.fp_tree.specs.declared.definition.Def.TheVariants as def
 use Rattle.fp_tree.specs.declared.definition.Enum.{Enum}
 use Rattle.fp_tree.specs.declared.expression.Expr.{Expr}
-use Rattle.fp_tree.specs.declared.type_name.TypeName.{TypeName}
-use Rattle.fp_tree.specs.declared.type_name.TypeForm.{TypeForm}
-use Rattle.fp_tree.specs.declared.type_name.TypeForm.TheVariants as type
 use Rattle.fp_tree.specs.declared.part.EnumConst.{EnumConst}
-use Rattle.fp_tree.specs.declared.part.Field.{Field}
-use Rattle.fp_tree.specs.declared.part.Formal.{Formal}
-use Rattle.fp_meaning.specs.Names.{Path, in_source, in_optional}
+use Rattle.fp_meaning.specs.declared.item.Item.{Item}
+use Rattle.fp_meaning.specs.declared.item.Item.TheVariants as item
+use Rattle.fp_meaning.specs.Sites.{Path, in_optional, value_in}
+use Rattle.fp_meaning.specs.Layout.{items}
+pub use Rattle.fp_meaning.specs.Sites.{Placed, placed}
 
--- an expression in the scope in which its names are looked up
-pub record Placed : Type 0 where
-  pub scope : Path
-  pub expression : Expr
+abbrev pub one : Path → Expr → List Placed
+one scope e = placed scope e ∷ []
 
-abbrev pub placed : Path → Expr → Placed
-placed s e = record { scope = s; expression = e }
-
--- the whole expressions in a scope, those inside another left out
-module _ (scope : Path) where
-  abbrev pub one : Expr → List Placed
-  one e = placed scope e ∷ []
-
-  abbrev pub type_form_expressions : TypeForm → List Placed
-  type_form_expressions (type.Text size) = in_optional one size
-  type_form_expressions _ = []
-
-  abbrev pub type_expressions : TypeName → List Placed
-  type_expressions t = type_form_expressions t.form
-
-  abbrev pub field_expressions : Field → List Placed
-  field_expressions f = in_optional one f.size ++ type_expressions f.of
-
-  abbrev pub constant_expressions : EnumConst → List Placed
-  constant_expressions c = in_optional one c.value
-
-  abbrev pub formal_expressions : Formal → List Placed
-  formal_expressions f = type_expressions f.of
-
-abbrev pub expressions_in : Path → Def → List Placed
-expressions_in scope (def.Constant d) = placed scope d.value ∷ []
-expressions_in scope (def.Abstract d) = []
-expressions_in scope (def.Alias d) = type_expressions scope d.target
-expressions_in scope (def.Array d) = placed scope d.size ∷ type_expressions scope d.element ++ in_optional (one scope) d.default
-expressions_in scope (def.Struct d) = flat_map (field_expressions scope) d.fields ++ in_optional (one scope) d.default
-expressions_in scope (def.Enum d) =
-    in_optional (type_expressions scope) d.repr ++ flat_map (constant_expressions scope) d.constants ++ in_optional (one scope) d.default
-expressions_in scope (def.Port d) = flat_map (formal_expressions scope) d.formals ++ in_optional (type_expressions scope) d.result
+-- the whole expressions, those inside another left out
+abbrev pub expressions_of : Item → List Placed
+expressions_of (item.Defined s) = in_optional (one s.scope) (value_in s.definition)
+expressions_of (item.Enumerated e) = in_optional (one e.scope) e.constant.value
+expressions_of (item.Used since n) = []
+expressions_of (item.Written since p) = placed p.scope p.expression ∷ []
 
 -- in the order of the uses
 abbrev pub expressions : Source → List Placed
-expressions source = in_source expressions_in source
+expressions source = flat_map expressions_of (items source)
 
 -- what gives a definition its value: the expression of a constant; of an enumerated constant its enumeration, its position in it, counted
 -- from 0, and what is written there, all in the scope of the enumeration; other definitions have none
@@ -64,18 +32,19 @@ pub data Origin : Type 0 where
   Enumerated : Path → Enum → ℕ → EnumConst → Origin
   NoValue : Origin
 
-abbrev pub origins_from : Path → Enum → ℕ → List EnumConst → List Origin
-origins_from scope e position [] = []
-origins_from scope e position (c ∷ cs) = Enumerated scope e position c ∷ origins_from scope e (suc position) cs
+abbrev pub origin_with : Path → Option Expr → Origin
+origin_with scope None = NoValue
+origin_with scope (Some e) = Constant scope e
 
-abbrev pub origins_in : Path → Def → List Origin
-origins_in scope (def.Constant d) = Constant scope d.value ∷ []
-origins_in scope (def.Enum d) = NoValue ∷ origins_from scope d 0 d.constants
-origins_in scope d = NoValue ∷ []
+abbrev pub origins_of : Item → List Origin
+origins_of (item.Defined s) = origin_with s.scope (value_in s.definition) ∷ []
+origins_of (item.Enumerated e) = Enumerated e.scope e.enumeration e.position e.constant ∷ []
+origins_of (item.Used since n) = []
+origins_of (item.Written since p) = []
 
 -- one for each definition, in the order of the definitions
 abbrev pub origins : Source → List Origin
-origins source = in_source origins_in source
+origins source = flat_map origins_of (items source)
 
 abbrev pub placed_optional : Path → Option Expr → Option Placed
 placed_optional scope None = None

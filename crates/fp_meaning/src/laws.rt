@@ -1,12 +1,15 @@
 ghost use Rattle.std.specs.Prelude.{◌≡◌, ℕ, List};
+ghost use Rattle.fp_base.specs.declared.place.Span.{Span};
 ghost use Rattle.fp_base.specs.declared.refusal.Refusal.{Refusal};
 ghost use Rattle.fp_base.specs.declared.value.Value.{Value};
 ghost use Rattle.fp_tree.specs.declared.expression.Expr.{Expr};
 ghost use Rattle.fp_tree.specs.declared.source.Source.{Source};
 ghost use Rattle.fp_meaning.specs.Broken.{IsUndefined, IsWrongKind};
 ghost use Rattle.fp_meaning.specs.Meaning.{IsScopeOf, Means};
-ghost use Rattle.fp_meaning.specs.Names.{Path};
+ghost use Rattle.fp_meaning.specs.Names.{Path, definitions, mentions};
+ghost use Rattle.fp_meaning.specs.Origins.{expressions, origins};
 ghost use Rattle.fp_meaning.specs.Values.{Opened, Val, Vals};
+ghost use Rattle.fp_meaning.specs.Worked as worked;
 ghost use Rattle.fp_meaning.specs.declared.group.Group.{Group};
 ghost use Rattle.fp_meaning.specs.declared.names.Definition.{Definition};
 ghost use Rattle.fp_meaning.specs.declared.names.Mention.{Mention};
@@ -30,4 +33,12 @@ pub fn one_value()
 /// No use is undefined and of the wrong kind.
 pub fn undefined_or_wrong_kind()
     ensures { (ds : List Definition) (m : Mention) (f g : Refusal) → IsUndefined ds m f → IsWrongKind ds m g → ⊥ }
+{}
+
+/// What a source that was laid out by hand defines, uses and has written.
+pub fn worked_source()
+    ensures definitions { (at : Span) (x y z : Expr) → definitions (worked.source at x y z) ≡ worked.its_definitions at x y z }
+    ensures mentions { (at : Span) (x y z : Expr) → mentions (worked.source at x y z) ≡ worked.its_mentions at x y z }
+    ensures expressions { (at : Span) (x y z : Expr) → expressions (worked.source at x y z) ≡ worked.its_expressions at x y z }
+    ensures origins { (at : Span) (x y z : Expr) → origins (worked.source at x y z) ≡ worked.its_origins at x y z }
 {}

@@ -1,5 +1,5 @@
 use Rattle.std.proofs.Common.{◌≡◌, flat_map, take}
-use Rattle.fp_layout.specs.Projections.{definitions_of}
+use Rattle.fp_meaning.specs.Names.{definitions_of}
 use Rattle.fp_layout.proofs.defining.definitions_in.Given as goal
 
 abbrev pub invariant-loop-item : goal.invariant-loop-item

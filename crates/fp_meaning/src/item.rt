@@ -1,12 +1,10 @@
 ghost use Rattle.std.specs.Prelude.{◌≡◌, IfOk};
 ghost use Rattle.std.specs.Option.{option_copied};
-ghost use Rattle.fp_meaning.specs.Origins.{placed};
-ghost use Rattle.fp_layout.specs.Projections.{value_in};
-ghost use Rattle.fp_layout.specs.Sites.{entry, is_implied, naming, site};
+ghost use Rattle.fp_meaning.specs.Sites.{entry, is_implied, naming, placed, site, value_in};
 
-use crate::scope::Scope;
+use crate::group::Group;
+use crate::scopes::Scope;
 use fp_base::{NoMemory, Row, Text};
-use fp_meaning::Group;
 use fp_tree::{Def, Enum, EnumConst, Expr, Qual};
 use std::marker::Model;
 
@@ -20,7 +18,7 @@ pub struct Sited<'a> {
 impl<'a> Model for Sited<'a> {
     ghost use Rattle.std.specs.Coded.{codes};
     ghost use Rattle.fp_tree.specs.contracts.definition.Def as written;
-    ghost use Rattle.fp_layout.specs.Sites.{Site};
+    ghost use Rattle.fp_meaning.specs.Sites.{Site};
 
     ghost Value = { Site };
 
@@ -30,7 +28,7 @@ impl<'a> Model for Sited<'a> {
 }
 
 impl<'a> Sited<'a> {
-    pub(crate) fn of(scope: &Scope, definition: &'a Def) -> Result<Sited<'a>, NoMemory>
+    pub fn of(scope: &Scope, definition: &'a Def) -> Result<Sited<'a>, NoMemory>
         ensures { IfOk result (λ sited. sited ≡ site scope.now definition.now) }
     {
         let scope = scope.share()?;
@@ -80,7 +78,7 @@ impl<'a> Model for Listed<'a> {
     ghost use Rattle.fp_tree.specs.contracts.definition.Enum as whole;
     ghost use Rattle.fp_tree.specs.contracts.part.EnumConst as part;
     ghost use Rattle.std.specs.Prelude.{◌≡◌};
-    ghost use Rattle.fp_layout.specs.Sites.{Entry, is_implied};
+    ghost use Rattle.fp_meaning.specs.Sites.{Entry, is_implied};
 
     ghost Value = { Entry };
 
@@ -92,7 +90,7 @@ impl<'a> Model for Listed<'a> {
 }
 
 impl<'a> Listed<'a> {
-    pub(crate) fn of(
+    pub fn of(
         scope: &Scope,
         enumeration: &'a Enum,
         implied: bool,
@@ -163,7 +161,7 @@ impl<'a> Model for Named<'a> {
     ghost use Rattle.std.specs.Coded.{codes};
     ghost use Rattle.fp_tree.specs.contracts.name.Qual as qualified;
     ghost use Rattle.fp_meaning.specs.contracts.group.Group as groups;
-    ghost use Rattle.fp_layout.specs.Sites.{Naming};
+    ghost use Rattle.fp_meaning.specs.Sites.{Naming};
 
     ghost Value = { Naming };
 
@@ -173,7 +171,7 @@ impl<'a> Model for Named<'a> {
 }
 
 impl<'a> Named<'a> {
-    pub(crate) fn of(group: Group, scope: &Scope, name: &'a Qual) -> Result<Named<'a>, NoMemory>
+    pub fn of(group: Group, scope: &Scope, name: &'a Qual) -> Result<Named<'a>, NoMemory>
         ensures { IfOk result (λ named. named ≡ naming group scope.now name.now) }
     {
         let scope = scope.share()?;
@@ -209,7 +207,7 @@ pub struct Located<'a> {
 impl<'a> Model for Located<'a> {
     ghost use Rattle.std.specs.Coded.{codes};
     ghost use Rattle.fp_tree.specs.contracts.expression.Expr as written;
-    ghost use Rattle.fp_meaning.specs.Origins.{Placed};
+    ghost use Rattle.fp_meaning.specs.Sites.{Placed};
 
     ghost Value = { Placed };
 
@@ -219,7 +217,7 @@ impl<'a> Model for Located<'a> {
 }
 
 impl<'a> Located<'a> {
-    pub(crate) fn of(scope: &Scope, expression: &'a Expr) -> Result<Located<'a>, NoMemory>
+    pub fn of(scope: &Scope, expression: &'a Expr) -> Result<Located<'a>, NoMemory>
         ensures { IfOk result (λ located. located ≡ placed scope.now expression.now) }
     {
         let scope = scope.share()?;

@@ -1,3 +1,0 @@
-pub mod Sites
-pub mod Layout
-pub mod Projections
