@@ -16,7 +16,7 @@ use Rattle.fp_meaning.specs.declared.names.Mention.{Mention}
 use Rattle.fp_meaning.specs.Names.{Path, mentioned, in_form, in_expression}
 use Rattle.fp_meaning.specs.Values.{values_in}
 use Rattle.fp_consts.specs.declared.stretch.Stretch.{Stretch}
-use Rattle.fp_layout.specs.declared.item.Item.{Item}
+use Rattle.fp_meaning.specs.declared.item.Item.{Item}
 use Rattle.fp_consts.specs.declared.laying.Laid.{Laid}
 use Rattle.fp_consts.specs.Laid.{past, IsPast, places_of, next_of, spans_of, spans_from, spots_of, spots_from, IsLaidWith}
 use Rattle.fp_consts.proofs.Walks.{use_uses, minus_uses, parentheses_uses, binary_uses, array_uses, struct_uses}

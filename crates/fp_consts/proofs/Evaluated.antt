@@ -7,12 +7,10 @@ use Rattle.fp_meaning.specs.ConstantFaults.{ConstantsBroken}
 use Rattle.fp_base.specs.Least.{IsLeast, InSome, lesser_of}
 use Rattle.fp_meaning.specs.Meaning.{AreMeanings}
 use Rattle.fp_meaning.specs.Names.{definitions, mentions}
-use Rattle.fp_meaning.specs.Origins.{Placed, expressions}
+use Rattle.fp_meaning.specs.Origins.{Placed, expressions, expressions_of}
 use Rattle.fp_base.proofs.Calculus.{least_either}
-use Rattle.fp_layout.specs.declared.item.Item.{Item}
-use Rattle.fp_layout.specs.Layout as layout
-use Rattle.fp_layout.specs.Projections.{expressions_of}
-use Rattle.fp_layout.proofs.Projected.{source_expressions}
+use Rattle.fp_meaning.specs.declared.item.Item.{Item}
+use Rattle.fp_meaning.specs.Layout as layout
 use Rattle.fp_consts.specs.declared.marking.Marking.{Marking}
 use Rattle.fp_consts.specs.declared.measured.Measured.{Measured}
 use Rattle.fp_consts.specs.declared.stretch.Stretch.{Stretch}
@@ -27,7 +25,7 @@ use Rattle.fp_consts.proofs.Joined.{all_given, same_uses, the_places, places_cou
 module _ (source : Source) (meanings : List ℕ) (items : List Item) (spans : List Stretch) (meant : AreMeanings (definitions source) (mentions source) meanings)
     (laid : items ≡ layout.items source) (spanned : spans ≡ spans_from (length meanings) 0 items) where
   the_expressions : flat_map expressions_of items ≡ expressions source
-  the_expressions = ap (λ (ps : List Item). flat_map expressions_of ps) laid ∙ source_expressions source
+  the_expressions = ap (λ (ps : List Item). flat_map expressions_of ps) laid
 
   pub flags_count : (flags : List Bool) (places : List Place) → length flags ≡ length spans → places ≡ flat_map places_of items → length flags ≡ length places
   flags_count flags places each placed =

@@ -13,14 +13,13 @@ use Rattle.fp_meaning.specs.declared.names.Definition.{Definition}
 use Rattle.fp_meaning.specs.declared.names.Mention.{Mention}
 use Rattle.fp_meaning.specs.ConstantFaults.{Uses}
 use Rattle.fp_meaning.specs.Meaning.{Means, AreMeanings}
-use Rattle.fp_meaning.specs.Names.{definitions, mentions, in_expression, in_optional}
-use Rattle.fp_meaning.specs.Origins.{Placed, placed_optional, Origin, origins, written_in}
+use Rattle.fp_meaning.specs.Names.{definitions, mentions, in_expression, in_optional, definitions_of, uses_of}
+use Rattle.fp_meaning.specs.Origins.{Placed, placed_optional, Origin, origins, written_in, origin_with, origins_of}
 use Rattle.fp_meaning.proofs.Meanings.{one_meaning}
-use Rattle.fp_layout.specs.declared.item.Item.{Item}
-use Rattle.fp_layout.specs.declared.item.Item.TheVariants as variant
-use Rattle.fp_layout.specs.Layout as layout
-use Rattle.fp_layout.specs.Projections.{definitions_of, origin_with, origins_of, uses_of, value_in}
-use Rattle.fp_layout.proofs.Projected.{source_definitions, source_origins, source_uses}
+use Rattle.fp_meaning.specs.declared.item.Item.{Item}
+use Rattle.fp_meaning.specs.declared.item.Item.TheVariants as variant
+use Rattle.fp_meaning.specs.Layout as layout
+use Rattle.fp_meaning.specs.Sites.{value_in}
 use Rattle.fp_consts.specs.declared.measured.Measured.{Measured}
 use Rattle.fp_consts.specs.declared.stretch.Stretch.{Stretch}
 use Rattle.fp_consts.specs.Chains.{SameUses, name_places}
@@ -75,16 +74,15 @@ mapped (i ∷ is) =
 
 module _ (source : Source) (items : List Item) (meanings : List ℕ) (laid : items ≡ layout.items source) (meant : AreMeanings (definitions source) (mentions source) meanings) where
   the_uses : flat_map uses_of items ≡ mentions source
-  the_uses = ap (λ (ps : List Item). flat_map uses_of ps) laid ∙ source_uses source
+  the_uses = ap (λ (ps : List Item). flat_map uses_of ps) laid
 
   the_origins : flat_map origins_of items ≡ origins source
-  the_origins = ap (λ (ps : List Item). flat_map origins_of ps) laid ∙ source_origins source
+  the_origins = ap (λ (ps : List Item). flat_map origins_of ps) laid
 
   pub the_places : flat_map places_of items ≡ name_places source
   the_places =
       mapped items
       ∙ ap (λ (ps : List Item). map (λ (d : Definition). d.place) (flat_map definitions_of ps)) laid
-      ∙ ap (λ (ds : List Definition). map (λ (d : Definition). d.place) ds) (source_definitions source)
 
   the_spot : (number : ℕ) (origin : Origin) → slice_get (origins source) number ≡ Some origin → IsSpot items 0 (length meanings) 0 number origin
   the_spot number origin at =

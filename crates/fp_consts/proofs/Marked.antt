@@ -10,17 +10,16 @@ use Rattle.fp_tree.specs.declared.source.Source.{Source}
 use Rattle.fp_tree.specs.declared.expression.Expr.{Expr}
 use Rattle.fp_meaning.specs.declared.names.Mention.{Mention}
 use Rattle.fp_base.specs.Least.{IsLeast, Either, lesser_of}
-use Rattle.fp_meaning.specs.Names.{Path, in_expression}
-use Rattle.fp_meaning.specs.Origins.{Placed, placed}
+use Rattle.fp_meaning.specs.Names.{Path, in_expression, uses_of}
+use Rattle.fp_meaning.specs.Origins.{Placed, placed, expressions_of}
 use Rattle.fp_meaning.specs.Values.{opened, IsValue}
 use Rattle.fp_meaning.specs.ConstantFaults.{BrokenIn}
 use Rattle.fp_base.proofs.Calculus.{least_none, least_same, least_along, least_either}
 use Rattle.fp_consts.specs.declared.measured.Measured.{Measured}
 use Rattle.fp_consts.specs.declared.found.Examination.{Examination}
-use Rattle.fp_layout.specs.declared.item.Item.{Item}
+use Rattle.fp_meaning.specs.declared.item.Item.{Item}
 use Rattle.fp_consts.specs.declared.marking.Marking.{Marking}
 use Rattle.fp_consts.specs.Examined.{AreGiven, IsFound, Examines, plain}
-use Rattle.fp_layout.specs.Projections.{uses_of, expressions_of}
 use Rattle.fp_consts.specs.Marked.{AreValues, SomeBroken, AddsMarks, MarksExpression, MarksItem, AddsFound, Counts, IsMarked, Marks}
 use Rattle.fp_consts.proofs.Given.{given_split}
 use Rattle.fp_consts.proofs.Gathering.{stays, last_there}

@@ -5,12 +5,10 @@ use Rattle.fp_base.proofs.Lists.{get_front}
 use Rattle.fp_tree.specs.declared.source.Source.{Source}
 use Rattle.fp_meaning.specs.declared.names.Mention.{Mention}
 use Rattle.fp_meaning.specs.Meaning.{Means}
-use Rattle.fp_meaning.specs.Names.{definitions, mentions}
-use Rattle.fp_meaning.specs.Origins.{Origin, origins}
-use Rattle.fp_layout.specs.declared.item.Item.{Item}
-use Rattle.fp_layout.specs.declared.item.Item.TheVariants as variant
-use Rattle.fp_layout.specs.Projections.{origins_of, uses_of}
-use Rattle.fp_layout.proofs.Projected.{source_origins, source_uses}
+use Rattle.fp_meaning.specs.Names.{definitions, mentions, uses_of}
+use Rattle.fp_meaning.specs.Origins.{Origin, origins, origins_of}
+use Rattle.fp_meaning.specs.declared.item.Item.{Item}
+use Rattle.fp_meaning.specs.declared.item.Item.TheVariants as variant
 use Rattle.fp_consts.specs.declared.measured.Measured.{Measured}
 use Rattle.fp_consts.specs.declared.stretch.Stretch.{Stretch}
 use Rattle.fp_consts.specs.Examined.{AreGiven, IsExact, value_at, entry}
@@ -159,10 +157,10 @@ value_other table number other o apart = ap entry (get_set_other table number ot
 module _ (source : Source) (items : List Item) (spans : List Stretch) (spots meanings order : List ℕ) (cyclic : List Bool) (out : IsLaidOut source items spans spots meanings)
     (sorted : IsSorted spans meanings order cyclic) where
   all_uses : flat_map uses_of items ≡ mentions source
-  all_uses = ap (λ (ps : List Item). flat_map uses_of ps) out.laid ∙ source_uses source
+  all_uses = ap (λ (ps : List Item). flat_map uses_of ps) out.laid
 
   all_origins : flat_map origins_of items ≡ origins source
-  all_origins = ap (λ (ps : List Item). flat_map origins_of ps) out.laid ∙ source_origins source
+  all_origins = ap (λ (ps : List Item). flat_map origins_of ps) out.laid
 
   spot_at : (number : ℕ) (origin : Origin) → slice_get (origins source) number ≡ Some origin → IsSpot items 0 (length meanings) 0 number origin
   spot_at number origin at =

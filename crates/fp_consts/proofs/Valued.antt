@@ -11,9 +11,8 @@ use Rattle.fp_tree.specs.declared.expression.Expr.{Expr}
 use Rattle.fp_meaning.specs.Names.{in_expression, in_optional}
 use Rattle.fp_meaning.specs.Origins.{Origin, Enumerated, origins}
 use Rattle.fp_meaning.specs.Values.{dotted, number_in, opened, constant_value, IsImplied, Val}
-use Rattle.fp_layout.specs.declared.item.Item.TheVariants as item
-use Rattle.fp_layout.specs.Projections.{value_in}
-use Rattle.fp_layout.specs.Sites.{Site, Entry, is_implied}
+use Rattle.fp_meaning.specs.declared.item.Item.TheVariants as item
+use Rattle.fp_meaning.specs.Sites.{Site, Entry, is_implied, value_in}
 use Rattle.fp_consts.specs.declared.measured.Measured.{Measured}
 use Rattle.fp_consts.specs.declared.found.Examination.{Examination}
 use Rattle.fp_consts.specs.Examined.{AreGiven, Examines, GivesValue, IsExact, leaf_of, plain}

@@ -6,12 +6,11 @@ use Rattle.fp_tree.specs.declared.source.Source.{Source}
 use Rattle.fp_tree.specs.declared.expression.Expr.{Expr}
 use Rattle.fp_meaning.specs.declared.names.Mention.{Mention}
 use Rattle.fp_base.specs.Least.{IsLeast, InSome, lesser_of}
-use Rattle.fp_meaning.specs.Names.{Path, in_expression, in_optional}
-use Rattle.fp_meaning.specs.Origins.{Placed, placed, one}
+use Rattle.fp_meaning.specs.Names.{Path, in_expression, in_optional, uses_of}
+use Rattle.fp_meaning.specs.Origins.{Placed, placed, one, expressions_of}
 use Rattle.fp_meaning.specs.Values.{opened, IsValue}
 use Rattle.fp_meaning.specs.ConstantFaults.{BrokenIn}
-use Rattle.fp_layout.specs.declared.item.Item.{Item}
-use Rattle.fp_layout.specs.Projections.{expressions_of, uses_of}
+use Rattle.fp_meaning.specs.declared.item.Item.{Item}
 use Rattle.fp_consts.specs.declared.measured.Measured.{Measured}
 use Rattle.fp_consts.specs.declared.found.Examination.{Examination}
 use Rattle.fp_consts.specs.declared.marking.Marking.{Marking}

@@ -3,12 +3,11 @@ use Rattle.std.specs.Prelude.{◌≡◌, ◌⊎◌, ℤ, pos, cond, List, [], �
 use Rattle.fp_base.specs.declared.value.Value.{Value}
 use Rattle.fp_tree.specs.declared.source.Source.{Source}
 use Rattle.fp_tree.specs.declared.expression.Expr.{Expr}
-use Rattle.fp_meaning.specs.Names.{Path, in_constant, in_expression, in_optional}
-use Rattle.fp_meaning.specs.Origins.{Origin}
+use Rattle.fp_meaning.specs.Names.{Path, in_constant, in_expression, in_optional, uses_of}
+use Rattle.fp_meaning.specs.Origins.{Origin, origin_with, origins_of}
 use Rattle.fp_meaning.specs.Values.{number_in, opened, IsImplied, Val}
-use Rattle.fp_layout.specs.declared.item.Item.{Item}
-use Rattle.fp_layout.specs.Projections.{origin_with, origins_of, uses_of}
-use Rattle.fp_layout.specs.Sites.{Entry, is_implied}
+use Rattle.fp_meaning.specs.declared.item.Item.{Item}
+use Rattle.fp_meaning.specs.Sites.{Entry, is_implied}
 use Rattle.fp_consts.specs.declared.measured.Measured.{Measured}
 use Rattle.fp_consts.specs.Examined.{AreGiven, AreMeasured, GivesValue, plain}
 

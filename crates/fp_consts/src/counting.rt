@@ -1,11 +1,10 @@
 ghost use Rattle.std.specs.Prelude.{◌≡◌, flat_map};
 ghost use Rattle.std.specs.Option.{option_copied};
-ghost use Rattle.fp_meaning.specs.Names.{Path, in_expression, in_optional};
+ghost use Rattle.fp_meaning.specs.Names.{Path, in_expression, in_optional, uses_of};
 ghost use Rattle.fp_meaning.specs.Values.{values_in};
-ghost use Rattle.fp_layout.specs.Projections.{uses_of};
 ghost use Rattle.fp_consts.specs.Laid.{IsPast, past};
 
-use fp_layout::Item;
+use fp_meaning::Item;
 use fp_tree::{Assignment, Expr, Form};
 
 /// The number of the use behind a use, where there are so many uses.

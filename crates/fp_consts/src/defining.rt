@@ -8,8 +8,7 @@ use crate::dotting::with_dots;
 use crate::examining::examine;
 use crate::measured::{Measured, leaf};
 use fp_base::{NoMemory, Value};
-use fp_layout::{Item, Listed};
-use fp_meaning::behind;
+use fp_meaning::{Item, Listed, behind};
 use fp_tree::Expr;
 use std::alloc::Global;
 

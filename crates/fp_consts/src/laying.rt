@@ -4,7 +4,8 @@ ghost use Rattle.fp_consts.specs.Laid.{places_of, spans_from, spots_from, IsLaid
 use crate::counting::past_item;
 use crate::stretch::Stretch;
 use fp_base::{NoMemory, Place, Row};
-use fp_layout::{Item, name_of};
+use fp_layout::name_of;
+use fp_meaning::Item;
 use std::alloc::Global;
 
 /// For each definition of a source that is laid out flat: where its uses stand among all uses, which item it is, and where its name

@@ -7,7 +7,7 @@ use crate::examining::examine;
 use crate::found::Examination;
 use crate::measured::Measured;
 use fp_base::{NoMemory, Refusal, Row, Value, lesser};
-use fp_layout::Item;
+use fp_meaning::Item;
 use fp_tree::Expr;
 use std::alloc::Global;
 

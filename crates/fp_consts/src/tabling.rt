@@ -10,7 +10,7 @@ use crate::depths::is_flagged;
 use crate::laying::Laid;
 use crate::measured::Measured;
 use fp_base::NoMemory;
-use fp_layout::Item;
+use fp_meaning::Item;
 use std::alloc::Global;
 
 /// The values of the definitions of a source, by their numbers, where they have some. Each is evaluated once, behind those that it uses.

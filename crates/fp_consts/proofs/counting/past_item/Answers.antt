@@ -1,8 +1,7 @@
 use Rattle.std.proofs.Common.{Option, sym, subst}
 use Rattle.fp_tree.specs.declared.expression.Expr.{Expr}
-use Rattle.fp_meaning.specs.Names.{in_expression, in_optional}
-use Rattle.fp_layout.specs.declared.item.Item.{Item}
-use Rattle.fp_layout.specs.Projections.{uses_of}
+use Rattle.fp_meaning.specs.Names.{in_expression, in_optional, uses_of}
+use Rattle.fp_meaning.specs.declared.item.Item.{Item}
 use Rattle.fp_consts.specs.Laid.{IsPast}
 use Rattle.fp_consts.proofs.counting.past_item.Goals as goal
 

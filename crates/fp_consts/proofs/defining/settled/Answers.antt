@@ -2,7 +2,7 @@ use Rattle.std.proofs.Common.{Option, sym, subst}
 use Rattle.std.specs.Prelude.{IfOk}
 use Rattle.fp_base.proofs.Options.{if_ok_then}
 use Rattle.fp_tree.specs.declared.expression.Expr.{Expr}
-use Rattle.fp_layout.specs.declared.item.Item.{Item}
+use Rattle.fp_meaning.specs.declared.item.Item.{Item}
 use Rattle.fp_consts.specs.Settled.{Settles, SettlesWith}
 use Rattle.fp_consts.proofs.Valued.{defined_settled, enumerated_settled}
 use Rattle.fp_consts.proofs.defining.settled.Goals as goal

@@ -5,7 +5,7 @@ use Rattle.fp_meaning.specs.ConstantFaults.{ConstantsBroken}
 use Rattle.fp_base.specs.Least.{IsLeast, InSome}
 use Rattle.fp_meaning.specs.Meaning.{AreMeanings}
 use Rattle.fp_meaning.specs.Names.{definitions, mentions}
-use Rattle.fp_layout.specs.Layout as layout
+use Rattle.fp_meaning.specs.Layout as layout
 use Rattle.fp_consts.specs.declared.measured.Measured.{Measured}
 use Rattle.fp_consts.specs.declared.stretch.Stretch.{Stretch}
 use Rattle.fp_consts.specs.Chains.{MarkedBy}

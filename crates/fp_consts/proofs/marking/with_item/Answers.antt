@@ -2,7 +2,7 @@ use Rattle.std.proofs.Common.{Option, sym, subst}
 use Rattle.std.specs.Prelude.{IfOk}
 use Rattle.fp_base.proofs.Options.{if_ok_then}
 use Rattle.fp_tree.specs.declared.expression.Expr.{Expr}
-use Rattle.fp_layout.specs.declared.item.Item.{Item}
+use Rattle.fp_meaning.specs.declared.item.Item.{Item}
 use Rattle.fp_consts.specs.Marked.{MarksExpression, MarksItem, MarksOptional}
 use Rattle.fp_consts.proofs.Marked.{past_type}
 use Rattle.fp_consts.proofs.marking.with_item.Goals as goal
