@@ -8,3 +8,4 @@ pub mod OneKind
 pub mod Optional
 pub mod Shaped
 pub mod Short
+pub mod Spots

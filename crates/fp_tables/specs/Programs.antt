@@ -8,9 +8,14 @@ use Rattle.fp_tables.specs.Positions.{port_of}
 use Rattle.fp_tables.specs.Specials.{is_special}
 use Rattle.fp_tables.specs.Arguments.{Scope, nothing_bound, with_bound, formals_bound, arguments_suit}
 use Rattle.fp_tables.specs.Acts.{is_placed, component_at, command_of, definition_at, has_role, machine_at, takes, takes_one, suit_in_turn, result_at}
-use Rattle.fp_tables.specs.Lookup.{Described, wire_from}
+use Rattle.fp_tables.specs.Lookup.{Described, component_of, wire_from}
 use Rattle.fp_tables.specs.declared.kind.Kind.{Kind}
 use Rattle.fp_tables.specs.declared.kind.PortDef.{PortDef}
+use Rattle.fp_tables.specs.declared.component.Full.TheVariants.{Hook}
+use Rattle.fp_tables.specs.declared.component.Way.{Way}
+use Rattle.fp_tables.specs.declared.component.Way.TheVariants.{Later}
+use Rattle.fp_tables.specs.declared.component.Part.{Part}
+use Rattle.fp_tables.specs.declared.component.Part.TheVariants.{Plain}
 use Rattle.fp_tables.specs.declared.component.Special.TheVariants.{CmdRecv, CmdResp}
 use Rattle.fp_tables.specs.declared.component.Role.{Role}
 use Rattle.fp_tables.specs.declared.component.Role.TheVariants as role
@@ -20,6 +25,8 @@ use Rattle.fp_tables.specs.declared.component.Port.{Port}
 use Rattle.fp_tables.specs.declared.component.Command.{Command}
 use Rattle.fp_tables.specs.declared.component.Event.{Event}
 use Rattle.fp_tables.specs.declared.component.Channel.{Channel}
+use Rattle.fp_tables.specs.declared.component.Running.{Running}
+use Rattle.fp_tables.specs.declared.component.Component.{Component}
 use Rattle.fp_tables.specs.declared.machine.Named.{Named}
 use Rattle.fp_tables.specs.declared.machine.Machine.{Machine}
 use Rattle.fp_tables.specs.declared.topology.End.{End}
@@ -47,9 +54,27 @@ abbrev pub is_queued : Queueing → Bool
 is_queued Queued = true
 is_queued _ = false
 
+-- a command's handler, or its hook handler
 abbrev pub is_command : Spot → Bool
 is_command (spot.Command n) = true
+is_command (spot.HookCommand n) = true
 is_command _ = false
+
+-- asynchronous, and under `hook` where the queue is full
+abbrev pub is_hooked : Way → Bool
+is_hooked (Later priority Hook) = true
+is_hooked _ = false
+
+-- the way of what arrives at a port
+abbrev pub way_in : Role → Option Way
+way_in (role.Input way) = Some way
+way_in (role.Internal way) = Some way
+way_in _ = None
+
+-- of a command that is written in its component: an implied one isn't put into the queue
+abbrev pub way_written : Way → Part → Option Way
+way_written way Plain = Some way
+way_written way _ = None
 
 abbrev pub is_return : Act → Bool
 is_return a = of_verb a.verb
@@ -136,7 +161,7 @@ module _ (t : Described) where
   abbrev pub dispatches : Act → Bool
   dispatches a = component_at t a.subject.instance (λ c. is_queued c.queueing)
 
-  -- in a command's handler, at number 0 of a resp port, which is wired
+  -- in a command's handler or hook handler, at number 0 of a resp port, which is wired
   abbrev pub responds : Spot → Act → Bool
   responds place a =
       is_command place && has_role t (is_special CmdResp) a.subject && nat_le a.subject.number 0 && is_some (wire_from t a.subject) && has_identifier a
@@ -177,10 +202,27 @@ module _ (t : Described) where
   abbrev pub action_bound : ℕ → ℕ → ℕ → Option Scope
   action_bound i running action = option_map (λ (x : Named). value_bound x.kind) (option_and_then (λ (m : Machine). slice_get m.actions action) (machine_at t i running))
 
+  abbrev pub port_way : ℕ → ℕ → Option Way
+  port_way i n = option_and_then (λ (p : Port). way_in p.role) (port_of t.model i n)
+
+  abbrev pub command_way : ℕ → ℕ → Option Way
+  command_way i n = option_and_then (λ (c : Command). way_written c.way c.part) (command_of t i n)
+
+  abbrev pub signal_way : ℕ → ℕ → Option Way
+  signal_way i running = option_map (λ (r : Running). r.way) (option_and_then (λ (c : Component). slice_get c.machines running) (component_of t.model i))
+
+  -- a place that isn't under `hook` has no hook handler
+  abbrev pub hook_bound : Option Way → Option Scope → Option Scope
+  hook_bound way scope = cond (some_and is_hooked way) scope None
+
+  -- a hook handler has the formals of its port or command; of a signal, whose value has no name, none
   abbrev pub bound_at : ℕ → Spot → Option Scope
   bound_at i (spot.Port n) = port_bound i n
   bound_at i (spot.Command n) = command_bound i n
   bound_at i (spot.Action running action) = action_bound i running action
+  bound_at i (spot.HookPort n) = hook_bound (port_way i n) (port_bound i n)
+  bound_at i (spot.HookCommand n) = hook_bound (command_way i n) (command_bound i n)
+  bound_at i (spot.HookSignal running) = hook_bound (signal_way i running) (Some nothing_bound)
 
   abbrev pub handler_suits : Handler → Bool
   handler_suits h =

@@ -66,12 +66,39 @@ abbrev pub same_spot : Spot → Spot → Bool
 same_spot (spot.Port m) (spot.Port n) = m == n
 same_spot (spot.Command m) (spot.Command n) = m == n
 same_spot (spot.Action r a) (spot.Action q b) = (r == q) && (a == b)
+same_spot (spot.HookPort m) (spot.HookPort n) = m == n
+same_spot (spot.HookCommand m) (spot.HookCommand n) = m == n
+same_spot (spot.HookSignal m) (spot.HookSignal n) = m == n
 same_spot (spot.Port m) (spot.Command n) = false
 same_spot (spot.Port m) (spot.Action q b) = false
+same_spot (spot.Port m) (spot.HookPort n) = false
+same_spot (spot.Port m) (spot.HookCommand n) = false
+same_spot (spot.Port m) (spot.HookSignal n) = false
 same_spot (spot.Command m) (spot.Port n) = false
 same_spot (spot.Command m) (spot.Action q b) = false
+same_spot (spot.Command m) (spot.HookPort n) = false
+same_spot (spot.Command m) (spot.HookCommand n) = false
+same_spot (spot.Command m) (spot.HookSignal n) = false
 same_spot (spot.Action r a) (spot.Port n) = false
 same_spot (spot.Action r a) (spot.Command n) = false
+same_spot (spot.Action r a) (spot.HookPort n) = false
+same_spot (spot.Action r a) (spot.HookCommand n) = false
+same_spot (spot.Action r a) (spot.HookSignal n) = false
+same_spot (spot.HookPort m) (spot.Port n) = false
+same_spot (spot.HookPort m) (spot.Command n) = false
+same_spot (spot.HookPort m) (spot.Action q b) = false
+same_spot (spot.HookPort m) (spot.HookCommand n) = false
+same_spot (spot.HookPort m) (spot.HookSignal n) = false
+same_spot (spot.HookCommand m) (spot.Port n) = false
+same_spot (spot.HookCommand m) (spot.Command n) = false
+same_spot (spot.HookCommand m) (spot.Action q b) = false
+same_spot (spot.HookCommand m) (spot.HookPort n) = false
+same_spot (spot.HookCommand m) (spot.HookSignal n) = false
+same_spot (spot.HookSignal m) (spot.Port n) = false
+same_spot (spot.HookSignal m) (spot.Command n) = false
+same_spot (spot.HookSignal m) (spot.Action q b) = false
+same_spot (spot.HookSignal m) (spot.HookPort n) = false
+same_spot (spot.HookSignal m) (spot.HookCommand n) = false
 
 abbrev pub same_place : Handler → Handler → Bool
 same_place h g = (h.instance == g.instance) && same_spot h.place g.place

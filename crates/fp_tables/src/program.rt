@@ -36,12 +36,16 @@ pub struct Act {
     pub bind: Option<Text>,
 }
 
-/// The place of a handler at its instance: a port, a command, or an action of a machine instance.
+/// The place of a handler at its instance: a port, a command, or an action of a machine instance; for a hook handler, the
+/// port, command or machine instance under `hook`, of which it handles what arrives at a full queue.
 #[derive(Clone, Copy, PartialEq, Eq, PartialOrd, Ord)]
 pub enum Spot {
     Port(u32),
     Command(u32),
     Action { running: u32, action: u32 },
+    HookPort(u32),
+    HookCommand(u32),
+    HookSignal(u32),
 }
 
 /// A caller with its own actions.
