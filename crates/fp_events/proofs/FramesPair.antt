@@ -146,6 +146,10 @@ closed_stack v e es (f ∷ fs) h = go f.opened v
     go (arrived default (Some name)) None = h.2
     go (arrived default (Some name)) (Some v) = in_frame_stack (bind name v) es fs h.2
 
+pub open_from-more : (opened es : List Entry) (e : Entry) → open_from opened (es ++ e ∷ []) ≡ open_after (open_from opened es) e
+open_from-more opened [] e = refl
+open_from-more opened (x ∷ es) e = open_from-more (open_after opened x) es e
+
 -- ---- a step
 
 -- the actions without their first
@@ -212,10 +216,10 @@ module _ (t : Described) (program : Program) where
   follows_stack i n b x (what.Guard r) es p h = (refl, refl, in_frame_stack less es x.frames h)
   follows_stack i n b x (what.Set r) es p h = (refl, refl, in_frame_stack less es x.frames h)
   follows_stack i n b x (what.Save r v) es p h = (refl, refl, in_frame_stack less es x.frames h)
+  follows_stack i n b x (what.Hooked r) es p h = (refl, refl, in_frame_stack less es x.frames h)
   follows_stack i n b x (what.Take number point with) es p h = (refl, refl, in_frame_stack less es x.frames h)
   follows_stack i n b x (what.Put number r) es p h = in_frame_stack less es x.frames h
   follows_stack i n b x (what.Dropped r) es p h = in_frame_stack less es x.frames h
-  follows_stack i n b x (what.Hooked r) es p h = in_frame_stack less es x.frames h
   follows_stack i n b x (what.Asserted r) es p h = h
   follows_stack i n b x (what.Leave v) es p h = closing_stack v es (record { stamp = n; actor = b; instance = i; what = what.Leave v }) x.frames refl p h
   follows_stack i n b x what.Done es p h = closing_stack None es (record { stamp = n; actor = b; instance = i; what = what.Done }) x.frames refl p h
@@ -267,10 +271,6 @@ module _ (t : Described) (program : Program) where
   told_pairs a es told before rest e is =
       pairs_from a (record { thread = opened_actor program a; last = 0 }) told.0 [] before rest e (opening_stack a)
       (subst (λ (l : List Entry). InTurn (ActorStep (core t program) a) (record { thread = opened_actor program a; last = 0 }) l told.0) is told.1)
-
-  open_from-more : (opened es : List Entry) (e : Entry) → open_from opened (es ++ e ∷ []) ≡ open_after (open_from opened es) e
-  open_from-more opened [] e = refl
-  open_from-more opened (x ∷ es) e = open_from-more (open_after opened x) es e
 
   pub run_pairs : (es : List Entry) (w : World) → RunTo t program es w → (before : List Entry) (e : Entry) (rest : List Entry) → es ≡ before ++ e ∷ rest → Pairs (open_frames e.actor before) e
   run_pairs =

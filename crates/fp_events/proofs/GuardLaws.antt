@@ -79,6 +79,7 @@ guard_after g a (what.Guard r) = Some (record { actor = a; frames = 0 })
 guard_after g a (what.Enter r) = counted a g
 guard_after g a (what.Set r) = counted a g
 guard_after g a (what.Save r v) = counted a g
+guard_after g a (what.Hooked r) = counted a g
 guard_after g a (what.Leave v) = freed a g
 guard_after g a _ = g
 
@@ -89,6 +90,7 @@ module _ (t : Described) (program : Program) (i : ℕ) where
   leaves_guard s a (what.Enter r) = refl
   leaves_guard s a (what.Set r) = refl
   leaves_guard s a (what.Save r v) = refl
+  leaves_guard s a (what.Hooked r) = refl
   leaves_guard s a (what.Leave v) = refl
   leaves_guard s a _ = refl
 
@@ -105,6 +107,7 @@ sort_of (what.Guard r) = guarding
 sort_of (what.Enter r) = counting
 sort_of (what.Set r) = counting
 sort_of (what.Save r v) = counting
+sort_of (what.Hooked r) = counting
 sort_of _ = passing
 
 module _ (i : ℕ) where
@@ -251,6 +254,7 @@ module _ (i : ℕ) where
       go (what.Enter r) c is = counted_left g a f fs is h
       go (what.Set r) c is = counted_left g a f fs is h
       go (what.Save r u) c is = counted_left g a f fs is h
+      go (what.Hooked r) c is = counted_left g a f fs is h
       go _ c is = absurd (cc)
 
   done_passes : (g : Option Holding) (a : ℕ) (f : Entry) (fs : List Entry) → closes what.Done f.what ≡ true → f.instance ≡ i → Held g a (f ∷ fs) → Held g a fs
@@ -275,6 +279,7 @@ module _ (i : ℕ) where
   mine g n a (what.Enter r) fs free p h = held_counted g a _ fs (sort_here _ refl) h
   mine g n a (what.Set r) fs free p h = held_counted g a _ fs (sort_here _ refl) h
   mine g n a (what.Save r v) fs free p h = held_counted g a _ fs (sort_here _ refl) h
+  mine g n a (what.Hooked r) fs free p h = held_counted g a _ fs (sort_here _ refl) h
   mine g n a (what.Take number point with) fs free p h = held_more g a _ fs (sort_here _ refl) h
   mine g n a (what.Leave v) [] free p h = absurd (cc)
   mine g n a (what.Leave v) (f ∷ fs) free p h = let q = p refl in leave_frees g a v f fs q.0 q.1 h
@@ -318,6 +323,7 @@ module _ (i : ℕ) where
   theirs g a b (what.Enter r) fs apart free h = counted_apart g a b fs apart h
   theirs g a b (what.Set r) fs apart free h = counted_apart g a b fs apart h
   theirs g a b (what.Save r v) fs apart free h = counted_apart g a b fs apart h
+  theirs g a b (what.Hooked r) fs apart free h = counted_apart g a b fs apart h
   theirs g a b (what.Leave v) fs apart free h = freed_apart g a b fs apart h
   theirs g a b _ fs apart free h = h
 

@@ -11,6 +11,7 @@ pub mod QueueLaws
 pub mod Policies
 pub mod FramesPair
 pub mod GuardLaws
+pub mod Hooks
 pub mod MachineStartsThenMoves
 pub mod CommandToResponse
 pub mod FullQueueBlocks

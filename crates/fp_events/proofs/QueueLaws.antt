@@ -136,7 +136,8 @@ module _ (t : Described) (program : Program) (i : ℕ) where
   within ps (what.Take number point with) most is = omega (arith, without-length number ps)
   within ps _ most is = most
 
-  untaken_from-more : (ps : List Pending) (es : List Entry) (e : Entry) → untaken_from t i ps (es ++ e ∷ []) ≡ untaken_after t i (untaken_from t i ps es) e.what
+module _ (t : Described) (i : ℕ) where
+  pub untaken_from-more : (ps : List Pending) (es : List Entry) (e : Entry) → untaken_from t i ps (es ++ e ∷ []) ≡ untaken_after t i (untaken_from t i ps es) e.what
   untaken_from-more ps [] e = refl
   untaken_from-more ps (x ∷ es) e = untaken_from-more (untaken_after t i ps x.what) es e
 
@@ -164,7 +165,7 @@ module _ (t : Described) (program : Program) where
 
       more : (i : ℕ) (es : List Entry) (s u : InstanceState) (e : Entry) → Keeps i es s → InstanceStep (core t program) i s e u → Keeps i (es ++ e ∷ []) u
       more i es s u e keeps step = (
-        left i s u e step ∙ ap (λ ps. untaken_after t i ps e.what) keeps.0 ∙ sym (untaken_from-more t program i [] es e),
+        left i s u e step ∙ ap (λ ps. untaken_after t i ps e.what) keeps.0 ∙ sym (untaken_from-more t i [] es e),
         rw (left i s u e step) (within t program i s.inside.pending e.what keeps.1 (order i s u e step keeps.1)),
       )
 

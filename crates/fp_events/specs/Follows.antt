@@ -76,6 +76,13 @@ value_in _ = None
 abbrev pub ok_note : List ℕ
 ok_note = codes "OK"
 
+-- the place of the hook handler of a point
+abbrev pub hook_spot : Point → Spot
+hook_spot (Port n number) = spot.HookPort n
+hook_spot (Command n) = spot.HookCommand n
+hook_spot (Post n) = spot.HookPort n
+hook_spot (Signal running signal) = spot.HookSignal running
+
 module _ (t : Described) (program : Program) where
   abbrev pub acts_at : ℕ → Spot → List Action
   acts_at i place = map act (handler program i place)
@@ -93,6 +100,10 @@ module _ (t : Described) (program : Program) where
       value_first : List Value → Option Value
       value_first [] = None
       value_first (v ∷ vs) = Some v
+
+  -- a hook handler's actions, with the formals bound as in the place's own handler, for a signal none
+  abbrev pub hooking : ℕ → Point → List Value → Doing
+  hooking i point with = record { actions = acts_at i (hook_spot point); bound = (handling i point with).bound }
 
   -- what the place returns where no action does
   abbrev pub returned : ℕ → Point → Option Value
@@ -148,10 +159,11 @@ module _ (t : Described) (program : Program) where
   -- wire is left out
   follows i x (what.Set r) = framed x (opened i (sends i ((special.CmdResp, ok_note) ∷ [])) None x.frames)
   follows i x (what.Save r v) = framed x (opened i (sends i ((special.PrmSet, parameter_name i r.point) ∷ (special.CmdResp, ok_note) ∷ [])) None x.frames)
-  -- put, drop, hook, empty: the action is removed
+  -- hook: the action is removed, and a frame opens with the hook handler's actions, which returns nothing
+  follows i x (what.Hooked r) = framed x (opened i (hooking i r.point r.with) None x.frames)
+  -- put, drop, empty: the action is removed
   follows i x (what.Put number r) = framed x (removed x.frames)
   follows i x (what.Dropped r) = framed x (removed x.frames)
-  follows i x (what.Hooked r) = framed x (removed x.frames)
   -- assert: the actor halts
   follows i x (what.Asserted r) = record x { halted = true }
   -- leave, done: the frame closes, and a returned value is bound in the frame below where the call has a name for it

@@ -10,6 +10,7 @@ opens (what.Enter r) = true
 opens (what.Guard r) = true
 opens (what.Set r) = true
 opens (what.Save r v) = true
+opens (what.Hooked r) = true
 opens (what.Take number point with) = true
 opens _ = false
 

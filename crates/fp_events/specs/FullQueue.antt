@@ -19,7 +19,7 @@ use Rattle.fp_events.specs.declared.event.Entry.{Entry}
 use Rattle.fp_events.specs.declared.event.Origin.TheVariants.{Caller}
 use Rattle.fp_events.specs.declared.event.Point.TheVariants as point
 use Rattle.fp_events.specs.declared.event.What.{What}
-use Rattle.fp_events.specs.declared.event.What.TheVariants.{Put}
+use Rattle.fp_events.specs.declared.event.What.TheVariants.{Put, Leave}
 
 -- port P(a: U8)
 abbrev pub formal_a : Formal
@@ -77,3 +77,7 @@ first_put = record { stamp = 1; actor = 0; instance = 0; what = Put 1 (arrival_w
 -- 2 k q .. i[0] via caller (2)
 abbrev pub second : (Arrival → What) → Entry
 second what = record { stamp = 2; actor = 0; instance = 0; what = what (arrival_with 2) }
+
+-- 3 k q leave
+abbrev pub hook_left : Entry
+hook_left = record { stamp = 3; actor = 0; instance = 0; what = Leave None }

@@ -13,7 +13,7 @@ pub record Pending : Type 0 where
   pub point : Point
   pub with : List Value
 
--- the actor that holds the guard, and how many of its sync, set and save frames opened here since are still open
+-- the actor that holds the guard, and how many of its sync, set, save and hook frames opened here since are still open
 pub record Holding : Type 0 where
   pub actor : ℕ
   pub frames : ℕ

@@ -59,10 +59,11 @@ module _ (t : Described) (program : Program) (i : ℕ) where
   leaves s a (what.Save r value) = record s { guard = counted a s.guard }
   -- put: the call is appended
   leaves s a (what.Put number r) = record s { pending = s.pending ++ pending_call number r ∷ []; puts = number }
-  -- drop, hook, assert: no change
+  -- drop, assert: no change
   leaves s a (what.Dropped r) = s
-  leaves s a (what.Hooked r) = s
   leaves s a (what.Asserted r) = s
+  -- hook: the call isn't put, and the count as for enter
+  leaves s a (what.Hooked r) = record s { guard = counted a s.guard }
   -- leave: where this actor holds the guard, it is freed at count 0, else the count falls
   leaves s a (what.Leave v) = record s { guard = freed a s.guard }
   -- done: where this actor holds the turn, it is freed

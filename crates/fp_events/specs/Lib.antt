@@ -16,6 +16,7 @@ pub mod Ends
 pub mod Waits
 pub mod Worked
 pub mod FullQueue
+pub mod HookHandler
 pub mod SignalValue
 pub mod QueueOrder
 pub mod Frames

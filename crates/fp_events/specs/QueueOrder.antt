@@ -24,7 +24,7 @@ IsNext ps p = (before : List Pending) × (rest : List Pending) × (ps ≡ before
     × AllByRecursion (λ x. int_lt x.priority p.priority ≡ true) before × AllByRecursion (λ x. int_lt p.priority x.priority ≡ false) rest
 
 module _ (t : Described) (i : ℕ) where
-  -- the puts that are untaken after an entry, in order
+  -- the puts that are untaken after an entry, in order: a call that is dropped, hooked or asserted is never one of them
   abbrev pub untaken_after : List Pending → What → List Pending
   untaken_after ps (what.Put number r) = ps ++ (record { number = number; priority = priority_at (manner t i r.point); point = r.point; with = r.with }) ∷ []
   untaken_after ps (what.Take number point with) = without number ps

@@ -11,7 +11,7 @@ use Rattle.fp_events.specs.Answers.{answers}
 use Rattle.fp_events.specs.Fits.{fits, what_fits}
 use Rattle.fp_events.specs.Step.{instance_part, actor_part, core}
 use Rattle.fp_events.specs.Run.{opening}
-use Rattle.fp_events.specs.FullQueue.{full_queue, two_calls, arrival_with, first_put, second}
+use Rattle.fp_events.specs.FullQueue.{full_queue, two_calls, arrival_with, first_put, hook_left, second}
 use Rattle.fp_events.specs.declared.event.Entry.{Entry}
 use Rattle.fp_events.specs.declared.event.What.TheVariants as what
 use Rattle.fp_events.proofs.StepLaws.{core_laws, core_taking}
@@ -27,7 +27,7 @@ pub returns-clause-hook : goal.returns-clause-hook
 unfolding due follows tells leaves answers fits what_fits instance_part actor_part
 returns-clause-hook c =
     let tables = full_queue full.Hook in
-    (_, schedule_run (core tables two_calls) (core_taking tables two_calls) (0 ∷ 0 ∷ []) (opening tables two_calls) _ (first_put ∷ second what.Hooked ∷ []) refl, refl)
+    (_, schedule_run (core tables two_calls) (core_taking tables two_calls) (0 ∷ 0 ∷ 0 ∷ []) (opening tables two_calls) _ (first_put ∷ second what.Hooked ∷ hook_left ∷ []) refl, refl)
 
 pub returns-clause-assert : goal.returns-clause-assert
 unfolding due follows tells leaves answers fits what_fits instance_part actor_part
