@@ -1,11 +1,13 @@
-ghost use Rattle.std.specs.Prelude.{◌≡◌, option_map, is_some, IfOk};
+ghost use Rattle.std.specs.Prelude.{◌≡◌, Some, option_map, is_some, IfOk};
 ghost use Rattle.std.specs.List.{list_all};
 ghost use Rattle.fp_tables.specs.Lists.{some_and};
 ghost use Rattle.fp_tables.specs.Bound.{scope_of};
 ghost use Rattle.fp_tables.specs.Acts.{suit_in_turn};
-ghost use Rattle.fp_tables.specs.Programs.{act_suits, is_return, return_stands, returned_at, value_bound, port_bound, command_bound, action_bound, bound_at, handler_suits};
+ghost use Rattle.fp_tables.specs.Arguments.{nothing_bound};
+ghost use Rattle.fp_tables.specs.Programs.{act_suits, is_return, return_stands, returned_at, value_bound, port_bound, command_bound, action_bound, port_way, command_way, signal_way, hook_bound, bound_at, handler_suits};
 
 use crate::acts::bind;
+use crate::hooks::{command_is_hooked, port_is_hooked, signals_are_hooked};
 use crate::verbs::act_suits;
 use fp_base::NoMemory;
 use fp_tables::{Act, Bound, Handler, Kind, Role, Spot, Tables, Verb};
@@ -110,6 +112,51 @@ fn action_bound<'a>(
     }
 }
 
+fn hooked_port_bound<'a>(
+    alloc: Global,
+    tables: &'a Tables,
+    instance: u32,
+    port: u32,
+) -> Result<Option<Bound<'a>>, NoMemory>
+    ensures { IfOk result (λ found. option_map scope_of found ≡ hook_bound tables.now (port_way tables.now instance port) (port_bound tables.now instance port)) }
+{
+    if port_is_hooked(tables, instance, port) {
+        port_bound(alloc, tables, instance, port)
+    } else {
+        Ok(None)
+    }
+}
+
+fn hooked_command_bound<'a>(
+    alloc: Global,
+    tables: &'a Tables,
+    instance: u32,
+    command: u32,
+) -> Result<Option<Bound<'a>>, NoMemory>
+    ensures { IfOk result (λ found. option_map scope_of found ≡ hook_bound tables.now (command_way tables.now instance command) (command_bound tables.now instance command)) }
+{
+    if command_is_hooked(tables, instance, command) {
+        command_bound(alloc, tables, instance, command)
+    } else {
+        Ok(None)
+    }
+}
+
+fn hooked_signal_bound<'a>(
+    alloc: Global,
+    tables: &'a Tables,
+    instance: u32,
+    running: u32,
+) -> Option<Bound<'a>>
+    ensures { option_map scope_of result ≡ hook_bound tables.now (signal_way tables.now instance running) (Some nothing_bound) }
+{
+    if signals_are_hooked(tables, instance, running) {
+        Some(Bound::new(alloc))
+    } else {
+        None
+    }
+}
+
 /// What is bound where a handler begins, or None where its place isn't one.
 fn bound_at<'a>(
     alloc: Global,
@@ -123,6 +170,9 @@ fn bound_at<'a>(
         Spot::Port(port) => port_bound(alloc, tables, instance, port),
         Spot::Command(command) => command_bound(alloc, tables, instance, command),
         Spot::Action { running, action } => action_bound(alloc, tables, instance, running, action),
+        Spot::HookPort(port) => hooked_port_bound(alloc, tables, instance, port),
+        Spot::HookCommand(command) => hooked_command_bound(alloc, tables, instance, command),
+        Spot::HookSignal(running) => Ok(hooked_signal_bound(alloc, tables, instance, running)),
     }
 }
 

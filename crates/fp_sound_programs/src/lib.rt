@@ -5,6 +5,7 @@ mod acts;
 mod arguments;
 mod callers;
 mod handlers;
+mod hooks;
 mod limits;
 mod programs;
 mod queues;

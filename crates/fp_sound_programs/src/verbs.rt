@@ -188,7 +188,7 @@ fn responds(tables: &Tables, place: Spot, act: &Act) -> bool
     ensures { result ≡ responds tables.now place act.now }
 {
     match place {
-        Spot::Command(_) => is_resp_at(tables, act.subject)
+        Spot::Command(_) | Spot::HookCommand(_) => is_resp_at(tables, act.subject)
             && act.subject.number == 0
             && wire_from(tables, act.subject).is_some()
             && has_identifier(act),
