@@ -1,6 +1,6 @@
--- What a member of a file gives and uses stands where tokens begin, its names are names that tokens have, and its expressions and the
--- modules in it nest no deeper than is allowed.
-use Rattle.std.proofs.Common.{◌≡◌, ℕ, zero, suc, ◌+◌, ◌≤◌, max, List, [], ◌∷◌, ◌++◌, subst, sym, arith}
+-- What the items of a member of a file define and use stands where tokens begin, its names are names that tokens have, and its expressions
+-- and the modules in it nest no deeper than is allowed.
+use Rattle.std.proofs.Common.{◌≡◌, ℕ, zero, suc, ◌+◌, ◌≤◌, max, List, [], ◌∷◌, ◌++◌, flat_map, subst, sym, arith}
 use Rattle.std.specs.List.{AllByRecursion as Each}
 use Rattle.fp_base.specs.declared.place.Place.{Place}
 use Rattle.fp_base.specs.declared.place.Span.{Span}
@@ -9,14 +9,17 @@ use Rattle.fp_tree.specs.declared.name.Name.{Name}
 use Rattle.fp_tree.specs.declared.name.Qual.{Qual}
 use Rattle.fp_tree.specs.declared.name.Str.{Str}
 use Rattle.fp_tree.specs.declared.definition.Def.{Def}
-use Rattle.fp_tree.specs.declared.definition.Def.TheVariants as def
 use Rattle.fp_tree.specs.declared.member.Include.{Include}
 use Rattle.fp_tree.specs.declared.member.Member.{Member}
 use Rattle.fp_tree.specs.declared.member.Module.{Module, out-Module}
 use Rattle.fp_tree.specs.declared.member.Member.TheVariants as node
 use Rattle.fp_meaning.specs.declared.names.Definition.{Definition}
-use Rattle.fp_meaning.specs.Names.{Path, in_member, in_members, definitions_in, mentions_in}
-use Rattle.fp_meaning.specs.Origins.{Placed, expressions_in}
+use Rattle.fp_meaning.specs.declared.item.Item.{Item}
+use Rattle.fp_meaning.specs.Sites.{Path, Placed}
+use Rattle.fp_meaning.specs.Layout.{in_member, in_members}
+use Rattle.fp_meaning.specs.Names.{definitions_of, uses_of}
+use Rattle.fp_meaning.specs.Origins.{expressions_of}
+use Rattle.fp_meaning.proofs.Walks.{module_gives, definition_gives, include_gives, locate_gives}
 use Rattle.fp_grammar.specs.Grammar.{Language}
 use Rattle.fp_parse_pieces.specs.Kinds.{k_open_brace, k_close_brace}
 use Rattle.fp_parse_pieces.specs.Lists.{joined, or_none}
@@ -30,10 +33,10 @@ use Rattle.fp_sites.specs.Includes.{includes_within, includes_in}
 use Rattle.fp_base.proofs.Lists.{each_push, each_flat, each_weaker}
 use Rattle.fp_sites.proofs.Preserving.{LanguageGives, gives_anything, gives_map, gives_seq, gives_alt, gives_optional, gives_ref, gives_seal, gives_after}
 use Rattle.fp_sites.proofs.Lists.{each_or_none, gives_some_of}
-use Rattle.fp_sites.proofs.Walks.{in_module, in_definition, in_include, in_locate, module_includes, definition_includes, include_includes, locate_includes, module_names, definition_names, include_names, locate_names, module_depth, definition_depth, include_depth, locate_depth}
+use Rattle.fp_sites.proofs.Walks.{module_includes, definition_includes, include_includes, locate_includes, module_names, definition_names, include_names, locate_names, module_depth, definition_depth, include_depth, locate_depth}
 use Rattle.fp_sites.proofs.Words.{IsTold, Yields, SitedName, SitedQual, at_yields, name_yields, qual_yields}
-use Rattle.fp_sites.proofs.Expressions.{Stand, same_stand, same_names}
-use Rattle.fp_sites.proofs.Definitions.{Kept, same_kept, Sited, definition_yields}
+use Rattle.fp_sites.proofs.Expressions.{Stand, same_names}
+use Rattle.fp_sites.proofs.Definitions.{Sited, SitedItem, definition_yields}
 
 no_modules : (n k : ℕ) → n ≡ 0 → n ≤ k
 no_modules n k e = omega arith
@@ -45,21 +48,20 @@ both_within : (n m k : ℕ) → n ≤ k → m ≤ k → max n m ≤ k
 both_within n m k h g = omega arith
 
 module _ (G : Place → Type 0) (N : Name → Type 0) (expressions : ℕ) where
-  -- each of these definitions, or includes, stands at such a place
-  abbrev Given : List Definition → Type 0
-  Given ds = Each (λ (d : Definition). G d.place) ds
+  -- all these items are such items
+  abbrev Given : List Item → Type 0
+  Given is = Each (SitedItem G N expressions) is
 
+  -- each of these includes stands at such a place
   abbrev Included : List Include → Type 0
   Included is = Each (λ (i : Include). G i.at.first) is
 
-  -- what a member gives and uses stands at such places, in any scope, its names are such names, its expressions nest no deeper than is
-  -- allowed, and modules in it no deeper than this
+  -- a member has such items, in any scope, its includes stand at such places, its names are such names, and modules in it nest no deeper
+  -- than this
   pub record SitedMember (depth : ℕ) (m : Member) : Type 0 where
-    pub given : (scope : Path) → Given (in_member definitions_in scope m)
-    pub uses : (scope : Path) → Stand G N (in_member mentions_in scope m)
+    pub given : (scope : Path) → Given (in_member scope m)
     pub includes : Included (includes_within m)
     pub names : Each N (names_within m)
-    pub kept : (scope : Path) → Kept G N expressions (in_member expressions_in scope m)
     pub modules : modules_within m ≤ depth
 
   -- the same of a member in any annotation
@@ -67,11 +69,20 @@ module _ (G : Place → Type 0) (N : Name → Type 0) (expressions : ℕ) where
   SitedBare depth m = (note : List ℕ) → SitedMember depth (noted_member m note)
 
   module _ (depth : ℕ) where
-    pub given_of_all : (ms : List Member) → Each (SitedMember depth) ms → (scope : Path) → Given (in_members definitions_in scope ms)
-    given_of_all ms hs scope = each_flat _ (in_member definitions_in scope) ms (each_weaker (SitedMember depth) (λ m. Given (in_member definitions_in scope m)) (λ m h. h.given scope) ms hs)
+    given_of_all : (ms : List Member) → Each (SitedMember depth) ms → (scope : Path) → Given (in_members scope ms)
+    given_of_all ms hs scope = each_flat _ (in_member scope) ms (each_weaker (SitedMember depth) (λ m. Given (in_member scope m)) (λ m h. h.given scope) ms hs)
 
-    pub uses_of_all : (ms : List Member) → Each (SitedMember depth) ms → (scope : Path) → Stand G N (in_members mentions_in scope ms)
-    uses_of_all ms hs scope = each_flat _ (in_member mentions_in scope) ms (each_weaker (SitedMember depth) (λ m. Stand G N (in_member mentions_in scope m)) (λ m h. h.uses scope) ms hs)
+    pub definitions_of_all : (ms : List Member) → Each (SitedMember depth) ms → (scope : Path) → Each (λ (d : Definition). G d.place) (flat_map definitions_of (in_members scope ms))
+    definitions_of_all ms hs scope = each_flat _ definitions_of (in_members scope ms)
+        (each_weaker (SitedItem G N expressions) (λ i. Each (λ (d : Definition). G d.place) (definitions_of i)) (λ i h. h.defines) (in_members scope ms) (given_of_all ms hs scope))
+
+    pub uses_of_all : (ms : List Member) → Each (SitedMember depth) ms → (scope : Path) → Stand G N (flat_map uses_of (in_members scope ms))
+    uses_of_all ms hs scope = each_flat _ uses_of (in_members scope ms)
+        (each_weaker (SitedItem G N expressions) (λ i. Stand G N (uses_of i)) (λ i h. h.uses) (in_members scope ms) (given_of_all ms hs scope))
+
+    pub kept_of_all : (ms : List Member) → Each (SitedMember depth) ms → (scope : Path) → Each (λ (p : Placed). depth_of p.expression ≤ expressions) (flat_map expressions_of (in_members scope ms))
+    kept_of_all ms hs scope = each_flat _ expressions_of (in_members scope ms)
+        (each_weaker (SitedItem G N expressions) (λ i. Each (λ (p : Placed). depth_of p.expression ≤ expressions) (expressions_of i)) (λ i h. h.kept) (in_members scope ms) (given_of_all ms hs scope))
 
     pub includes_of_all : (ms : List Member) → Each (SitedMember depth) ms → Included (includes_in ms)
     includes_of_all ms hs = each_flat _ includes_within ms (each_weaker (SitedMember depth) (λ m. Included (includes_within m)) (λ m h. h.includes) ms hs)
@@ -79,72 +90,51 @@ module _ (G : Place → Type 0) (N : Name → Type 0) (expressions : ℕ) where
     pub names_of_all : (ms : List Member) → Each (SitedMember depth) ms → Each N (names_in ms)
     names_of_all ms hs = each_flat N names_within ms (each_weaker (SitedMember depth) (λ m. Each N (names_within m)) (λ m h. h.names) ms hs)
 
-    pub kept_of_all : (ms : List Member) → Each (SitedMember depth) ms → (scope : Path) → Kept G N expressions (in_members expressions_in scope ms)
-    kept_of_all ms hs scope = each_flat (λ (p : Placed). depth_of p.expression ≤ expressions) (in_member expressions_in scope) ms (each_weaker (SitedMember depth) (λ m. Kept G N expressions (in_member expressions_in scope m)) (λ m h. h.kept scope) ms hs)
-
     pub modules_of_all : (ms : List Member) → Each (SitedMember depth) ms → modules_in ms ≤ depth
     modules_of_all [] hs = omega arith
     modules_of_all (m ∷ ms) hs = both_within (modules_within m) (modules_in ms) depth hs.0.modules (modules_of_all ms hs.1)
 
-  same_given : (ds es : List Definition) → ds ≡ es → Given es → Given ds
-  same_given ds es e h = subst Given (sym e) h
+  same_given : (is js : List Item) → is ≡ js → Given js → Given is
+  same_given is js e h = subst Given (sym e) h
 
   same_included : (is js : List Include) → is ≡ js → Included js → Included is
   same_included is js e h = subst Included (sym e) h
 
   module_sited : (depth : ℕ) (m : Module) → N (out-Module m).name → Each (SitedMember depth) (out-Module m).members → SitedMember (suc depth) (node.Module m)
   module_sited depth m name hs = record {
-    given = λ scope. same_given _ _ (in_module definitions_in scope m) (given_of_all depth (out-Module m).members hs (scope ++ (out-Module m).name.text ∷ []));
-    uses = λ scope. same_stand G N _ _ (in_module mentions_in scope m) (uses_of_all depth (out-Module m).members hs (scope ++ (out-Module m).name.text ∷ []));
+    given = λ scope. same_given _ _ (module_gives scope m) (given_of_all depth (out-Module m).members hs (scope ++ (out-Module m).name.text ∷ []));
     includes = same_included _ _ (module_includes m) (includes_of_all depth (out-Module m).members hs);
     names = same_names G N _ _ (module_names m) (name, names_of_all depth (out-Module m).members hs);
-    kept = λ scope. same_kept G N expressions _ _ (in_module expressions_in scope m) (kept_of_all depth (out-Module m).members hs (scope ++ (out-Module m).name.text ∷ []));
     modules = one_module _ _ depth (module_depth m) (modules_of_all depth (out-Module m).members hs);
   }
 
   definition_sited : (depth : ℕ) (d : Def) → Sited G N expressions d → SitedMember depth (node.Def d)
   definition_sited depth d h = record {
-    given = λ scope. same_given _ _ (in_definition definitions_in scope d) (h.given scope);
-    uses = λ scope. same_stand G N _ _ (in_definition mentions_in scope d) (h.uses scope);
+    given = λ scope. same_given _ _ (definition_gives scope d) (h.items scope);
     includes = same_included _ _ (definition_includes d) tt;
     names = same_names G N _ _ (definition_names d) h.names;
-    kept = λ scope. same_kept G N expressions _ _ (in_definition expressions_in scope d) (h.kept scope);
     modules = no_modules _ depth (definition_depth d);
   }
 
   include_sited : (depth : ℕ) (i : Include) → G i.at.first → SitedMember depth (node.Include i)
   include_sited depth i h = record {
-    given = λ scope. same_given _ _ (in_include definitions_in scope i) tt;
-    uses = λ scope. same_stand G N _ _ (in_include mentions_in scope i) tt;
+    given = λ scope. same_given _ _ (include_gives scope i) tt;
     includes = same_included _ _ (include_includes i) (h, tt);
     names = same_names G N _ _ (include_names i) tt;
-    kept = λ scope. same_kept G N expressions _ _ (in_include expressions_in scope i) tt;
     modules = no_modules _ depth (include_depth i);
   }
 
   -- a `locate` gives and uses nothing
   locate_sited : (depth : ℕ) (of : Qual) (file : Str) (at : Span) → Each N of.names → SitedBare depth (bare.Locate of file at)
   locate_sited depth of file at names note = record {
-    given = λ scope. same_given _ _ (in_locate definitions_in scope _) tt;
-    uses = λ scope. same_stand G N _ _ (in_locate mentions_in scope _) tt;
+    given = λ scope. same_given _ _ (locate_gives scope _) tt;
     includes = same_included _ _ (locate_includes _) tt;
     names = same_names G N _ _ (locate_names _) names;
-    kept = λ scope. same_kept G N expressions _ _ (in_locate expressions_in scope _) tt;
     modules = no_modules _ depth (locate_depth _);
   }
 
-  -- an annotation changes nothing of it
-  noted_sited : (d : Def) (note : List ℕ) → Sited G N expressions d → Sited G N expressions (noted_definition d note)
-  noted_sited (def.Constant d) note h = record { given = h.given; uses = h.uses; names = h.names; kept = h.kept }
-  noted_sited (def.Abstract d) note h = record { given = h.given; uses = h.uses; names = h.names; kept = h.kept }
-  noted_sited (def.Alias d) note h = record { given = h.given; uses = h.uses; names = h.names; kept = h.kept }
-  noted_sited (def.Array d) note h = record { given = h.given; uses = h.uses; names = h.names; kept = h.kept }
-  noted_sited (def.Struct d) note h = record { given = h.given; uses = h.uses; names = h.names; kept = h.kept }
-  noted_sited (def.Enum d) note h = record { given = h.given; uses = h.uses; names = h.names; kept = h.kept }
-  noted_sited (def.Port d) note h = record { given = h.given; uses = h.uses; names = h.names; kept = h.kept }
-
   definition_member_yields : (depth : ℕ) → Yields G N (definition_member expressions) (SitedBare depth)
-  definition_member_yields depth = gives_map (SitedBare depth) bare.Def (λ d h note. definition_sited depth (noted_definition d note) (noted_sited d note h))
+  definition_member_yields depth = gives_map (SitedBare depth) bare.Def (λ d h note. definition_sited depth (noted_definition d note) (h note))
       (gives_seal {a = definition expressions} definition_begins definition_goes_on (definition_yields G N expressions))
 
   included_sited : (depth : ℕ) (p : Span × Str) → G p.0.first × Unit {0} → SitedBare depth (made_include p)

@@ -12,7 +12,7 @@ use Rattle.fp_parse_defs.specs.Reading.{limit}
 use Rattle.fp_parse_parts.specs.Units.{SpellsUnit}
 use Rattle.fp_sites.specs.Sites.{BeginsToken, StandAtTokens}
 use Rattle.fp_sites.proofs.Words.{IsTold}
-use Rattle.fp_sites.proofs.Members.{given_of_all, uses_of_all, includes_of_all, all_yield}
+use Rattle.fp_sites.proofs.Members.{definitions_of_all, uses_of_all, includes_of_all, all_yield}
 
 -- nothing is said of a name
 abbrev Any : Name → Type 0
@@ -26,7 +26,7 @@ pub standing : (tokens : List Token) (ms : List Member) → SpellsUnit tokens ms
 standing tokens ms spelled =
     let all = (all_yield (BeginsToken tokens) Any limit limit).given tokens ms spelled (all_begin tokens) in
     record {
-      definitions = λ scope d there. of_contained (λ (x : Definition). BeginsToken tokens x.place) _ d (given_of_all (BeginsToken tokens) Any limit limit ms all scope) there;
+      definitions = λ scope d there. of_contained (λ (x : Definition). BeginsToken tokens x.place) _ d (definitions_of_all (BeginsToken tokens) Any limit limit ms all scope) there;
       mentions = λ scope m there. of_contained (λ (x : Mention). BeginsToken tokens x.place) _ m (uses_of_all (BeginsToken tokens) Any limit limit ms all scope) there;
       includes = λ i there. of_contained (λ (x : Include). BeginsToken tokens x.at.first) _ i (includes_of_all (BeginsToken tokens) Any limit limit ms all) there;
     }

@@ -1,4 +1,4 @@
--- The uses and the names in an expression by its outermost production, how deep it nests, and what a member gives by its form.
+-- The uses and the names in an expression by its outermost production, how deep it nests, and what else stands in a member by its form.
 use Rattle.std.proofs.Common.{◌≡◌, ℤ, ℕ, ◌+◌, max, Bool, List, [], ◌∷◌, ◌++◌, map, flat_map, sym, ap, ◌∙◌}
 use Rattle.std.proofs.lemmas.List.Folds.{flat_map-map}
 use Rattle.fp_tree.specs.declared.definition.Def.{Def}
@@ -18,7 +18,7 @@ use Rattle.fp_tree.specs.declared.member.Member.TheOpen as member
 use Rattle.fp_tree.specs.declared.member.Member.TheVariants as node
 use Rattle.fp_meaning.specs.declared.group.Group.TheVariants as group
 use Rattle.fp_meaning.specs.declared.names.Mention.{Mention}
-use Rattle.fp_meaning.specs.Names.{Path, member_step, module_step, in_member, in_members, mentioned, form_step, assignment_step, expression_step, in_form, in_expression, in_assignment}
+use Rattle.fp_meaning.specs.Names.{Path, mentioned, form_step, assignment_step, expression_step, in_form, in_expression, in_assignment}
 use Rattle.fp_meaning.specs.Values.{deepest}
 use Rattle.fp_sites.specs.Depths.{depth_of_form, depth_of_assignment, depth_of_expression, depth_of, depth_in_form, depth_in_assignment, modules_of_member, modules_of_module, modules_within, modules_in}
 use Rattle.fp_sites.specs.Names.{names_of_form, names_of_assignment, names_of_expression, names_in_expression, names_in_form, names_in_assignment, names_in_definition, names_of_member, names_of_module, names_within, names_in}
@@ -166,31 +166,6 @@ array_depth items = array_walk depth_of_form depth_of_assignment depth_of_expres
 
 pub struct_depth : (members : List Assignment) → depth_in_form (Struct members) ≡ deepest (map depth_in_assignment members) + 1
 struct_depth members = struct_walk depth_of_form depth_of_assignment depth_of_expression members
-
--- what stands in a member, in a scope
-module _ {A : Type 0} (given : Path → Def → List A) (scope : Path) where
-  pub in_module : (m : Opened) → in_member given scope (node.Module m) ≡ in_members given (scope ++ (out-Module m).name.text ∷ []) (out-Module m).members
-  in_module m =
-      ap (in_member given scope) (sym (node.rolls-Module m))
-      ∙ ap (λ (f : Path → List A). f scope) (fold-roll-Member (Path → List A) (Path → List A) (member_step given) (module_step given) (member.Module m))
-      ∙ ap (λ (f : Path → List A). f scope) (fold_out-Module (Path → List A) (Path → List A) (member_step given) (module_step given) m)
-      ∙ flat_map-map (λ (inner : Path → List A). inner (scope ++ (out-Module m).name.text ∷ []))
-      (fold-Member (Path → List A) (Path → List A) (member_step given) (module_step given)) (out-Module m).members
-
-  pub in_definition : (d : Def) → in_member given scope (node.Def d) ≡ given scope d
-  in_definition d =
-      ap (in_member given scope) (sym (node.rolls-Def d))
-      ∙ ap (λ (f : Path → List A). f scope) (fold-roll-Member (Path → List A) (Path → List A) (member_step given) (module_step given) (member.Def d))
-
-  pub in_include : (i : Included) → in_member given scope (node.Include i) ≡ []
-  in_include i =
-      ap (in_member given scope) (sym (node.rolls-Include i))
-      ∙ ap (λ (f : Path → List A). f scope) (fold-roll-Member (Path → List A) (Path → List A) (member_step given) (module_step given) (member.Include i))
-
-  pub in_locate : (l : Located) → in_member given scope (node.Locate l) ≡ []
-  in_locate l =
-      ap (in_member given scope) (sym (node.rolls-Locate l))
-      ∙ ap (λ (f : Path → List A). f scope) (fold-roll-Member (Path → List A) (Path → List A) (member_step given) (module_step given) (member.Locate l))
 
 -- the includes of a member
 pub module_includes : (m : Opened) → includes_within (node.Module m) ≡ includes_in (out-Module m).members
