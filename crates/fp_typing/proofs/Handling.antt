@@ -9,7 +9,8 @@ use Rattle.fp_tables.specs.Acts.{command_of, machine_at, binds, suit_in_turn}
 use Rattle.fp_tables.specs.Arguments.{Scope, nothing_bound, formals_bound, kinds_of}
 use Rattle.fp_tables.specs.Lookup.{Described}
 use Rattle.fp_tables.specs.Positions.{port_of}
-use Rattle.fp_tables.specs.Programs.{is_general_input, is_internal, value_bound, act_suits, caller_act_suits, bound_at, handler_suits}
+use Rattle.fp_tables.specs.Lists.{some_and}
+use Rattle.fp_tables.specs.Programs.{is_general_input, is_internal, is_hooked, value_bound, act_suits, caller_act_suits, port_bound, command_bound, port_way, command_way, signal_way, bound_at, handler_suits}
 use Rattle.fp_tables.specs.Sound.{IsSoundFor}
 use Rattle.fp_tables.specs.SoundPrograms.{IsSoundProgram, same_spot}
 use Rattle.fp_tables.specs.Types.{has_kind, have_kinds}
@@ -26,7 +27,7 @@ use Rattle.fp_tables.specs.declared.program.Spot.{Spot}
 use Rattle.fp_tables.specs.declared.program.Spot.TheVariants as spot
 use Rattle.fp_events.specs.Actor.{Bindings, Action, act, send, advance, Doing, Opened, own, arrived, taken}
 use Rattle.fp_events.specs.Fits.{kinds, port_at, signal_kinds, signal_at, place_kinds, point_fits, actions_fit, gives_kind}
-use Rattle.fp_events.specs.Follows.{handling, sends, with_value, performed}
+use Rattle.fp_events.specs.Follows.{handling, hook_spot, hooking, sends, with_value, performed}
 use Rattle.fp_events.specs.Lookup.{machine, names, handler}
 use Rattle.fp_events.specs.Manners.{manner}
 use Rattle.fp_events.specs.declared.event.Point.{Point}
@@ -38,15 +39,8 @@ use Rattle.fp_typing.proofs.Scopes.{nothing_suits, one_more_suits, formals_suit}
 use Rattle.fp_typing.proofs.Places.{machine_here}
 use Rattle.fp_typing.proofs.Asks.{never}
 use Rattle.fp_tables.proofs.Aliases.{one_kind}
+use Rattle.fp_tables.proofs.Spots.{spot_equal}
 use Rattle.fp_tables.proofs.Optional.{some_and_of}
-
-spot_equal : (a b : Spot) → same_spot a b ≡ true → a ≡ b
-spot_equal (spot.Port m) (spot.Port n) h = ap spot.Port (nat_same.equal m n h)
-spot_equal (spot.Command m) (spot.Command n) h = ap spot.Command (nat_same.equal m n h)
-spot_equal (spot.Action r a) (spot.Action q b) h =
-    let e = both (r == q) (a == b) h in
-    ap (λ (n : ℕ). spot.Action n a) (nat_same.equal r q e.0) ∙ ap (spot.Action q) (nat_same.equal a b e.1)
-spot_equal _ _ h = absurd (cc)
 
 module _ (t : Described) (program : Program) where
   -- ---- a program's own lists
@@ -123,7 +117,7 @@ module _ (t : Described) (program : Program) where
         go (Some ks) h = (ks, refl, h)
 
     -- the formals of a port with the values of a call
-    port_bindings : (i n : ℕ) (p : PortOf) (vs : List Value) (scope : Scope) → slice_get (component t i).ports n ≡ Some p → have_kinds t.model.types (kinds_of p.formals) vs ≡ true → bound_at t i (spot.Port n) ≡ Some scope
+    port_bindings : (i n : ℕ) (p : PortOf) (vs : List Value) (scope : Scope) → slice_get (component t i).ports n ≡ Some p → have_kinds t.model.types (kinds_of p.formals) vs ≡ true → port_bound t i n ≡ Some scope
         → BoundSuits t.model.types scope (zip (unwrap_or (option_map (λ (p : PortOf). names p.formals) (slice_get (component t i).ports n)) []) vs)
     port_bindings i n p vs scope found fit is =
         let q = then_some (λ (p : PortOf). cond (is_general_input p.role || is_internal p.role) (Some (formals_bound p.formals)) None) (port_of t.model i n) scope is in
@@ -131,6 +125,35 @@ module _ (t : Described) (program : Program) where
         let bound : formals_bound p.formals ≡ scope = ap (λ (p : PortOf). formals_bound p.formals) same ∙ chosen _ (formals_bound q.0.formals) scope q.2 in
         subst (λ (o : Option PortOf). BoundSuits t.model.types scope (zip (unwrap_or (option_map (λ (p : PortOf). names p.formals) o) []) vs)) (sym found)
         (subst (λ (s : Scope). BoundSuits t.model.types s (zip (names p.formals) vs)) bound (formals_suit t.model.types p.formals vs fit))
+
+    -- the formals of a port, with the values of an arrival at one of its numbers or of an internal call
+    port_values : (i n number : ℕ) (vs : List Value) (scope : Scope) → point_fits t program i (Port n number) vs ≡ true → port_bound t i n ≡ Some scope
+        → BoundSuits t.model.types scope (zip (unwrap_or (option_map (λ (p : PortOf). names p.formals) (slice_get (component t i).ports n)) []) vs)
+    port_values i n number vs scope fit is =
+        let v = values_of_point i (Port n number) vs fit in
+        let p = then_some (λ (p : PortOf). cond (nat_lt number p.size) (Some (kinds t program p.formals)) None) (port_at t program i n) v.0 v.1 in
+        let ks : kinds t program p.0.formals ≡ v.0 = chosen _ (kinds t program p.0.formals) v.0 p.2 in
+        port_bindings i n p.0 vs scope p.1 (ap (λ (l : List Kind). have_kinds t.model.types l vs) ks ∙ v.2) is
+
+    post_values : (i n : ℕ) (vs : List Value) (scope : Scope) → point_fits t program i (Post n) vs ≡ true → port_bound t i n ≡ Some scope
+        → BoundSuits t.model.types scope (zip (unwrap_or (option_map (λ (p : PortOf). names p.formals) (slice_get (component t i).ports n)) []) vs)
+    post_values i n vs scope fit is =
+        let v = values_of_point i (Post n) vs fit in
+        let p = mapped_some (λ (p : PortOf). kinds t program p.formals) (port_at t program i n) v.0 v.1 in
+        port_bindings i n p.0 vs scope p.1 (ap (λ (l : List Kind). have_kinds t.model.types l vs) p.2 ∙ v.2) is
+
+    -- the formals of a command
+    command_values : (i n : ℕ) (vs : List Value) (scope : Scope) → point_fits t program i (OfCommand n) vs ≡ true → command_bound t i n ≡ Some scope
+        → BoundSuits t.model.types scope (zip (unwrap_or (option_map (λ (c : Command). names c.formals) (slice_get (component t i).commands n)) []) vs)
+    command_values i n vs scope fit is =
+        let v = values_of_point i (OfCommand n) vs fit in
+        let c = mapped_some (λ (c : Command). kinds t program c.formals) (slice_get (component t i).commands n) v.0 v.1 in
+        let d = mapped_some (λ (c : Command). formals_bound c.formals) (command_of t i n) scope is in
+        let same : c.0 ≡ d.0 = same_some (sym c.1 ∙ command_in t i n ∙ d.1) in
+        let bound : formals_bound c.0.formals ≡ scope = ap (λ (c : Command). formals_bound c.formals) same ∙ d.2 in
+        subst (λ (o : Option Command). BoundSuits t.model.types scope (zip (unwrap_or (option_map (λ (c : Command). names c.formals) o) []) vs)) (sym c.1)
+        (subst (λ (s : Scope). BoundSuits t.model.types s (zip (names c.0.formals) vs)) bound
+        (formals_suit t.model.types c.0.formals vs (ap (λ (l : List Kind). have_kinds t.model.types l vs) c.2 ∙ v.2)))
 
     -- the place whose handler an arrival at a point begins
     abbrev pub spot_of : Point → Spot
@@ -162,31 +185,46 @@ module _ (t : Described) (program : Program) where
     pub handling_suits : (o : Opened) (i : ℕ) (result : Option Kind) (point : Point) (vs : List Value) → ((p : Spot) → source o i p ≡ at i p) → MayReturn t program o i result (spot_of point)
         → point_fits t program i point vs ≡ true → DoingSuits t program o i result (λ scope. scope) (handling t program i point vs)
     handling_suits o i result (Port n number) vs inside may fit =
-        let v = values_of_point i (Port n number) vs fit in
-        let p = then_some (λ (p : PortOf). cond (nat_lt number p.size) (Some (kinds t program p.formals)) None) (port_at t program i n) v.0 v.1 in
-        let ks : kinds t program p.0.formals ≡ v.0 = chosen _ (kinds t program p.0.formals) v.0 p.2 in
-        handler_list o i result (spot.Port n) _ inside may
-        (λ scope is. port_bindings i n p.0 vs scope p.1 (ap (λ (l : List Kind). have_kinds t.model.types l vs) ks ∙ v.2) is)
+        handler_list o i result (spot.Port n) _ inside may (λ scope is. port_values i n number vs scope fit is)
     handling_suits o i result (Post n) vs inside may fit =
-        let v = values_of_point i (Post n) vs fit in
-        let p = mapped_some (λ (p : PortOf). kinds t program p.formals) (port_at t program i n) v.0 v.1 in
-        handler_list o i result (spot.Port n) _ inside may
-        (λ scope is. port_bindings i n p.0 vs scope p.1 (ap (λ (l : List Kind). have_kinds t.model.types l vs) p.2 ∙ v.2) is)
+        handler_list o i result (spot.Port n) _ inside may (λ scope is. post_values i n vs scope fit is)
     handling_suits o i result (OfCommand n) vs inside may fit =
-        let v = values_of_point i (OfCommand n) vs fit in
-        let c = mapped_some (λ (c : Command). kinds t program c.formals) (slice_get (component t i).commands n) v.0 v.1 in
-        handler_list o i result (spot.Command n) _ inside may
-        (λ scope is.
-        let d = mapped_some (λ (c : Command). formals_bound c.formals) (command_of t i n) scope is in
-        let same : c.0 ≡ d.0 = same_some (sym c.1 ∙ command_in t i n ∙ d.1) in
-        let bound : formals_bound c.0.formals ≡ scope = ap (λ (c : Command). formals_bound c.formals) same ∙ d.2 in
-        subst (λ (o : Option Command). BoundSuits t.model.types scope (zip (unwrap_or (option_map (λ (c : Command). names c.formals) o) []) vs)) (sym c.1)
-        (subst (λ (s : Scope). BoundSuits t.model.types s (zip (names c.0.formals) vs)) bound
-        (formals_suit t.model.types c.0.formals vs (ap (λ (l : List Kind). have_kinds t.model.types l vs) c.2 ∙ v.2))))
+        handler_list o i result (spot.Command n) _ inside may (λ scope is. command_values i n vs scope fit is)
     handling_suits o i result (Signal running signal) vs inside may fit =
         let v = values_of_point i (Signal running signal) vs fit in
         let s = mapped_some (λ (s : Named). signal_kinds t program s.kind) (signal_at t program i running signal) v.0 v.1 in
         signal_list o i result running signal s.0 vs inside may s.1 (ap (λ (l : List Kind). have_kinds t.model.types l vs) s.2 ∙ v.2)
+
+    -- ---- hooks
+
+    -- a hook handler returns nothing
+    hook_silent : (default : Option Value) (name : Option (List ℕ)) (i : ℕ) (result : Option Kind) (point : Point) → MayReturn t program (arrived default name) i result (hook_spot point)
+    hook_silent default name i result (Port n number) = λ k h. absurd (cc)
+    hook_silent default name i result (OfCommand n) = λ k h. absurd (cc)
+    hook_silent default name i result (Post n) = λ k h. absurd (cc)
+    hook_silent default name i result (Signal running signal) = λ k h. absurd (cc)
+
+    -- what is bound under `hook`
+    under_hook : (b : Bool) (o : Option Scope) (scope : Scope) → cond b o None ≡ Some scope → o ≡ Some scope
+    under_hook true o scope h = h
+    under_hook false o scope h = absurd (cc)
+
+    pub hooking_suits : (default : Option Value) (name : Option (List ℕ)) (i : ℕ) (result : Option Kind) (point : Point) (vs : List Value) → point_fits t program i point vs ≡ true
+        → DoingSuits t program (arrived default name) i result (λ scope. scope) (hooking t program i point vs)
+    hooking_suits default name i result (Port n number) vs fit =
+        handler_list (arrived default name) i result (spot.HookPort n) _ (λ p. refl) (hook_silent default name i result (Port n number))
+        (λ scope is. port_values i n number vs scope fit (under_hook (some_and is_hooked (port_way t i n)) (port_bound t i n) scope is))
+    hooking_suits default name i result (Post n) vs fit =
+        handler_list (arrived default name) i result (spot.HookPort n) _ (λ p. refl) (hook_silent default name i result (Post n))
+        (λ scope is. post_values i n vs scope fit (under_hook (some_and is_hooked (port_way t i n)) (port_bound t i n) scope is))
+    hooking_suits default name i result (OfCommand n) vs fit =
+        handler_list (arrived default name) i result (spot.HookCommand n) _ (λ p. refl) (hook_silent default name i result (OfCommand n))
+        (λ scope is. command_values i n vs scope fit (under_hook (some_and is_hooked (command_way t i n)) (command_bound t i n) scope is))
+    hooking_suits default name i result (Signal running signal) vs fit =
+        handler_list (arrived default name) i result (spot.HookSignal running) _ (λ p. refl) (hook_silent default name i result (Signal running signal))
+        (λ scope is.
+        let none : nothing_bound ≡ scope = same_some (under_hook (some_and is_hooked (signal_way t i running)) (Some nothing_bound) scope is) in
+        subst (λ (s : Scope). BoundSuits t.model.types s []) none (nothing_suits t.model.types []))
 
     -- ---- sends
 

@@ -31,7 +31,7 @@ use Rattle.fp_events.specs.Actor.{Bindings, Action, advance, Doing, Opened, own,
 use Rattle.fp_events.specs.Answers.{suits, answers}
 use Rattle.fp_events.specs.Due.{first_action, due_of}
 use Rattle.fp_events.specs.Fits.{signal_at, point_fits, origin_fits, arrival_fits, value_fits, actions_fit, going_fits, what_fits}
-use Rattle.fp_events.specs.Follows.{without_first, bind, in_frame, doing, removed, bound_below, closed, name_for, value_in, ok_note, handling, returned, opened, sends, parameter_name, performed, sent_as, bound_name, follows}
+use Rattle.fp_events.specs.Follows.{without_first, bind, in_frame, doing, removed, bound_below, closed, name_for, value_in, ok_note, handling, returned, opened, sends, parameter_name, performed, sent_as, bound_name, hooking, follows}
 use Rattle.fp_events.specs.Lookup.{machine, home, default_of}
 use Rattle.fp_events.specs.Manners.{Manner, by, sets, saves, manner, input_manner}
 use Rattle.fp_events.specs.declared.event.Arrival.{Arrival}
@@ -47,7 +47,7 @@ use Rattle.fp_events.proofs.SameArrival.{value_option_same}
 use Rattle.fp_typing.specs.Suits.{result_of_point, results_by, returns_fit, Source, at, source, AdvanceSuits, ActionSuits, MayReturn, DoingSuits, DoingsSuit, Returns, awaited, Stands, FramesSuit, AllSuit}
 use Rattle.fp_typing.proofs.Asks.{untyped, FirstSuits, first_suits}
 use Rattle.fp_typing.proofs.Dues.{no_some, IsEnd, BindsFirst, first_binds}
-use Rattle.fp_typing.proofs.Handling.{spot_of, handling_suits, sends_suit, Has, has_value, performed_suit}
+use Rattle.fp_typing.proofs.Handling.{spot_of, handling_suits, hooking_suits, sends_suit, Has, has_value, performed_suit}
 use Rattle.fp_typing.proofs.Removing.{first_answer, same_answer, without_first_suits, bind_suits, frames_same_answer, removed_suits, quietly_removed, bound_below_suits}
 use Rattle.fp_typing.proofs.Results.{later_returns_nothing, post_is_later, default_is, default_of_result}
 
@@ -235,6 +235,15 @@ module _ (t : Described) (program : Program) (sound : IsSoundFor t.model (Some t
       subst (λ (k : Option Kind). AllSuit t program (k ∷ ks) a (opened t program i (sends t program i ports) None fs)) none
       (open_suits ks a i fs q r (sends t program i ports) None h due is here (subst (λ (k : Option Kind). Returns t program k None) (sym none) tt)
       (λ name. sends_suit t program good (arrived None name) i (result_of_point t i r.point) ports (λ p. refl)))
+
+  hooked : (ks : List (Option Kind)) (a i : ℕ) (fs : List Frame) (q : Ask) (r : Arrival) → AllSuit t program ks a fs → due_of t program a fs ≡ Some (i, q) → q ≡ ask.Arrive r → is_placed t i ≡ true
+      → suits (manner t i r.point) (what.Hooked r) ≡ true → point_fits t program i r.point r.with ≡ true → AllSuit t program (None ∷ ks) a (opened t program i (hooking t program i r.point r.with) None fs)
+  hooked ks a i fs q r h due is here treated fit =
+      let m = later_manner (manner t i r.point) (what.Hooked r) tt treated in
+      let none = later_returns_nothing t sound i r.point m.0 m.1 m.2 in
+      subst (λ (k : Option Kind). AllSuit t program (k ∷ ks) a (opened t program i (hooking t program i r.point r.with) None fs)) none
+      (open_suits ks a i fs q r (hooking t program i r.point r.with) None h due is here (subst (λ (k : Option Kind). Returns t program k None) (sym none) tt)
+      (λ name. hooking_suits t program good None name i (result_of_point t i r.point) r.point r.with fit))
 
   waiting : (ks : List (Option Kind)) (a i : ℕ) (fs : List Frame) (q : Ask) (r : Arrival) (w : What) → AllSuit t program ks a fs → due_of t program a fs ≡ Some (i, q) → q ≡ ask.Arrive r → IsLater w → suits (manner t i r.point) w ≡ true
       → AllSuit t program ks a (removed fs)
@@ -476,7 +485,7 @@ module _ (t : Described) (program : Program) (sound : IsSoundFor t.model (Some t
       waiting ks a i x.frames q r (what.Dropped r) h due s.0 tt s.1
   keeps ks a i x q (what.Hooked r) h due answer here fit =
       let s = answered_arrival t program i (what.Hooked r) q r refl answer in
-      waiting ks a i x.frames q r (what.Hooked r) h due s.0 tt s.1
+      hooked ks a i x.frames q r h due s.0 here s.1 (point_of i r fit)
   keeps ks a i x q (what.Asserted r) h due answer here fit = h
   keeps ks a i x (ask.Leave u) (what.Leave v) h due answer here fit =
       leaving ks a i v x.frames h (at_ask a i x.frames (ask.Leave u) (ask.Leave v) due (ap ask.Leave (sym (value_option_same.equal v u answer))))
