@@ -91,7 +91,7 @@ module _ (t : Described) (program : Program) where
   have_lists u i (what.Save r value) = have_one None _ (has_sends None i ((special.PrmSet, parameter_name t program i r.point) ∷ (special.CmdResp, ok_note) ∷ []))
   have_lists u i (what.Put number r) = have_none None
   have_lists u i (what.Dropped r) = have_none None
-  have_lists u i (what.Hooked r) = have_none None
+  have_lists u i (what.Hooked r) = have_one None _ (has_acts None _)
   have_lists u i (what.Asserted r) = have_none None
   have_lists u i (what.Leave y) = have_none None
   have_lists u i what.Done = have_none None

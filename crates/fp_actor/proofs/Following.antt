@@ -225,7 +225,7 @@ module _ (t : Described) (program : Program) (number : ℕ) (trace : List Entry)
       opens x (what.Save r value) o h = ap (λ (fs : List Frame). (follows t program e.instance (record { frames = fs; halted = x.halted }) (what.Save r value)).frames) (sym h)
       opens x (what.Put k r) o h = absurd o
       opens x (what.Dropped r) o h = absurd o
-      opens x (what.Hooked r) o h = absurd o
+      opens x (what.Hooked r) o h = ap (λ (fs : List Frame). (follows t program e.instance (record { frames = fs; halted = x.halted }) (what.Hooked r)).frames) (sym h)
       opens x (what.Asserted r) o h = absurd o
       opens x (what.Leave v) o h = absurd o
       opens x what.Done o h = absurd o
@@ -246,7 +246,7 @@ module _ (t : Described) (program : Program) (number : ℕ) (trace : List Entry)
     unfolding follows
     removed_follows e x (what.Put k r) o h = i.rest ∙ ap removed (sym h)
     removed_follows e x (what.Dropped r) o h = i.rest ∙ ap removed (sym h)
-    removed_follows e x (what.Hooked r) o h = i.rest ∙ ap removed (sym h)
+    removed_follows e x (what.Hooked r) o h = absurd o
     removed_follows e x what.Empty o h = i.rest ∙ ap removed (sym h)
     removed_follows e x (what.Enter r) o h = absurd o
     removed_follows e x (what.Guard r) o h = absurd o

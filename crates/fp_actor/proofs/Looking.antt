@@ -1,5 +1,5 @@
 -- The value of a name among bindings.
-use Rattle.std.proofs.Common.{◌≡◌, ℕ, Bool, true, false, cond, ◌&&◌, List, [], ◌∷◌, ◌++◌, map, Option, Some, None, Result, IfOk, is_some, option_map, unwrap_or, refl, sym, ap, ◌∙◌, subst}
+use Rattle.std.proofs.Common.{◌≡◌, ℕ, zero, suc, Bool, true, false, cond, ◌&&◌, List, [], ◌∷◌, ◌++◌, map, Option, Some, None, Result, IfOk, is_some, option_map, unwrap_or, refl, sym, ap, ◌∙◌, subst}
 use Rattle.std.specs.Prelude.{codes}
 use Rattle.std.specs.List.{find, slice_get}
 use Rattle.std.specs.Option.{option_or}
@@ -25,6 +25,11 @@ carry o x y e h = subst (λ z. IfOk o (λ v. v ≡ z)) e h
 
 pub only_bound : (d : Doing) (k : ℕ) → k ≡ 0 → d.bound ≡ bound_of (slice_get (d ∷ []) k)
 only_bound d k e = ap (λ n. bound_of (slice_get (d ∷ []) n)) (sym e)
+
+-- lists that are alone, with the same bindings
+pub same_bound : (d e : Doing) → d.bound ≡ e.bound → (k : ℕ) → bound_of (slice_get (d ∷ []) k) ≡ bound_of (slice_get (e ∷ []) k)
+same_bound d e h zero = h
+same_bound d e h (suc k) = refl
 
 pub action_bound : (t : Described) (program : Program) (v : Option Value) (x : Option Named) (name : List ℕ) →
     cond (has_kind_at x && same_text (codes "value") name) v None ≡ looked name (with_value t program v x)

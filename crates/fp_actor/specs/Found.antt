@@ -31,3 +31,12 @@ FindsCommands handlers commands = (key : ℕ × ℕ) → get_by (pair_cmp key) c
 
 abbrev pub FindsActions : List Handler → BTreeMap (ℕ × ℕ × ℕ) ℕ → Type 0
 FindsActions handlers actions = (key : ℕ × ℕ × ℕ) → get_by (triple_cmp key) actions ≡ position (is_at key.0 (spot.Action key.1 key.2)) handlers
+
+abbrev pub FindsHookPorts : List Handler → BTreeMap (ℕ × ℕ) ℕ → Type 0
+FindsHookPorts handlers ports = (key : ℕ × ℕ) → get_by (pair_cmp key) ports ≡ position (is_at key.0 (spot.HookPort key.1)) handlers
+
+abbrev pub FindsHookCommands : List Handler → BTreeMap (ℕ × ℕ) ℕ → Type 0
+FindsHookCommands handlers commands = (key : ℕ × ℕ) → get_by (pair_cmp key) commands ≡ position (is_at key.0 (spot.HookCommand key.1)) handlers
+
+abbrev pub FindsHookSignals : List Handler → BTreeMap (ℕ × ℕ) ℕ → Type 0
+FindsHookSignals handlers signals = (key : ℕ × ℕ) → get_by (pair_cmp key) signals ≡ position (is_at key.0 (spot.HookSignal key.1)) handlers

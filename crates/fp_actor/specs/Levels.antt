@@ -17,7 +17,7 @@ use Rattle.fp_events.specs.declared.event.Entry.{Entry}
 use Rattle.fp_tables.specs.Specials.{component}
 use Rattle.fp_events.specs.Actor.{Bindings, Action, act, send, advance, Doing, Opened, own, arrived, taken, Frame}
 use Rattle.fp_events.specs.Due.{first_action}
-use Rattle.fp_events.specs.Follows.{handling, returned, sends, performed, parameter_name, ok_note, doing, removed, name_for, bound_name}
+use Rattle.fp_events.specs.Follows.{handling, hooking, returned, sends, performed, parameter_name, ok_note, doing, removed, name_for, bound_name}
 use Rattle.fp_actor.specs.declared.lists.ActionList.{ActionList}
 use Rattle.fp_actor.specs.declared.lists.ActionList.TheVariants as listed
 use Rattle.fp_actor.specs.declared.lists.Deed.{Deed}
@@ -111,6 +111,7 @@ IsOpening (what.Enter r) = Unit {0}
 IsOpening (what.Guard r) = Unit {0}
 IsOpening (what.Set r) = Unit {0}
 IsOpening (what.Save r value) = Unit {0}
+IsOpening (what.Hooked r) = Unit {0}
 IsOpening _ = ⊥
 
 abbrev pub IsUnsent : Fate → Type 0
@@ -121,7 +122,6 @@ IsUnsent _ = Unit {0}
 abbrev pub IsRemoving : What → Type 0
 IsRemoving (what.Put number r) = Unit {0}
 IsRemoving (what.Dropped r) = Unit {0}
-IsRemoving (what.Hooked r) = Unit {0}
 IsRemoving what.Empty = Unit {0}
 IsRemoving (what.Emit event fate text) = IsUnsent fate
 IsRemoving (what.Write channel fate value) = IsUnsent fate
@@ -178,6 +178,7 @@ module _ (t : Described) (program : Program) where
   lists_of v i (what.Guard r) = handling t program i r.point r.with ∷ []
   lists_of v i (what.Set r) = sends t program i ((special.CmdResp, ok_note) ∷ []) ∷ []
   lists_of v i (what.Save r value) = sends t program i ((special.PrmSet, parameter_name t program i r.point) ∷ (special.CmdResp, ok_note) ∷ []) ∷ []
+  lists_of v i (what.Hooked r) = hooking t program i r.point r.with ∷ []
   lists_of v i (what.Take number point with) = handling t program i point with ∷ []
   lists_of v i (what.Emit event fate text) = sends t program i ((special.Event, event_name i event) ∷ []) ∷ []
   lists_of v i (what.Write channel fate value) = sends t program i ((special.Tlm, channel_name i channel) ∷ []) ∷ []

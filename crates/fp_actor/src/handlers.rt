@@ -1,5 +1,5 @@
 ghost use Rattle.std.specs.Prelude.{◌≡◌, [], IfOk, unwrap_or, option_map, slice_get, position};
-ghost use Rattle.fp_actor.specs.Found.{FindsPorts, FindsCommands, FindsActions, handler_in, is_at};
+ghost use Rattle.fp_actor.specs.Found.{FindsPorts, FindsCommands, FindsActions, FindsHookPorts, FindsHookCommands, FindsHookSignals, handler_in, is_at};
 
 use fp_base::NoMemory;
 use fp_tables::{Act, Handler, Spot};
@@ -14,6 +14,9 @@ pub struct Handlers<'a> {
     ports: BTreeMap<(u32, u32), usize>,
     commands: BTreeMap<(u32, u32), usize>,
     actions: BTreeMap<(u32, u32, u32), usize>,
+    hook_ports: BTreeMap<(u32, u32), usize>,
+    hook_commands: BTreeMap<(u32, u32), usize>,
+    hook_signals: BTreeMap<(u32, u32), usize>,
 }
 
 impl<'a> Model for Handlers<'a> {
@@ -21,7 +24,7 @@ impl<'a> Model for Handlers<'a> {
     ghost use Rattle.std.specs.Coded.{codes};
     ghost use Rattle.fp_base.specs.contracts.value.Value as value;
     ghost use Rattle.fp_tables.specs.declared.program.Handler.{Handler};
-    ghost use Rattle.fp_actor.specs.Found.{FindsPorts, FindsCommands, FindsActions};
+    ghost use Rattle.fp_actor.specs.Found.{FindsPorts, FindsCommands, FindsActions, FindsHookPorts, FindsHookCommands, FindsHookSignals};
 
     ghost Value = { List Handler };
 
@@ -29,7 +32,8 @@ impl<'a> Model for Handlers<'a> {
 
     ghost view = { λ h. h.handlers.now };
 
-    ghost invariant = { λ h. FindsPorts h.handlers.now h.ports × FindsCommands h.handlers.now h.commands × FindsActions h.handlers.now h.actions };
+    ghost invariant = { λ h. FindsPorts h.handlers.now h.ports × FindsCommands h.handlers.now h.commands × FindsActions h.handlers.now h.actions
+        × FindsHookPorts h.handlers.now h.hook_ports × FindsHookCommands h.handlers.now h.hook_commands × FindsHookSignals h.handlers.now h.hook_signals };
 }
 
 impl<'a> Handlers<'a> {
@@ -39,11 +43,17 @@ impl<'a> Handlers<'a> {
         let ports = ports_of(alloc, handlers)?;
         let commands = commands_of(alloc, handlers)?;
         let actions = actions_of(alloc, handlers)?;
+        let hook_ports = hook_ports_of(alloc, handlers)?;
+        let hook_commands = hook_commands_of(alloc, handlers)?;
+        let hook_signals = hook_signals_of(alloc, handlers)?;
         Ok(Handlers {
             handlers,
             ports,
             commands,
             actions,
+            hook_ports,
+            hook_commands,
+            hook_signals,
         })
     }
 
@@ -67,6 +77,9 @@ impl<'a> Handlers<'a> {
                 .actions
                 .get(&(instance, running, action))
                 .copied(),
+            Spot::HookPort(port) => self.hook_ports.get(&(instance, port)).copied(),
+            Spot::HookCommand(command) => self.hook_commands.get(&(instance, command)).copied(),
+            Spot::HookSignal(running) => self.hook_signals.get(&(instance, running)).copied(),
         }
     }
 }
@@ -126,4 +139,58 @@ fn actions_of(
         }
     }
     Ok(actions)
+}
+
+fn hook_ports_of(
+    alloc: Global,
+    handlers: &[Handler],
+) -> Result<BTreeMap<(u32, u32), usize>, NoMemory>
+    ensures { IfOk result (λ ports. FindsHookPorts handlers.now ports) }
+{
+    let mut ports = BTreeMap::new(alloc);
+    for (at, handler) in handlers.iter().enumerate() {
+        if let Spot::HookPort(port) = handler.place {
+            let key = (handler.instance, port);
+            if !ports.contains_key(&key) {
+                ports.insert(key, at)?;
+            }
+        }
+    }
+    Ok(ports)
+}
+
+fn hook_commands_of(
+    alloc: Global,
+    handlers: &[Handler],
+) -> Result<BTreeMap<(u32, u32), usize>, NoMemory>
+    ensures { IfOk result (λ commands. FindsHookCommands handlers.now commands) }
+{
+    let mut commands = BTreeMap::new(alloc);
+    for (at, handler) in handlers.iter().enumerate() {
+        if let Spot::HookCommand(command) = handler.place {
+            let key = (handler.instance, command);
+            if !commands.contains_key(&key) {
+                commands.insert(key, at)?;
+            }
+        }
+    }
+    Ok(commands)
+}
+
+fn hook_signals_of(
+    alloc: Global,
+    handlers: &[Handler],
+) -> Result<BTreeMap<(u32, u32), usize>, NoMemory>
+    ensures { IfOk result (λ signals. FindsHookSignals handlers.now signals) }
+{
+    let mut signals = BTreeMap::new(alloc);
+    for (at, handler) in handlers.iter().enumerate() {
+        if let Spot::HookSignal(running) = handler.place {
+            let key = (handler.instance, running);
+            if !signals.contains_key(&key) {
+                signals.insert(key, at)?;
+            }
+        }
+    }
+    Ok(signals)
 }

@@ -4,7 +4,7 @@ ghost use Rattle.fp_tables.specs.Lookup.{Described};
 ghost use Rattle.fp_tables.specs.declared.program.Program.{Program};
 ghost use Rattle.fp_events.specs.Actor.{act};
 ghost use Rattle.fp_events.specs.Due.{first_action};
-ghost use Rattle.fp_events.specs.Follows.{handling as handling_of, performed, value_in};
+ghost use Rattle.fp_events.specs.Follows.{acts_at, handling as handling_of, hook_spot, performed, value_in};
 ghost use Rattle.fp_events.specs.declared.event.Entry.{Entry};
 ghost use Rattle.fp_actor.specs.Levels.{IsOneList, own_lists, lists_in, lists_of, value_at, signal_in, sent, action_of, actions_of};
 ghost use Rattle.fp_actor.specs.declared.level.Source.TheVariants as source;
@@ -202,6 +202,7 @@ impl<'v> View<'v> {
             What::Enter(arrival) => Some(self.handling(at, instance, arrival.point)),
             What::Guard(arrival) => Some(self.handling(at, instance, arrival.point)),
             What::Take { point, .. } => Some(self.handling(at, instance, *point)),
+            What::Hooked(arrival) => Some(self.hooking(instance, arrival.point)),
             What::Set(_) => Some(self.set_sends(instance)),
             What::Save { arrival, .. } => Some(self.save_sends(instance, arrival.point)),
             What::Emit { event, .. } => Some(self.event_send(instance, *event)),
@@ -232,5 +233,25 @@ impl<'v> View<'v> {
                 value: at,
             },
         }
+    }
+
+    /// The actions of the hook handler of a place.
+    fn hooking(&self, instance: u32, point: Point) -> ActionList<'v>
+        ensures { actions_of self.now.tables.now self.now.program.now self.now.number self.now.trace.now result
+            ≡ acts_at self.now.tables.now self.now.program.now instance (hook_spot point) }
+    {
+        ActionList::Acts(self.handlers.acts(instance, hook_spot(point)))
+    }
+}
+
+/// The place of the hook handler of a point.
+fn hook_spot(point: Point) -> Spot
+    ensures { result ≡ hook_spot point }
+{
+    match point {
+        Point::Port { port, .. } => Spot::HookPort(port),
+        Point::Command(command) => Spot::HookCommand(command),
+        Point::Post(port) => Spot::HookPort(port),
+        Point::Signal { running, .. } => Spot::HookSignal(running),
     }
 }

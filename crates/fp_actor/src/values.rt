@@ -5,7 +5,7 @@ ghost use Rattle.fp_tables.specs.Specials.{component as component_at};
 ghost use Rattle.fp_base.specs.Same.{same_text};
 ghost use Rattle.fp_events.specs.Lookup.{machine as machine_at, names};
 ghost use Rattle.fp_events.specs.Due.{value_of, values as values_of};
-ghost use Rattle.fp_events.specs.Follows.{bound_name as bound_name_of, handling as handling_of, performed};
+ghost use Rattle.fp_events.specs.Follows.{bound_name as bound_name_of, handling as handling_of, hooking as hooking_of, performed};
 ghost use Rattle.fp_base.specs.declared.value.Value.{Value, Opaque};
 ghost use Rattle.fp_tables.specs.declared.program.Program.{Program};
 ghost use Rattle.fp_actor.specs.Levels.{action_at, action_of, with_nothing, binding, given_at, value_given, value_at, signal_in, bound_in, lists_of, has_kind_at, IsWithin, named_value, bindings_of};
@@ -296,6 +296,22 @@ impl<'v> View<'v> {
         }
     }
 
+    /// The value of a name among the formals of an arrival that is left to a hook.
+    fn hooked_value(
+        &self,
+        alloc: Global,
+        instance: u32,
+        point: Point,
+        with: &[Value],
+        list: usize,
+        name: &str,
+    ) -> Result<Option<Value>, NoMemory>
+        ensures { IfOk result (λ v. v ≡ option_map (λ b. b.1) (find (λ b. same_text b.0 name.now) (unwrap_or (option_map (λ d. d.bound)
+            (slice_get (hooking_of self.now.tables.now self.now.program.now instance point with.now ∷ []) list)) []))) }
+    {
+        self.handled_value(alloc, instance, point, with, list, name)
+    }
+
     /// The value that a name has before any action of a list.
     fn base_value(&self, alloc: Global, at: Position, name: &str) -> Result<Option<Value>, NoMemory>
         ensures { IfOk result (λ v. v ≡ option_map (λ b. b.1) (find (λ b. same_text b.0 name.now)
@@ -345,6 +361,16 @@ impl<'v> View<'v> {
             }
             What::Take { point, with, .. } => {
                 self.handled_value(alloc, instance, *point, with.as_slice(), list, name)
+            }
+            What::Hooked(arrival) => {
+                self.hooked_value(
+                    alloc,
+                    instance,
+                    arrival.point,
+                    arrival.with.as_slice(),
+                    list,
+                    name,
+                )
             }
             What::Start {
                 running,

@@ -14,3 +14,6 @@ returns-in-Start c = rw c.in-Start.is c.performed_value.ensures
 
 pub returns-in-Move : goal.returns-in-Move
 returns-in-Move c = rw c.in-Move.is c.performed_value-in-Move.ensures
+
+pub returns-in-Hooked : goal.returns-in-Hooked
+returns-in-Hooked c = rw c.in-Hooked.is (rw c.as_slice-in-Hooked.ensures at c.hooked_value.ensures)

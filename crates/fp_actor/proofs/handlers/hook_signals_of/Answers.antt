@@ -1,0 +1,33 @@
+use Rattle.std.proofs.Common.{◌≡◌, ◌∙◌, ap, sym, subst, ℕ, Bool, None, true, is_some, BTreeMap, refl, ◌==◌}
+use Rattle.std.specs.BTreeMap.{get_by, is_at as is_key}
+use Rattle.fp_tables.specs.declared.program.Handler.{Handler}
+use Rattle.fp_tables.specs.declared.program.Spot.TheVariants as spot
+use Rattle.fp_actor.specs.Found.{is_at, pair_cmp}
+use Rattle.fp_base.proofs.Options.{none_of}
+use Rattle.fp_tables.proofs.Firsts.{position_at, filled, kept}
+use Rattle.fp_actor.proofs.Finding.{same_hook_signal, pair_key, other_hook_signal}
+use Rattle.fp_actor.proofs.handlers.hook_signals_of.Goals as goal
+use Rattle.fp_actor.proofs.handlers.hook_signals_of.Goals.{in-HookSignal+then-not-contains_key+in_ok-insert, in-HookSignal+else-not-contains_key, in_default}
+
+pub loop-at-preserved : goal.loop-at-preserved
+loop-at-preserved c = λ q.
+    let signals = c.loop-at.signals in
+    let h : Handler = c.index-handlers-at.result in
+    let test : Handler → Bool = is_at q.0 (spot.HookSignal q.1) in
+    let more = position_at test c.args.handlers.now c.loop-at.at h c.loop-at-test.true c.index-handlers-at.is in
+    elim c.match-handler.branch [
+      | in-HookSignal+then-not-contains_key+in_ok-insert w ↦
+          let key : ℕ × ℕ = (h.instance, w.in-HookSignal.running) in
+          let free : get_by (pair_cmp key) signals ≡ None = none_of _ (cc) in
+          ap (λ (m : BTreeMap (ℕ × ℕ) ℕ). get_by (pair_cmp q) m) w.signals-is ∙ filled _ (get_by (pair_cmp q) signals) _ (is_key (pair_cmp key) q) (test h) c.loop-at.at
+          (w.in_ok-insert.ensures.updates.0 q) (c.loop-at.invariant q) (same_hook_signal h w.in-HookSignal.running q w.in-HookSignal.is)
+          (λ e. subst (λ k. get_by (pair_cmp k) signals ≡ None) (pair_key h.instance w.in-HookSignal.running q e) free) ∙ sym more
+      | in-HookSignal+else-not-contains_key w ↦
+          let key : ℕ × ℕ = (h.instance, w.in-HookSignal.running) in
+          let full : is_some (get_by (pair_cmp key) signals) ≡ true = cc in
+          ap (λ (m : BTreeMap (ℕ × ℕ) ℕ). get_by (pair_cmp q) m) w.signals-is ∙ kept _ (get_by (pair_cmp q) signals) _ (test h) c.loop-at.at
+          refl (c.loop-at.invariant q) (λ e. subst (λ k. is_some (get_by (pair_cmp k) signals) ≡ true) (pair_key h.instance w.in-HookSignal.running q (same_hook_signal h w.in-HookSignal.running q w.in-HookSignal.is ∙ e)) full) ∙ sym more
+      | in_default w ↦
+          ap (λ (m : BTreeMap (ℕ × ℕ) ℕ). get_by (pair_cmp q) m) w.signals-is ∙ kept _ (get_by (pair_cmp q) signals) _ (test h) c.loop-at.at
+          refl (c.loop-at.invariant q) (λ e. absurd (other_hook_signal (h.instance == q.0) h.place q.1 w.in_default.not-HookSignal e)) ∙ sym more
+    ]
