@@ -125,7 +125,7 @@ module _ (t : Described) (program : Program) (i a : ℕ) (s : Inside) (good : Ha
   overflowed : (r : Arrival) (policy : Full) (w : What) → arrival_fits t program i r ≡ true → overflows r policy ≡ Some w → GoesOn w
   unfolding what_fits leaves
   overflowed r full.Dropped w fit h = subst GoesOn (same_some h) (record { fits = fit; left = is })
-  overflowed r full.Hook w fit h = subst GoesOn (same_some h) (record { fits = fit; left = is })
+  overflowed r full.Hook w fit h = subst GoesOn (same_some h) (record { fits = fit; left = unmoved _ refl refl refl })
   overflowed r full.Assert w fit h = subst GoesOn (same_some h) (record { fits = fit; left = is })
   overflowed r full.Block w fit h = absurd (cc)
 

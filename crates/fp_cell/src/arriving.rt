@@ -4,6 +4,7 @@ ghost use Rattle.std.specs.Option.{option_map_or};
 ghost use Rattle.std.specs.List.{Contains};
 ghost use Rattle.fp_tables.specs.Lookup.{Described};
 ghost use Rattle.fp_tables.specs.declared.component.Full.{Full as Policy};
+ghost use Rattle.fp_tables.specs.declared.component.Full.TheVariants.{Hook};
 ghost use Rattle.fp_tables.specs.declared.program.Program.{Program};
 ghost use Rattle.fp_tables.specs.declared.component.Way.TheVariants as way;
 ghost use Rattle.fp_events.specs.declared.event.Ask.TheVariants as ask;
@@ -150,24 +151,44 @@ pub(crate) fn put(
     Ok(told)
 }
 
+/// An asynchronous arrival at a full queue under `hook`: its frame runs the hook handler.
+#[tactic(auto, unfolding(fp_events::specs::Tells::tells, fp_events::specs::Leaves::leaves))]
+fn enter_hook(
+    alloc: Global,
+    state: &mut State,
+    actor: u32,
+    arrival: &Arrival,
+) -> Result<Told, NoMemory>
+    requires full { nat_lt (length state.old.calls.pending) state.old.calls.size ≡ false }
+    ensures ok { (t : Described) (program : Program) (i : ℕ) (priority : ℤ) → queue_size t i ≡ state.old.calls.size → manner t i arrival.now.point ≡ Some (by (way.Later priority Hook)) → IfOk result (λ told. Steps t program i actor (ask.Arrive arrival.now) (inside state.old) told (inside state.new)) }
+    ensures queue { HasSameQueue state.old state.new }
+    ensures err { OnErr result (state.new ≡ state.old) }
+{
+    let counted = with_frame(state.guard, actor)?;
+    let told = Told::of(alloc, What::Hooked(arrival.copy(alloc)?))?;
+    state.guard = counted;
+    Ok(told)
+}
+
 /// An asynchronous arrival at a full queue, by the policy, which isn't to block.
 #[tactic(auto, unfolding(fp_events::specs::Tells::tells, fp_events::specs::Leaves::leaves))]
 pub(crate) fn overflow(
     alloc: Global,
-    state: &State,
+    state: &mut State,
+    actor: u32,
     full: Full,
     arrival: &Arrival,
 ) -> Result<Told, NoMemory>
-    requires full { nat_lt (length state.now.calls.pending) state.now.calls.size ≡ false }
+    requires full { nat_lt (length state.old.calls.pending) state.old.calls.size ≡ false }
     requires free { blocked false full ≡ None }
-    ensures { (t : Described) (program : Program) (i actor : ℕ) (priority : ℤ) → queue_size t i ≡ state.now.calls.size → manner t i arrival.now.point ≡ Some (by (way.Later priority full)) → IfOk result (λ told. Steps t program i actor (ask.Arrive arrival.now) (inside state.now) told (inside state.now)) }
+    ensures ok { (t : Described) (program : Program) (i : ℕ) (priority : ℤ) → queue_size t i ≡ state.old.calls.size → manner t i arrival.now.point ≡ Some (by (way.Later priority full)) → IfOk result (λ told. Steps t program i actor (ask.Arrive arrival.now) (inside state.old) told (inside state.new)) }
+    ensures queue { HasSameQueue state.old state.new }
+    ensures err { OnErr result (state.new ≡ state.old) }
 {
-    let _ = state;
-    let arrival = arrival.copy(alloc)?;
     match full {
-        Full::Dropped => Told::of(alloc, What::Dropped(arrival)),
-        Full::Hook => Told::of(alloc, What::Hooked(arrival)),
-        Full::Assert => Told::of(alloc, What::Asserted(arrival)),
+        Full::Dropped => Told::of(alloc, What::Dropped(arrival.copy(alloc)?)),
+        Full::Hook => enter_hook(alloc, state, actor, arrival),
+        Full::Assert => Told::of(alloc, What::Asserted(arrival.copy(alloc)?)),
         Full::Block => unreachable!(),
     }
 }

@@ -33,6 +33,7 @@ fn tell_later(
     alloc: Global,
     setting: &Setting,
     state: &mut State,
+    actor: u32,
     arrival: &Arrival,
     priority: i32,
     full: Full,
@@ -40,7 +41,7 @@ fn tell_later(
     requires ready { IsReady setting.now state.old }
     requires how { manner setting.now.tables.now setting.now.instance arrival.now.point ≡ Some (by (way.Later priority full)) }
     requires free { blocked (nat_lt (length state.old.calls.pending) state.old.calls.size) full ≡ None }
-    ensures ok { (actor : ℕ) → IfOk result (λ told. Steps setting.now.tables.now setting.now.program.now setting.now.instance actor (ask.Arrive arrival.now) (inside state.old) told (inside state.new)) }
+    ensures ok { IfOk result (λ told. Steps setting.now.tables.now setting.now.program.now setting.now.instance actor (ask.Arrive arrival.now) (inside state.old) told (inside state.new)) }
     ensures queue { HasSameQueue state.old state.new }
     ensures err { OnErr result (state.new ≡ state.old) }
 {
@@ -48,7 +49,7 @@ fn tell_later(
     if state.calls.has_room() {
         return put(alloc, state, priority, arrival);
     }
-    overflow(alloc, state, full, arrival)
+    overflow(alloc, state, actor, full, arrival)
 }
 
 /// An arrival at a place of this way.
@@ -71,7 +72,7 @@ fn tell_by(
         Way::Sync => enter(alloc, state, actor, arrival),
         Way::Guarded => take_guard(alloc, state, actor, arrival),
         Way::Later { priority, full } => {
-            tell_later(alloc, setting, state, arrival, priority, full)
+            tell_later(alloc, setting, state, actor, arrival, priority, full)
         }
     }
 }

@@ -6,7 +6,7 @@ ghost use Rattle.fp_events.specs.Waits.{held_by};
 use fp_base::NoMemory;
 use fp_events::Why;
 
-/// The actor that holds the guard, and how many of its sync, set and save frames opened here since are still open.
+/// The actor that holds the guard, and how many of its sync, set, save and hook frames opened here since are still open.
 #[derive(Clone, Copy)]
 pub(crate) struct Holding {
     pub actor: u32,

@@ -11,8 +11,9 @@ put-requires-clause-known c =
 
 pub returns-then-has_room-clause-ok : goal.returns-then-has_room-clause-ok
 returns-then-has_room-clause-ok c =
-    λ actor. c.put.ensures.ok c.args.setting.now.tables.now c.args.setting.now.program.now c.args.setting.now.instance actor c.args.full c.requires.ready.size
+    c.put.ensures.ok c.args.setting.now.tables.now c.args.setting.now.program.now c.args.setting.now.instance c.args.actor c.args.full c.requires.ready.size
     (treated_as c.args.setting.now.tables.now c.args.setting.now.instance c.args.arrival.now.point c.args.priority _ c.args.full (to_z-of_z w32 c.args.priority c.ranges.priority) c.requires.how)
 
 pub returns-clause-ok : goal.returns-clause-ok
-returns-clause-ok c = λ actor. c.overflow.ensures c.args.setting.now.tables.now c.args.setting.now.program.now c.args.setting.now.instance actor c.args.priority c.requires.ready.size c.requires.how
+returns-clause-ok c =
+    c.overflow.ensures.ok c.args.setting.now.tables.now c.args.setting.now.program.now c.args.setting.now.instance c.args.priority c.requires.ready.size c.requires.how
