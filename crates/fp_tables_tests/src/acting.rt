@@ -63,6 +63,8 @@ pub const INTERNAL: u32 = 5;
 
 pub const ANSWERED: u32 = 6;
 
+pub const SPARE: u32 = 7;
+
 /// The size of the port for responses, and the one number of it at which a wire begins.
 #[derive(Clone, Copy)]
 pub struct Responses {
@@ -70,11 +72,15 @@ pub struct Responses {
     pub number: u32,
 }
 
-fn ports(alloc: Global, responses: Responses) -> Result<Row<Port>, NoMemory> {
-    let later = Way::Later {
-        priority: 0,
-        full: Full::Assert,
-    };
+/// What happens to internal calls and signals at a full queue, and how commands are treated.
+#[derive(Clone, Copy)]
+pub struct Ways {
+    pub full: Full,
+    pub commands: Way,
+}
+
+fn ports(alloc: Global, responses: Responses, full: Full) -> Result<Row<Port>, NoMemory> {
+    let later = Way::Later { priority: 0, full };
     let mut ports = Row::new(alloc);
     ports.push(port(alloc, "in", Role::Input(Way::Sync), Some(0), 1)?)?;
     ports.push(port(alloc, "out", Role::Output, Some(0), 1)?)?;
@@ -86,6 +92,7 @@ fn ports(alloc: Global, responses: Responses) -> Result<Row<Port>, NoMemory> {
     ports.push(port(alloc, "send", Role::Output, Some(1), 0)?)?;
     ports.push(port(alloc, "own", Role::Internal(later), None, 0)?)?;
     ports.push(port(alloc, "answered", Role::Input(Way::Sync), Some(2), 0)?)?;
+    ports.push(port(alloc, "spare", Role::Internal(later), None, 1)?)?;
     Ok(ports)
 }
 
@@ -93,13 +100,14 @@ fn command(
     alloc: Global,
     name: &str,
     part: Part,
+    way: Way,
     opcode: u32,
     formals: Row<Formal>,
 ) -> Result<Command, NoMemory> {
     Ok(Command {
         name: Text::from_str(alloc, name)?,
         part,
-        way: Way::Sync,
+        way,
         opcode,
         formals,
         note: Text::new(alloc),
@@ -107,7 +115,7 @@ fn command(
 }
 
 /// A command of the component's own, and those of its parameter.
-fn commands(alloc: Global) -> Result<Row<Command>, NoMemory> {
+fn commands(alloc: Global, way: Way) -> Result<Row<Command>, NoMemory> {
     let none = formals(alloc, 0)?;
     let also_none = formals(alloc, 0)?;
     let value = one(
@@ -120,9 +128,9 @@ fn commands(alloc: Global) -> Result<Row<Command>, NoMemory> {
         },
     )?;
     let mut commands = Row::new(alloc);
-    commands.push(command(alloc, "C", Part::Plain, 0, none)?)?;
-    commands.push(command(alloc, "P_SET", Part::SetParam(0), 1, value)?)?;
-    commands.push(command(alloc, "P_SAVE", Part::SaveParam(0), 2, also_none)?)?;
+    commands.push(command(alloc, "C", Part::Plain, way, 0, none)?)?;
+    commands.push(command(alloc, "P_SET", Part::SetParam(0), way, 1, value)?)?;
+    commands.push(command(alloc, "P_SAVE", Part::SaveParam(0), way, 2, also_none)?)?;
     Ok(commands)
 }
 
@@ -164,14 +172,11 @@ fn param(alloc: Global) -> Result<Param, NoMemory> {
     })
 }
 
-fn running(alloc: Global) -> Result<Running, NoMemory> {
+fn running(alloc: Global, full: Full) -> Result<Running, NoMemory> {
     Ok(Running {
         name: Text::from_str(alloc, "m")?,
         machine: 0,
-        way: Way::Later {
-            priority: 1,
-            full: Full::Assert,
-        },
+        way: Way::Later { priority: 1, full },
     })
 }
 
@@ -184,17 +189,17 @@ where
     Ok(row)
 }
 
-fn component(alloc: Global, responses: Responses) -> Result<Component, NoMemory> {
+fn component(alloc: Global, responses: Responses, ways: Ways) -> Result<Component, NoMemory> {
     Ok(Component {
         name: Text::from_str(alloc, "K")?,
         queueing: Queueing::Queued,
-        ports: ports(alloc, responses)?,
-        commands: commands(alloc)?,
+        ports: ports(alloc, responses, ways.full)?,
+        commands: commands(alloc, ways.commands)?,
         events: one(alloc, event(alloc)?)?,
         channels: one(alloc, channel(alloc)?)?,
         params: one(alloc, param(alloc)?)?,
         matches: Row::new(alloc),
-        machines: one(alloc, running(alloc)?)?,
+        machines: one(alloc, running(alloc, ways.full)?)?,
     })
 }
 
@@ -280,12 +285,12 @@ fn definitions(alloc: Global) -> Result<Row<PortDef>, NoMemory> {
 }
 
 /// The model, with a topology of its instance.
-pub fn acting(alloc: Global, responses: Responses) -> Result<Model, NoMemory> {
+pub fn acting(alloc: Global, responses: Responses, ways: Ways) -> Result<Model, NoMemory> {
     Ok(Model {
         constants: Row::new(alloc),
         types: Row::new(alloc),
         ports: definitions(alloc)?,
-        components: one(alloc, component(alloc, responses)?)?,
+        components: one(alloc, component(alloc, responses, ways)?)?,
         machines: one(alloc, machine(alloc)?)?,
         instances: one(alloc, instance(alloc)?)?,
         topologies: one(alloc, topology(alloc, responses)?)?,

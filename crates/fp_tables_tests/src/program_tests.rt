@@ -1,9 +1,9 @@
-use crate::acting::{IN, INTERNAL, OUT, RESP, Responses, SEND, acting, one};
+use crate::acting::{IN, INTERNAL, OUT, RESP, Responses, SEND, SPARE, Ways, acting, one};
 use Argument::{Bound, Nothing, Number};
 use fp_base::{NoMemory, Row, Text, Value};
 use fp_sound_model::SoundModel;
 use fp_sound_programs::SoundProgram;
-use fp_tables::{Act, Answers, Arg, Caller, End, Handler, Program, Spot, Tables, Verb};
+use fp_tables::{Act, Answers, Arg, Caller, End, Full, Handler, Program, Spot, Tables, Verb, Way};
 use std::alloc::Global;
 use std::test::Fail;
 
@@ -66,8 +66,8 @@ fn program(alloc: Global) -> Program {
 }
 
 /// The tables of a sound model.
-fn tables_of(alloc: Global, responses: Responses) -> Result<Option<Tables>, NoMemory> {
-    let model = acting(alloc, responses)?;
+fn tables_of(alloc: Global, responses: Responses, ways: Ways) -> Result<Option<Tables>, NoMemory> {
+    let model = acting(alloc, responses, ways)?;
     if model.is_sound(alloc, Some(0))? {
         Ok(Some(Tables::of(alloc, model, 0)?))
     } else {
@@ -75,8 +75,13 @@ fn tables_of(alloc: Global, responses: Responses) -> Result<Option<Tables>, NoMe
     }
 }
 
-fn is_sound_with(alloc: Global, responses: Responses, program: &Program) -> Result<bool, NoMemory> {
-    match tables_of(alloc, responses)? {
+fn is_sound_with(
+    alloc: Global,
+    responses: Responses,
+    ways: Ways,
+    program: &Program,
+) -> Result<bool, NoMemory> {
+    match tables_of(alloc, responses, ways)? {
         Some(tables) => program.is_sound(alloc, &tables),
         None => Ok(false),
     }
@@ -84,8 +89,13 @@ fn is_sound_with(alloc: Global, responses: Responses, program: &Program) -> Resu
 
 const WIRED: Responses = Responses { size: 1, number: 0 };
 
+const ASSERTING: Ways = Ways {
+    full: Full::Assert,
+    commands: Way::Sync,
+};
+
 fn is_sound(alloc: Global, program: &Program) -> Result<bool, NoMemory> {
-    is_sound_with(alloc, WIRED, program)
+    is_sound_with(alloc, WIRED, ASSERTING, program)
 }
 
 /// A program with a handler that has these actions.
@@ -135,13 +145,16 @@ fn responses_have_number_0(rt: HostRuntime) -> Result<(), Fail> {
             size: 2,
             number: wired,
         };
-        assert!(rt; acting(alloc, responses)?.is_sound(alloc, Some(0))?);
+        assert!(rt; acting(alloc, responses, ASSERTING)?.is_sound(alloc, Some(0))?);
         let program = handled(
             alloc,
             command,
             &[(Verb::Respond, RESP, number, 0, Nothing, "OK")],
         )?;
-        assert_eq!(rt; is_sound_with(alloc, responses, &program)?, sound);
+        assert_eq!(rt;
+            is_sound_with(alloc, responses, ASSERTING, &program)?,
+            sound
+        );
     }
     Ok(())
 }
@@ -226,6 +239,64 @@ fn an_action_has_its_value(rt: HostRuntime) -> Result<(), Fail> {
     Ok(())
 }
 
+const HOOKING: Ways = Ways {
+    full: Full::Hook,
+    commands: Way::Later {
+        priority: 0,
+        full: Full::Hook,
+    },
+};
+
+/// Whether a handler with these actions is sound where internal calls, signals and commands are under `hook`.
+fn hooks(alloc: Global, place: Spot, written: &[Written<'_>]) -> Result<bool, NoMemory> {
+    is_sound_with(alloc, WIRED, HOOKING, &handled(alloc, place, written)?)
+}
+
+#[test]
+fn hook_handlers_have_places_under_hook(rt: HostRuntime) -> Result<(), Fail> {
+    let alloc = rt.alloc();
+    for (place, sound) in [
+        (Spot::HookPort(INTERNAL), true),
+        (Spot::HookPort(IN), false),
+        (Spot::HookPort(OUT), false),
+        (Spot::HookPort(8), false),
+        (Spot::HookCommand(0), true),
+        (Spot::HookCommand(1), false),
+        (Spot::HookCommand(2), false),
+        (Spot::HookCommand(3), false),
+        (Spot::HookSignal(0), true),
+        (Spot::HookSignal(1), false),
+    ] {
+        assert_eq!(rt; hooks(alloc, place, &[])?, sound);
+        assert!(rt; !handles(alloc, place, &[])?);
+    }
+    Ok(())
+}
+
+#[test]
+fn acts_of_a_hook(rt: HostRuntime) -> Result<(), Fail> {
+    let alloc = rt.alloc();
+    let formal: Written<'_> = (Verb::Call, OUT, 0, 0, Bound("x"), "");
+    let value: Written<'_> = (Verb::Call, OUT, 0, 0, Bound("value"), "");
+    let respond: Written<'_> = (Verb::Respond, RESP, 0, 0, Nothing, "OK");
+    let returned: Written<'_> = (Verb::Return, 0, 0, 0, Number(5), "");
+    let dispatch: Written<'_> = (Verb::Dispatch, 0, 0, 0, Nothing, "");
+    for (place, written, sound) in [
+        (Spot::HookPort(SPARE), formal, true),
+        (Spot::HookPort(INTERNAL), formal, false),
+        (Spot::HookPort(SPARE), dispatch, true),
+        (Spot::HookPort(SPARE), returned, false),
+        (Spot::HookPort(SPARE), respond, false),
+        (Spot::HookCommand(0), respond, true),
+        (Spot::HookSignal(0), respond, false),
+        (Spot::HookSignal(0), value, false),
+        (Spot::HookSignal(0), dispatch, true),
+    ] {
+        assert_eq!(rt; hooks(alloc, place, &[written])?, sound);
+    }
+    Ok(())
+}
+
 /// A program with one caller for each name, with these actions.
 fn called(alloc: Global, names: &[&str], written: &[Written<'_>]) -> Result<Program, NoMemory> {
     let mut program = program(alloc);
@@ -295,6 +366,24 @@ fn handlers_have_places_that_differ(rt: HostRuntime) -> Result<(), Fail> {
     let command = Spot::Command(0);
     assert!(rt; is_sound(alloc, &placed(alloc, &[post, command])?)?);
     assert!(rt; !is_sound(alloc, &placed(alloc, &[post, command, post])?)?);
+    Ok(())
+}
+
+#[test]
+fn hook_handlers_differ_from_the_places_own(rt: HostRuntime) -> Result<(), Fail> {
+    let alloc = rt.alloc();
+    let hook = Spot::HookPort(INTERNAL);
+    let places = [
+        Spot::Port(INTERNAL),
+        hook,
+        Spot::Command(0),
+        Spot::HookCommand(0),
+        Spot::HookSignal(0),
+    ];
+    let each = placed(alloc, &places)?;
+    assert!(rt; is_sound_with(alloc, WIRED, HOOKING, &each)?);
+    let twice = placed(alloc, &[hook, Spot::Command(0), hook])?;
+    assert!(rt; !is_sound_with(alloc, WIRED, HOOKING, &twice)?);
     Ok(())
 }
 
