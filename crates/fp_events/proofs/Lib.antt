@@ -25,3 +25,4 @@ pub mod GuardKeptOverFrames
 pub mod NestedStates
 pub mod ReturnedValueIsBound
 pub mod TurnHeldByOne
+pub mod HookUnderGuard
