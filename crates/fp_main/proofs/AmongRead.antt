@@ -8,12 +8,13 @@ use Rattle.fp_base.specs.declared.refusal.Refusal.{Refusal}
 use Rattle.fp_lexer.proofs.Rises.{spans_rise}
 use Rattle.fp_lexer.specs.Tokens.{Lexed, Rising}
 use Rattle.fp_lexer.specs.declared.token.Token.{Token}
-use Rattle.fp_tree.specs.declared.definition.Def.{Def}
 use Rattle.fp_tree.specs.declared.member.Include.{Include}
 use Rattle.fp_tree.specs.declared.member.Member.{Member}
 use Rattle.fp_tree.specs.declared.member.Unit.{Unit as File}
 use Rattle.fp_meaning.specs.Broken.{BrokenByDefinitions, BrokenByUses, NamesBroken}
-use Rattle.fp_meaning.specs.Names.{Path, definitions, definitions_in, in_members, mentions, mentions_in}
+use Rattle.fp_meaning.specs.declared.item.Item.{Item}
+use Rattle.fp_meaning.specs.Layout.{in_members, items}
+use Rattle.fp_meaning.specs.Names.{definitions, definitions_of, mentions, uses_of}
 use Rattle.fp_meaning.specs.declared.names.Definition.{Definition}
 use Rattle.fp_meaning.specs.declared.names.Mention.{Mention}
 use Rattle.fp_outside.specs.declared.files.HeldFile.{HeldFile}
@@ -21,9 +22,9 @@ use Rattle.fp_parse_defs.specs.Reading.{BeginsAt}
 use Rattle.fp_parse_parts.specs.Units.{SpellsUnit}
 use Rattle.fp_sites.specs.Includes.{includes_in}
 use Rattle.fp_sites.specs.Sites.{BeginsToken, StandAtTokens}
-use Rattle.fp_base.proofs.Lists.{each_append, each_before, each_behind, each_contained, each_weaker, of_contained, of_item}
+use Rattle.fp_base.proofs.Lists.{each_append, each_before, each_behind, each_contained, each_flat, each_weaker, of_contained, of_item}
 use Rattle.fp_main.proofs.PartsHold.{Hold}
-use Rattle.fp_main.proofs.StandBelow.{IncludesBelow, IsNumbered, StandBelow, files_below, none_below}
+use Rattle.fp_main.proofs.StandBelow.{DefinesBelow, IncludesBelow, IsNumbered, StandBelow, UsesBelow, files_below, none_below}
 use Rattle.fp_main.specs.gathering.Gathered.{InFiles, SourceBroken, StandsAmong, file_of, names_read, source_of}
 use Rattle.fp_main.specs.gathering.Reading.{Reading, BreaksGrammar, BreaksTokenRule, Gives}
 use Rattle.fp_main.specs.gathering.Walks.{Walked, Went, WalksFiles, nothing_read}
@@ -63,15 +64,22 @@ begins_at file before [] place inside (front, t, cut, is) =
 below_next : (m n : ℕ) → m ≡ n → m < suc n
 below_next m n e = omega (arith, e)
 
+-- what holds of all that items give holds of what each gives
+in_each : {A B : Type 0} (P : A → Type 0) (f : B → List A) (xs : List B) → AllByRecursion P (flat_map f xs) → AllByRecursion (λ (x : B). AllByRecursion P (f x)) xs
+in_each P f [] h = tt
+in_each P f (x ∷ xs) h = (each_before P (f x) (flat_map f xs) h, in_each P f xs (each_behind P (f x) (flat_map f xs) h))
+
 -- what begins where a token begins
 sites_below : (r : Reading) (tokens : List Token) (ms : List Member) → AllByRecursion (Inside r.number) tokens → StandAtTokens tokens ms
     → StandBelow (suc r.number) ms × IncludesBelow (suc r.number) ms
 sites_below r tokens ms inside sites = (
   record {
-    definitions = λ scope. each_contained (λ (d : Definition). d.place.file < suc r.number) (in_members definitions_in scope ms)
-        (λ d h. below_next d.place.file r.number (begins_inside r.number tokens d.place inside (sites.definitions scope d h)));
-    mentions = λ scope. each_contained (λ (m : Mention). m.place.file < suc r.number) (in_members mentions_in scope ms)
-        (λ m h. below_next m.place.file r.number (begins_inside r.number tokens m.place inside (sites.mentions scope m h)));
+    definitions = λ scope. in_each (λ (d : Definition). d.place.file < suc r.number) definitions_of (in_members scope ms)
+        (each_contained (λ (d : Definition). d.place.file < suc r.number) (flat_map definitions_of (in_members scope ms))
+        (λ d h. below_next d.place.file r.number (begins_inside r.number tokens d.place inside (sites.definitions scope d h))));
+    mentions = λ scope. in_each (λ (m : Mention). m.place.file < suc r.number) uses_of (in_members scope ms)
+        (each_contained (λ (m : Mention). m.place.file < suc r.number) (flat_map uses_of (in_members scope ms))
+        (λ m h. below_next m.place.file r.number (begins_inside r.number tokens m.place inside (sites.mentions scope m h))));
   },
   each_contained (λ (i : Include). i.at.first.file < suc r.number) (includes_in ms)
       (λ i h. below_next i.at.first.file r.number (begins_inside r.number tokens i.at.first inside (sites.includes i h))),
@@ -94,22 +102,20 @@ broken_grammar r f (tokens, has, other, (before, rest, broken, begins, rule)) =
 
 -- ---- names
 
-units_hold : {A : Type 0} (given : Path → Def → List A) (P : A → Type 0) (units : List (List Member)) → AllByRecursion (Hold given P) units
-    → AllByRecursion P (flat_map (λ (u : File). in_members given [] u.members) (map file_of units))
-units_hold given P [] h = tt
-units_hold given P (ms ∷ units) h =
-    each_append P (in_members given [] ms) (flat_map (λ (u : File). in_members given [] u.members) (map file_of units)) (h.0 []) (units_hold given P units h.1)
+units_hold : (P : Item → Type 0) (units : List (List Member)) → AllByRecursion (Hold P) units → AllByRecursion P (flat_map (λ (u : File). in_members [] u.members) (map file_of units))
+units_hold P [] h = tt
+units_hold P (ms ∷ units) h = each_append P (in_members [] ms) (flat_map (λ (u : File). in_members [] u.members) (map file_of units)) (h.0 []) (units_hold P units h.1)
 
 module _ (n : ℕ) (walked : Walked) (units : List (List Member)) (below : AllByRecursion (StandBelow n) units) where
   definitions_below : AllByRecursion (λ (d : Definition). d.place.file < n) (definitions (source_of walked units))
   definitions_below =
-      units_hold definitions_in (λ (d : Definition). d.place.file < n) units
-      (each_weaker (StandBelow n) (Hold definitions_in (λ (d : Definition). d.place.file < n)) (λ ms q. q.definitions) units below)
+      each_flat (λ (d : Definition). d.place.file < n) definitions_of (items (source_of walked units))
+      (units_hold (DefinesBelow n) units (each_weaker (StandBelow n) (Hold (DefinesBelow n)) (λ ms q. q.definitions) units below))
 
   mentions_below : AllByRecursion (λ (m : Mention). m.place.file < n) (mentions (source_of walked units))
   mentions_below =
-      units_hold mentions_in (λ (m : Mention). m.place.file < n) units
-      (each_weaker (StandBelow n) (Hold mentions_in (λ (m : Mention). m.place.file < n)) (λ ms q. q.mentions) units below)
+      each_flat (λ (m : Mention). m.place.file < n) uses_of (items (source_of walked units))
+      (units_hold (UsesBelow n) units (each_weaker (StandBelow n) (Hold (UsesBelow n)) (λ ms q. q.mentions) units below))
 
   below_as : (f : Refusal) (place : Place) → f.place ≡ place → place.file < n → f.place.file < n
   below_as f place e lt = subst (λ (p : Place). p.file < n) (sym e) lt

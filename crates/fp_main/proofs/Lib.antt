@@ -7,7 +7,6 @@ pub mod Dues
 pub mod FoundInFiles
 pub mod GatheredFiles
 pub mod KnownFiles
-pub mod LaidLines
 pub mod OneWalk
 pub mod PartsHold
 pub mod PartsPlaced

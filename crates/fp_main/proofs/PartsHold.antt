@@ -3,7 +3,6 @@ use Rattle.std.proofs.Common.{◌≡◌, List, [], ◌∷◌, ◌++◌, map, sym
 use Rattle.std.specs.List.{AllByRecursion}
 use Rattle.std.proofs.lemmas.List.Folds.{flat_map-map}
 use Rattle.std.proofs.lemmas.Grind.{flat_map-append}
-use Rattle.fp_tree.specs.declared.definition.Def.{Def}
 use Rattle.fp_tree.specs.declared.member.Member.{Member, Member-F}
 use Rattle.fp_tree.specs.declared.member.Member.TheFolds.{fold-Member, fold-Module, fold-roll-Member, fold-roll-Module, ind-Member, map-Member, map-Module}
 use Rattle.fp_tree.specs.declared.member.Member.TheOpen as open_member
@@ -11,18 +10,20 @@ use Rattle.fp_tree.specs.declared.member.Member.TheVariants.{rolls-Def, rolls-Lo
 use Rattle.fp_tree.specs.declared.member.Member.TheVariants as member
 use Rattle.fp_tree.specs.declared.member.Member.TheViews.{roll-Member, roll-Module}
 use Rattle.fp_tree.specs.declared.member.Module.{Module, Module-F}
-use Rattle.fp_meaning.specs.Names.{Path, member_step, module_step, in_member, in_members}
+use Rattle.fp_meaning.specs.declared.item.Item.{Item}
+use Rattle.fp_meaning.specs.Sites.{Path}
+use Rattle.fp_meaning.specs.Layout.{member_step, module_step, in_member, in_members}
 use Rattle.fp_meaning.proofs.Walks.{module_gives}
 use Rattle.fp_base.proofs.Lists.{each_append, each_before, each_behind}
 use Rattle.fp_main.specs.gathering.Includes.{Parts, Placed, in_turn, next_part, place_in_member, place_in_module, placed, placed_module, replaced}
 
-module _ {A : Type 0} (given : Path → Def → List A) (P : A → Type 0) where
-  abbrev in_module : Path → Module → List A
-  in_module scope m = fold-Module (Path → List A) (Path → List A) (member_step given) (module_step given) m scope
+module _ (P : Item → Type 0) where
+  abbrev in_module : Path → Module → List Item
+  in_module scope m = fold-Module (Path → List Item) (Path → List Item) member_step module_step m scope
 
   -- all that members give in a scope
   abbrev pub HoldAt : Path → List Member → Type 0
-  HoldAt scope ms = AllByRecursion P (in_members given scope ms)
+  HoldAt scope ms = AllByRecursion P (in_members scope ms)
 
   -- in any scope
   abbrev pub Hold : List Member → Type 0
@@ -32,18 +33,18 @@ module _ {A : Type 0} (given : Path → Def → List A) (P : A → Type 0) where
   Placing scope p = HoldAt scope p.members × AllByRecursion Hold p.left
 
   abbrev Keeps : Member → Type 0
-  Keeps m = (scope : Path) (parts : Parts) → AllByRecursion P (in_member given scope m) → AllByRecursion Hold parts → Placing scope (placed m parts)
+  Keeps m = (scope : Path) (parts : Parts) → AllByRecursion P (in_member scope m) → AllByRecursion Hold parts → Placing scope (placed m parts)
 
   abbrev Keep : Module → Type 0
   Keep m = (scope : Path) (parts : Parts) → AllByRecursion P (in_module scope m) → AllByRecursion Hold parts → Placing scope (placed_module m parts)
 
-  one : (scope : Path) (m : Member) → AllByRecursion P (in_member given scope m) → HoldAt scope (m ∷ [])
-  one scope m h = each_append P (in_member given scope m) [] h tt
+  one : (scope : Path) (m : Member) → AllByRecursion P (in_member scope m) → HoldAt scope (m ∷ [])
+  one scope m h = each_append P (in_member scope m) [] h tt
 
   both : (scope : Path) (a b : List Member) → HoldAt scope a → HoldAt scope b → HoldAt scope (a ++ b)
   both scope a b h k =
-      subst (λ (xs : List A). AllByRecursion P xs) (sym (flat_map-append (in_member given scope) a b))
-      (each_append P (in_members given scope a) (in_members given scope b) h k)
+      subst (λ (xs : List Item). AllByRecursion P xs) (sym (flat_map-append (in_member scope) a b))
+      (each_append P (in_members scope a) (in_members scope b) h k)
 
   next_keeps : (scope : Path) (parts : Parts) → AllByRecursion Hold parts → Placing scope (next_part parts)
   next_keeps scope [] k = (tt, tt)
@@ -54,9 +55,9 @@ module _ {A : Type 0} (given : Path → Def → List A) (P : A → Type 0) where
   in_turn_keeps [] scope parts h k = (tt, k)
   in_turn_keeps (e ∷ ms) scope parts h k =
       let here : Placing scope (placed e.0 parts) =
-      e.1 scope parts (each_before P (in_member given scope e.0) (in_members given scope (map (λ x. x.0) ms)) h) k in
+      e.1 scope parts (each_before P (in_member scope e.0) (in_members scope (map (λ x. x.0) ms)) h) k in
       let behind : Placing scope (in_turn (map placed (map (λ x. x.0) ms)) (placed e.0 parts).left) =
-      in_turn_keeps ms scope (placed e.0 parts).left (each_behind P (in_member given scope e.0) (in_members given scope (map (λ x. x.0) ms)) h) here.1 in
+      in_turn_keeps ms scope (placed e.0 parts).left (each_behind P (in_member scope e.0) (in_members scope (map (λ x. x.0) ms)) h) here.1 in
       (both scope (placed e.0 parts).members (in_turn (map placed (map (λ x. x.0) ms)) (placed e.0 parts).left).members here.0 behind.0, behind.1)
 
   rolled_placed : (x : Member-F Member Module) (parts : Parts) → placed (roll-Member x) parts ≡ place_in_member (map-Member _ _ _ _ placed placed_module x) parts
@@ -65,40 +66,40 @@ module _ {A : Type 0} (given : Path → Def → List A) (P : A → Type 0) where
   rolled_module : (x : Module-F Member Module) (parts : Parts) → placed_module (roll-Module x) parts ≡ place_in_module (map-Module _ _ _ _ placed placed_module x) parts
   rolled_module x parts = ap (λ (f : Parts → Placed). f parts) (fold-roll-Module (Parts → Placed) (Parts → Placed) place_in_member place_in_module x)
 
-  module_rolled : (m : Module) (scope : Path) → in_member given scope (roll-Member (open_member.Module m)) ≡ in_module scope m
+  module_rolled : (m : Module) (scope : Path) → in_member scope (roll-Member (open_member.Module m)) ≡ in_module scope m
   module_rolled m scope =
-      ap (λ (h : Path → List A). h scope) (fold-roll-Member (Path → List A) (Path → List A) (member_step given) (module_step given) (open_member.Module m))
+      ap (λ (h : Path → List Item). h scope) (fold-roll-Member (Path → List Item) (Path → List Item) member_step module_step (open_member.Module m))
 
-  members_rolled : (x : Module-F Member Module) (scope : Path) → in_module scope (roll-Module x) ≡ in_members given (scope ++ x.name.text ∷ []) x.members
+  members_rolled : (x : Module-F Member Module) (scope : Path) → in_module scope (roll-Module x) ≡ in_members (scope ++ x.name.text ∷ []) x.members
   members_rolled x scope =
-      ap (λ (h : Path → List A). h scope) (fold-roll-Module (Path → List A) (Path → List A) (member_step given) (module_step given) x)
-      ∙ flat_map-map (λ (inner : Path → List A). inner (scope ++ x.name.text ∷ []))
-      (fold-Member (Path → List A) (Path → List A) (member_step given) (module_step given)) x.members
+      ap (λ (h : Path → List Item). h scope) (fold-roll-Module (Path → List Item) (Path → List Item) member_step module_step x)
+      ∙ flat_map-map (λ (inner : Path → List Item). inner (scope ++ x.name.text ∷ []))
+      (fold-Member (Path → List Item) (Path → List Item) member_step module_step) x.members
 
   by_module : (y : Module-F ((m : Member) × Keeps m) ((m : Module) × Keep m)) → Keep (roll-Module (map-Module _ _ _ _ (λ e. e.0) (λ e. e.0) y))
   by_module y scope parts h k =
       let x : Module-F Member Module = map-Module _ _ _ _ (λ e. e.0) (λ e. e.0) y in
       let inner : Placing (scope ++ x.name.text ∷ []) (in_turn (map placed x.members) parts) =
-      in_turn_keeps y.members (scope ++ x.name.text ∷ []) parts (subst (λ (xs : List A). AllByRecursion P xs) (members_rolled x scope) h) k in
+      in_turn_keeps y.members (scope ++ x.name.text ∷ []) parts (subst (λ (xs : List Item). AllByRecursion P xs) (members_rolled x scope) h) k in
       subst (λ (p : Placed). Placing scope p) (sym (rolled_module x parts)) (
         one scope (member.Module (record { name = x.name; members = (in_turn (map placed x.members) parts).members; at = x.at; note = x.note }))
-            (subst (λ (xs : List A). AllByRecursion P xs)
-            (sym (module_gives given scope (record { name = x.name; members = (in_turn (map placed x.members) parts).members; at = x.at; note = x.note }))) inner.0),
+            (subst (λ (xs : List Item). AllByRecursion P xs)
+            (sym (module_gives scope (record { name = x.name; members = (in_turn (map placed x.members) parts).members; at = x.at; note = x.note }))) inner.0),
         inner.1,
       )
 
   by_member : (y : Member-F ((m : Member) × Keeps m) ((m : Module) × Keep m)) → Keeps (roll-Member (map-Member _ _ _ _ (λ e. e.0) (λ e. e.0) y))
   by_member (open_member.Module e) scope parts h k =
       subst (λ (p : Placed). Placing scope p) (sym (rolled_placed (open_member.Module e.0) parts))
-      (e.1 scope parts (subst (λ (xs : List A). AllByRecursion P xs) (module_rolled e.0 scope) h) k)
+      (e.1 scope parts (subst (λ (xs : List Item). AllByRecursion P xs) (module_rolled e.0 scope) h) k)
   by_member (open_member.Def d) scope parts h k =
       subst (λ (p : Placed). Placing scope p) (sym (rolled_placed (open_member.Def d) parts))
-      (one scope (member.Def d) (subst (λ (m : Member). AllByRecursion P (in_member given scope m)) (rolls-Def d) h), k)
+      (one scope (member.Def d) (subst (λ (m : Member). AllByRecursion P (in_member scope m)) (rolls-Def d) h), k)
   by_member (open_member.Include i) scope parts h k =
       subst (λ (p : Placed). Placing scope p) (sym (rolled_placed (open_member.Include i) parts)) (next_keeps scope parts k)
   by_member (open_member.Locate l) scope parts h k =
       subst (λ (p : Placed). Placing scope p) (sym (rolled_placed (open_member.Locate l) parts))
-      (one scope (member.Locate l) (subst (λ (m : Member). AllByRecursion P (in_member given scope m)) (rolls-Locate l) h), k)
+      (one scope (member.Locate l) (subst (λ (m : Member). AllByRecursion P (in_member scope m)) (rolls-Locate l) h), k)
 
   member_layer : (x : Member-F Member Module) (y : Member-F ((m : Member) × Keeps m) ((m : Module) × Keep m)) → map-Member _ _ _ _ (λ e. e.0) (λ e. e.0) y ≡ x → Keeps (roll-Member x)
   member_layer x y is = subst (λ (z : Member-F Member Module). Keeps (roll-Member z)) is (by_member y)
@@ -113,9 +114,9 @@ module _ {A : Type 0} (given : Path → Def → List A) (P : A → Type 0) where
   members_keep [] scope parts h k = (tt, k)
   members_keep (m ∷ ms) scope parts h k =
       let here : Placing scope (placed m parts) =
-      member_keeps m scope parts (each_before P (in_member given scope m) (in_members given scope ms) h) k in
+      member_keeps m scope parts (each_before P (in_member scope m) (in_members scope ms) h) k in
       let behind : Placing scope (in_turn (map placed ms) (placed m parts).left) =
-      members_keep ms scope (placed m parts).left (each_behind P (in_member given scope m) (in_members given scope ms) h) here.1 in
+      members_keep ms scope (placed m parts).left (each_behind P (in_member scope m) (in_members scope ms) h) here.1 in
       (both scope (placed m parts).members (in_turn (map placed ms) (placed m parts).left).members here.0 behind.0, behind.1)
 
   -- of the members with a part in place of each include

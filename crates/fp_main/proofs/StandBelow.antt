@@ -7,7 +7,9 @@ use Rattle.fp_base.specs.declared.rule.Rule.TheVariants.{BadInclude}
 use Rattle.fp_tree.specs.declared.member.Include.{Include}
 use Rattle.fp_tree.specs.declared.member.Member.{Member}
 use Rattle.fp_base.specs.Least.{broken_at}
-use Rattle.fp_meaning.specs.Names.{definitions_in, in_members, mentions_in}
+use Rattle.fp_meaning.specs.declared.item.Item.{Item}
+use Rattle.fp_meaning.specs.Layout.{in_members}
+use Rattle.fp_meaning.specs.Names.{definitions_of, uses_of}
 use Rattle.fp_meaning.specs.declared.names.Definition.{Definition}
 use Rattle.fp_meaning.specs.declared.names.Mention.{Mention}
 use Rattle.fp_base.proofs.Lists.{each_append, each_of_any, each_weaker}
@@ -19,10 +21,17 @@ use Rattle.fp_main.specs.gathering.Includes.{included_name, replaced}
 use Rattle.fp_main.specs.gathering.Reading.{Reading, Gives}
 use Rattle.fp_main.specs.gathering.Walks.{Walked, Walk, Went, Each, IsRefused, Reads, WalksFile, WalksInclude, WalksFiles, most_levels, next_reading, nothing_read, with_reading, with_refused}
 
--- each definition and each use, in any scope, stands in a file below this number
+-- what an item defines and uses stands in a file below this number
+abbrev pub DefinesBelow : ℕ → Item → Type 0
+DefinesBelow n i = AllByRecursion (λ (d : Definition). d.place.file < n) (definitions_of i)
+
+abbrev pub UsesBelow : ℕ → Item → Type 0
+UsesBelow n i = AllByRecursion (λ (m : Mention). m.place.file < n) (uses_of i)
+
+-- and so does all, in any scope
 pub record StandBelow (n : ℕ) (ms : List Member) : Type 0 where
-  pub definitions : Hold definitions_in (λ (d : Definition). d.place.file < n) ms
-  pub mentions : Hold mentions_in (λ (m : Mention). m.place.file < n) ms
+  pub definitions : Hold (DefinesBelow n) ms
+  pub mentions : Hold (UsesBelow n) ms
 
 -- and so does each include
 abbrev pub IncludesBelow : ℕ → List Member → Type 0
@@ -41,18 +50,16 @@ KeepsNumbers {A = A} G low P =
 
 below_more : (m n : ℕ) (ms : List Member) → m ≤ n → StandBelow m ms → StandBelow n ms
 below_more m n ms le h = record {
-  definitions = λ scope.
-      each_weaker (λ (d : Definition). d.place.file < m) (λ (d : Definition). d.place.file < n) (λ d lt. omega (arith, le, lt)) (in_members definitions_in scope ms) (h.definitions scope);
-  mentions = λ scope.
-      each_weaker (λ (u : Mention). u.place.file < m) (λ (u : Mention). u.place.file < n) (λ u lt. omega (arith, le, lt)) (in_members mentions_in scope ms) (h.mentions scope);
+  definitions = λ scope. each_weaker (DefinesBelow m) (DefinesBelow n)
+      (λ i. each_weaker (λ (d : Definition). d.place.file < m) (λ (d : Definition). d.place.file < n) (λ d lt. omega (arith, le, lt)) (definitions_of i)) (in_members scope ms) (h.definitions scope);
+  mentions = λ scope. each_weaker (UsesBelow m) (UsesBelow n)
+      (λ i. each_weaker (λ (u : Mention). u.place.file < m) (λ (u : Mention). u.place.file < n) (λ u lt. omega (arith, le, lt)) (uses_of i)) (in_members scope ms) (h.mentions scope);
 }
 
 replaced_below : (n : ℕ) (own : List Member) (parts : List (List Member)) → StandBelow n own → AllByRecursion (StandBelow n) parts → StandBelow n (replaced own parts)
 replaced_below n own parts h k = record {
-  definitions = replaced_hold definitions_in (λ (d : Definition). d.place.file < n) own parts h.definitions
-      (each_weaker (StandBelow n) (Hold definitions_in (λ (d : Definition). d.place.file < n)) (λ ms q. q.definitions) parts k);
-  mentions = replaced_hold mentions_in (λ (m : Mention). m.place.file < n) own parts h.mentions
-      (each_weaker (StandBelow n) (Hold mentions_in (λ (m : Mention). m.place.file < n)) (λ ms q. q.mentions) parts k);
+  definitions = replaced_hold (DefinesBelow n) own parts h.definitions (each_weaker (StandBelow n) (Hold (DefinesBelow n)) (λ ms q. q.definitions) parts k);
+  mentions = replaced_hold (UsesBelow n) own parts h.mentions (each_weaker (StandBelow n) (Hold (UsesBelow n)) (λ ms q. q.mentions) parts k);
 }
 
 pub none_below : (n : ℕ) → StandBelow n []
