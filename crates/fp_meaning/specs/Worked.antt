@@ -5,7 +5,6 @@ use Prim.Native.String.{String}
 use Rattle.fp_base.specs.declared.place.Span.{Span}
 use Rattle.fp_tree.specs.declared.source.Source.{Source}
 use Rattle.fp_tree.specs.declared.name.Name.{Name}
-use Rattle.fp_tree.specs.declared.name.Qual.{Qual}
 use Rattle.fp_tree.specs.declared.expression.Expr.{Expr}
 use Rattle.fp_tree.specs.declared.type_name.TypeForm.TheVariants as type
 use Rattle.fp_tree.specs.declared.part.EnumConst.{EnumConst}

@@ -1,6 +1,6 @@
 -- What the items of a definition define and use stands where tokens begin, its names are names that tokens have, and its expressions nest
 -- no deeper than is allowed.
-use Rattle.std.proofs.Common.{◌≡◌, refl, ℕ, suc, ◌≤◌, Bool, true, false, cond, ◌==◌, List, [], ◌∷◌, ◌++◌, flat_map, length, Option, Some, None, subst, sym}
+use Rattle.std.proofs.Common.{◌≡◌, refl, ℕ, suc, ◌≤◌, Bool, true, false, cond, ◌==◌, List, [], ◌∷◌, flat_map, length, Option, Some, None, subst, sym}
 use Rattle.std.specs.List.{AllByRecursion as Each}
 use Rattle.fp_base.specs.declared.place.Place.{Place}
 use Rattle.fp_base.specs.declared.place.Span.{Span}

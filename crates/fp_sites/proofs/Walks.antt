@@ -13,7 +13,7 @@ use Rattle.fp_tree.specs.declared.expression.Form.TheVariants.{Number, rolls-Num
 use Rattle.fp_tree.specs.declared.member.Include.{Include as Included}
 use Rattle.fp_tree.specs.declared.member.Locate.{Locate as Located}
 use Rattle.fp_tree.specs.declared.member.Module.{Module as Opened, out-Module, fold_out-Module}
-use Rattle.fp_tree.specs.declared.member.Member.{fold-Member, fold-roll-Member}
+use Rattle.fp_tree.specs.declared.member.Member.{fold-roll-Member}
 use Rattle.fp_tree.specs.declared.member.Member.TheOpen as member
 use Rattle.fp_tree.specs.declared.member.Member.TheVariants as node
 use Rattle.fp_meaning.specs.declared.group.Group.TheVariants as group
