@@ -4,7 +4,6 @@ use Rattle.std.proofs.lemmas.List.{append-nil, take_all}
 use Rattle.std.proofs.lemmas.Grind.{flat_map-append}
 use Rattle.std.proofs.lemmas.Option.{slice_get_within, get_or_from_slice_get}
 use Rattle.fp_base.proofs.Lists.{take_next}
-use Rattle.fp_base.specs.declared.place.Place.{Place}
 use Rattle.fp_tree.specs.declared.name.Qual.{Qual}
 use Rattle.fp_tree.specs.declared.expression.Operator.{Operator}
 use Rattle.fp_tree.specs.declared.expression.Expr.{Expr}
@@ -15,10 +14,9 @@ use Rattle.fp_meaning.specs.declared.group.Group.TheVariants as group
 use Rattle.fp_meaning.specs.declared.names.Mention.{Mention}
 use Rattle.fp_meaning.specs.Names.{Path, mentioned, in_form, in_expression}
 use Rattle.fp_meaning.specs.Values.{values_in}
-use Rattle.fp_consts.specs.declared.stretch.Stretch.{Stretch}
 use Rattle.fp_meaning.specs.declared.item.Item.{Item}
 use Rattle.fp_consts.specs.declared.laying.Laid.{Laid}
-use Rattle.fp_consts.specs.Laid.{past, IsPast, places_of, next_of, spans_of, spans_from, spots_of, spots_from, IsLaidWith}
+use Rattle.fp_consts.specs.Laid.{past, IsPast, next_of, firsts_of, firsts_from, spots_of, spots_from, IsLaidWith}
 use Rattle.fp_consts.proofs.Walks.{use_uses, minus_uses, parentheses_uses, binary_uses, array_uses, struct_uses}
 use Rattle.fp_consts.proofs.Arms.{uses_by}
 
@@ -94,9 +92,8 @@ values_past members k end = let same = values_length members in omega arith
 
 -- the items laid out so far, and the rest
 pub record IsLaidFirst (limit : ℕ) (items : List Item) (k : ℕ) (laid : Laid) : Type 0 where
-  pub spans : laid.spans ++ spans_from limit laid.next (drop k items) ≡ spans_from limit 0 items
+  pub firsts : laid.firsts ++ firsts_from limit laid.next (drop k items) ≡ firsts_from limit 0 items
   pub spots : laid.spots ++ spots_from k (drop k items) ≡ spots_from 0 items
-  pub places : laid.places ++ flat_map places_of (drop k items) ≡ flat_map places_of items
 
 module _ (limit : ℕ) (items : List Item) where
   rest_at : (k : ℕ) (p : Item) → slice_get items k ≡ Some p → drop k items ≡ p ∷ drop (suc k) items
@@ -105,19 +102,15 @@ module _ (limit : ℕ) (items : List Item) where
   laid_next_at : (k : ℕ) (p : Item) (before after : Laid) → slice_get items k ≡ Some p → IsLaidFirst limit items k before → IsLaidWith limit k p before after
       → IsLaidFirst limit items (suc k) after
   laid_next_at k p before after at is w = record {
-    spans =
-        ap (λ (xs : List Stretch). xs ++ spans_from limit after.next (drop (suc k) items)) w.spans
-        ∙ ap (λ (n : ℕ). (before.spans ++ spans_of limit before.next p) ++ spans_from limit n (drop (suc k) items)) w.next
-        ∙ append_assoc before.spans (spans_of limit before.next p) (spans_from limit (next_of limit before.next p) (drop (suc k) items))
-        ∙ ap (λ (ps : List Item). before.spans ++ spans_from limit before.next ps) (sym (rest_at k p at)) ∙ is.spans;
+    firsts =
+        ap (λ (xs : List ℕ). xs ++ firsts_from limit after.next (drop (suc k) items)) w.firsts
+        ∙ ap (λ (n : ℕ). (before.firsts ++ firsts_of before.next p) ++ firsts_from limit n (drop (suc k) items)) w.next
+        ∙ append_assoc before.firsts (firsts_of before.next p) (firsts_from limit (next_of limit before.next p) (drop (suc k) items))
+        ∙ ap (λ (ps : List Item). before.firsts ++ firsts_from limit before.next ps) (sym (rest_at k p at)) ∙ is.firsts;
     spots =
         ap (λ (xs : List ℕ). xs ++ spots_from (suc k) (drop (suc k) items)) w.spots
         ∙ append_assoc before.spots (spots_of k p) (spots_from (suc k) (drop (suc k) items))
         ∙ ap (λ (ps : List Item). before.spots ++ spots_from k ps) (sym (rest_at k p at)) ∙ is.spots;
-    places =
-        ap (λ (xs : List Place). xs ++ flat_map places_of (drop (suc k) items)) w.places
-        ∙ append_assoc before.places (places_of p) (flat_map places_of (drop (suc k) items))
-        ∙ ap (λ (ps : List Item). before.places ++ flat_map places_of ps) (sym (rest_at k p at)) ∙ is.places;
   }
 
   pub laid_next : (k : ℕ) (p : Item) (before after : Laid) → slice_get items k ≡ Some p → IsLaidFirst limit items k before → IsLaidWith limit k p before after

@@ -10,7 +10,7 @@ use Rattle.fp_meaning.specs.declared.group.Group.TheVariants as group
 use Rattle.fp_meaning.specs.declared.names.Mention.{Mention}
 use Rattle.fp_meaning.specs.Names.{Path, in_form, in_expression}
 use Rattle.fp_meaning.specs.Values.{values_in}
-use Rattle.fp_consts.proofs.Grounded.{rolled_uses}
+use Rattle.fp_consts.proofs.Rolled.{rolled_uses}
 use Rattle.fp_consts.proofs.Walks.{whole_uses}
 
 abbrev pub AreValueNames : List Mention → Type 0

@@ -1,29 +1,22 @@
-pub mod Operators
-pub mod Wholes
-pub mod Sizes
-pub mod Walks
-pub mod Given
-pub mod Measures
-pub mod Produced
-pub mod Gathering
-pub mod Sized
-pub mod Arms
-pub mod Grounded
-pub mod Marked
-pub mod Reaching
-pub mod Places
-pub mod Stages
-pub mod Entering
-pub mod Joining
-pub mod Settling
-pub mod Steps
-pub mod Deepening
-pub mod Bridging
-pub mod Counted
-pub mod Valued
-pub mod Tabled
-pub mod Grouped
-pub mod Joined
-pub mod Evaluated
-pub mod Answered
-pub mod Opaque
+mod Operators
+mod Wholes
+mod Sizes
+mod Walks
+mod Given
+mod Measures
+mod Produced
+mod Gathering
+mod Sized
+mod Arms
+mod Grounded
+mod Marked
+mod Counted
+mod Valued
+mod Tabled
+mod Grouped
+mod Evaluated
+mod Answered
+mod Opaque
+mod Rolled
+mod Apart
+mod Own

@@ -1,25 +1,26 @@
 -- The definitions of a source in an order in which each stands behind those that it uses, evaluated one after another.
-use Rattle.std.proofs.Common.{◌≡◌, ℕ, zero, suc, ◌+◌, ◌<◌, ◌≤◌, ◌⊎◌, Bool, true, false, List, [], ◌∷◌, ◌++◌, length, flat_map, slice_get, take, set, Option, Some, None, refl, inl, inr, sym, ap, subst, ◌∙◌, arith, length-append}
+use Rattle.std.proofs.Common.{◌≡◌, ℕ, zero, suc, ◌+◌, ◌<◌, ◌≤◌, ◌⊎◌, Bool, true, false, List, [], ◌∷◌, ◌++◌, length, flat_map, replicate, slice_get, take, set, Option, Some, None, refl, inl, inr, sym, ap, subst, ◌∙◌, arith, length-append}
 use Rattle.std.proofs.lemmas.Option.{slice_get_within}
+use Rattle.std.proofs.lemmas.List.{length-replicate}
 use Rattle.fp_base.proofs.Lists.{get_front}
+use Rattle.fp_graph.specs.Chains.{IsOnCycle, IsSorted}
 use Rattle.fp_tree.specs.declared.source.Source.{Source}
 use Rattle.fp_meaning.specs.declared.names.Mention.{Mention}
 use Rattle.fp_meaning.specs.Meaning.{Means}
-use Rattle.fp_meaning.specs.Names.{definitions, mentions, uses_of}
+use Rattle.fp_meaning.specs.Names.{definitions, definitions_of, mentions, uses_of}
 use Rattle.fp_meaning.specs.Origins.{Origin, origins, origins_of}
 use Rattle.fp_meaning.specs.declared.item.Item.{Item}
 use Rattle.fp_meaning.specs.declared.item.Item.TheVariants as variant
+use Rattle.fp_meaning.specs.Owners.{owner_of, owners_from}
+use Rattle.fp_meaning.specs.Uses.{Uses, by_name}
 use Rattle.fp_consts.specs.declared.measured.Measured.{Measured}
-use Rattle.fp_consts.specs.declared.stretch.Stretch.{Stretch}
 use Rattle.fp_consts.specs.Examined.{AreGiven, IsExact, value_at, entry}
-use Rattle.fp_consts.specs.Graph.{Edge, IsCyclic, IsSorted}
-use Rattle.fp_consts.specs.Laid.{past, next_of, spans_from, spots_from}
+use Rattle.fp_consts.specs.Laid.{past, next_of, firsts_from, spots_from}
 use Rattle.fp_consts.specs.Settled.{Settles}
 use Rattle.fp_consts.specs.Tabled.{IsLaidOut, IsDefined, AreExact, AreExactFirst}
-use Rattle.fp_consts.proofs.Bridging.{on_cycle_from}
 use Rattle.fp_consts.proofs.Grounded.{none_on_cycle}
 use Rattle.fp_consts.proofs.Measures.{none_measured}
-use Rattle.fp_consts.proofs.Places.{get_right, item_below, get_set_same, get_set_other, same_or_other, before_or_not}
+use Rattle.fp_graph.proofs.Places.{get_right, item_below, get_set_same, get_set_other, same_or_other, before_or_not}
 use Rattle.fp_consts.proofs.Valued.{settled_exact}
 
 -- what an element gives stands in what all give
@@ -44,10 +45,9 @@ pub record IsSpot (ps : List Item) (index limit from number : ℕ) (origin : Ori
   pub spot : slice_get (spots_from index ps) number ≡ Some (index + at)
   pub part : slice_get ps at ≡ Some item
   pub first : ℕ
-  pub end : ℕ
-  pub span : slice_get (spans_from limit from ps) number ≡ Some (record { first = first; end = end })
+  pub begins : slice_get (firsts_from limit from ps) number ≡ Some first
   pub is_first : first ≡ from + length (flat_map uses_of (take at ps))
-  pub is_end : end ≡ first + length (uses_of item)
+  pub is_number : number ≡ length (flat_map definitions_of (take at ps))
 
 past_within : (n limit from : ℕ) → from + n ≤ limit → past n limit from ≡ from + n
 past_within n limit from h = omega arith
@@ -55,24 +55,27 @@ past_within n limit from h = omega arith
 -- one item further on
 further : (p : Item) (ps : List Item) (index limit from number earlier : ℕ) (origin : Origin) → from + length (uses_of p) ≤ limit
     → slice_get (spots_from index (p ∷ ps)) number ≡ slice_get (spots_from (suc index) ps) earlier
-    → slice_get (spans_from limit from (p ∷ ps)) number ≡ slice_get (spans_from limit (next_of limit from p) ps) earlier
+    → slice_get (firsts_from limit from (p ∷ ps)) number ≡ slice_get (firsts_from limit (next_of limit from p) ps) earlier → number ≡ length (definitions_of p) + earlier
     → IsSpot ps (suc index) limit (from + length (uses_of p)) earlier origin → IsSpot (p ∷ ps) index limit from number origin
-further p ps index limit from number earlier origin fits spots spans is = record {
+further p ps index limit from number earlier origin fits spots firsts counts is = record {
   at = suc is.at;
   item = is.item;
   gives = is.gives;
   spot = spots ∙ is.spot ∙ ap (λ (n : ℕ). Some n) (moved index is.at);
   part = is.part;
   first = is.first;
-  end = is.end;
-  span =
-      spans ∙ ap (λ (n : ℕ). slice_get (spans_from limit n ps) earlier) (past_within (length (uses_of p)) limit from fits) ∙ is.span;
+  begins =
+      firsts ∙ ap (λ (n : ℕ). slice_get (firsts_from limit n ps) earlier) (past_within (length (uses_of p)) limit from fits) ∙ is.begins;
   is_first =
       let long = length-append (uses_of p) (flat_map uses_of (take is.at ps)) in
       let before = is.is_first in
       let same : is.first ≡ from + length (uses_of p ++ flat_map uses_of (take is.at ps)) = omega arith in
       same;
-  is_end = is.is_end;
+  is_number =
+      let long = length-append (definitions_of p) (flat_map definitions_of (take is.at ps)) in
+      let before = is.is_number in
+      let same : number ≡ length (definitions_of p ++ flat_map definitions_of (take is.at ps)) = omega arith in
+      same;
 }
   where
     moved : (m n : ℕ) → suc m + n ≡ m + suc n
@@ -81,19 +84,18 @@ further p ps index limit from number earlier origin fits spots spans is = record
 -- or this one
 here : (p : Item) (ps : List Item) (index limit from : ℕ) (origin : Origin) → from + length (uses_of p) ≤ limit
     → slice_get (spots_from index (p ∷ ps)) 0 ≡ Some index
-    → slice_get (spans_from limit from (p ∷ ps)) 0 ≡ Some (record { first = from; end = next_of limit from p })
+    → slice_get (firsts_from limit from (p ∷ ps)) 0 ≡ Some from
     → origins_of p ≡ origin ∷ [] → IsSpot (p ∷ ps) index limit from 0 origin
-here p ps index limit from origin fits spot span gives = record {
+here p ps index limit from origin fits spot begins gives = record {
   at = 0;
   item = p;
   gives = gives;
   spot = spot ∙ ap (λ (n : ℕ). Some n) (plus_none index);
   part = refl;
   first = from;
-  end = from + length (uses_of p);
-  span = span ∙ ap (λ (n : ℕ). Some (record { first = from; end = n })) (past_within (length (uses_of p)) limit from fits);
+  begins = begins;
   is_first = plus_none from;
-  is_end = refl;
+  is_number = refl;
 }
   where
     plus_none : (n : ℕ) → n ≡ n + 0
@@ -103,6 +105,12 @@ within_all : (p : Item) (ps : List Item) (from limit : ℕ) → from + length (u
     → (from + length (uses_of p) ≤ limit) × (from + length (uses_of p) + length (flat_map uses_of ps) ≤ limit)
 within_all p ps from limit h = let long = length-append (uses_of p) (flat_map uses_of ps) in (omega arith, omega arith)
 
+none_before : (n : ℕ) → n ≡ 0 + n
+none_before n = omega arith
+
+one_before : (n : ℕ) → suc n ≡ 1 + n
+one_before n = omega arith
+
 alone : {x y : Origin} → Some x ≡ Some y → x ∷ [] ≡ y ∷ []
 alone e = cc
 
@@ -111,20 +119,55 @@ pub spot_of : (ps : List Item) (index limit from number : ℕ) (origin : Origin)
 spot_of [] index limit from number origin fits at = cc
 spot_of (variant.Used since n ∷ ps) index limit from number origin fits at =
     let t = within_all (variant.Used since n) ps from limit fits in
-    further (variant.Used since n) ps index limit from number number origin t.0 refl refl (spot_of ps (suc index) limit (from + length (uses_of (variant.Used since n))) number origin t.1 at)
+    further (variant.Used since n) ps index limit from number number origin t.0 refl refl (none_before number) (spot_of ps (suc index) limit (from + length (uses_of (variant.Used since n))) number origin t.1 at)
 spot_of (variant.Written since w ∷ ps) index limit from number origin fits at =
     let t = within_all (variant.Written since w) ps from limit fits in
-    further (variant.Written since w) ps index limit from number number origin t.0 refl refl (spot_of ps (suc index) limit (from + length (uses_of (variant.Written since w))) number origin t.1 at)
+    further (variant.Written since w) ps index limit from number number origin t.0 refl refl (none_before number) (spot_of ps (suc index) limit (from + length (uses_of (variant.Written since w))) number origin t.1 at)
 spot_of (variant.Defined s ∷ ps) index limit from zero origin fits at =
     here (variant.Defined s) ps index limit from origin (within_all (variant.Defined s) ps from limit fits).0 refl refl (alone at)
 spot_of (variant.Defined s ∷ ps) index limit from (suc number) origin fits at =
     let t = within_all (variant.Defined s) ps from limit fits in
-    further (variant.Defined s) ps index limit from (suc number) number origin t.0 refl refl (spot_of ps (suc index) limit (from + length (uses_of (variant.Defined s))) number origin t.1 at)
+    further (variant.Defined s) ps index limit from (suc number) number origin t.0 refl refl (one_before number) (spot_of ps (suc index) limit (from + length (uses_of (variant.Defined s))) number origin t.1 at)
 spot_of (variant.Enumerated e ∷ ps) index limit from zero origin fits at =
     here (variant.Enumerated e) ps index limit from origin (within_all (variant.Enumerated e) ps from limit fits).0 refl refl (alone at)
 spot_of (variant.Enumerated e ∷ ps) index limit from (suc number) origin fits at =
     let t = within_all (variant.Enumerated e) ps from limit fits in
-    further (variant.Enumerated e) ps index limit from (suc number) number origin t.0 refl refl (spot_of ps (suc index) limit (from + length (uses_of (variant.Enumerated e))) number origin t.1 at)
+    further (variant.Enumerated e) ps index limit from (suc number) number origin t.0 refl refl (one_before number) (spot_of ps (suc index) limit (from + length (uses_of (variant.Enumerated e))) number origin t.1 at)
+
+-- the uses of an item that is a definition have it as their owner
+get_replicate : (n x k : ℕ) → k < n → slice_get (replicate n x) k ≡ Some x
+get_replicate zero x k h = absurd (omega arith)
+get_replicate (suc n) x zero h = refl
+get_replicate (suc n) x (suc k) h = get_replicate n x k (omega arith)
+
+owns_itself : (number : ℕ) (p : Item) (origin : Origin) → origins_of p ≡ origin ∷ [] → owner_of number p ≡ number
+owns_itself number (variant.Defined s) origin gives = refl
+owns_itself number (variant.Enumerated e) origin gives = refl
+owns_itself number (variant.Used since n) origin gives = cc
+owns_itself number (variant.Written since w) origin gives = cc
+
+pub owned_at : (ps : List Item) (number at : ℕ) (p : Item) (origin : Origin) (i : ℕ) → slice_get ps at ≡ Some p → origins_of p ≡ origin ∷ [] → i < length (uses_of p)
+    → slice_get (owners_from number ps) (length (flat_map uses_of (take at ps)) + i) ≡ Some (number + length (flat_map definitions_of (take at ps)))
+owned_at [] number at p origin i there gives low = cc
+owned_at (z ∷ ps) number zero p origin i there gives low =
+    let same : p ≡ z = cc in
+    let low_here : i < length (uses_of z) = subst (λ (q : Item). i < length (uses_of q)) same low in
+    let mine : owner_of number z ≡ number = owns_itself number z origin (subst (λ (q : Item). origins_of q ≡ origin ∷ []) same gives) in
+    let front : slice_get (replicate (length (uses_of z)) (owner_of number z) ++ owners_from (number + length (definitions_of z)) ps) i ≡ Some (owner_of number z) =
+    get_front (replicate (length (uses_of z)) (owner_of number z)) (owners_from (number + length (definitions_of z)) ps) i (owner_of number z)
+    (get_replicate (length (uses_of z)) (owner_of number z) i low_here) in
+    let none_more : number ≡ number + 0 = omega arith in
+    let index : i ≡ 0 + i = omega arith in
+    subst (λ (n : ℕ). slice_get (owners_from number (z ∷ ps)) n ≡ Some (number + 0)) index (front ∙ ap (λ (n : ℕ). Some n) (mine ∙ none_more))
+owned_at (z ∷ ps) number (suc at) p origin i there gives low =
+    let long = length-append (uses_of z) (flat_map uses_of (take at ps)) in
+    let many = length-replicate (length (uses_of z)) (owner_of number z) in
+    let defined = length-append (definitions_of z) (flat_map definitions_of (take at ps)) in
+    let index : length (uses_of z ++ flat_map uses_of (take at ps)) + i ≡ length (replicate (length (uses_of z)) (owner_of number z)) + (length (flat_map uses_of (take at ps)) + i) = omega arith in
+    let sum : number + length (definitions_of z) + length (flat_map definitions_of (take at ps)) ≡ number + length (definitions_of z ++ flat_map definitions_of (take at ps)) = omega arith in
+    get_right (replicate (length (uses_of z)) (owner_of number z)) (owners_from (number + length (definitions_of z)) ps) (number + length (definitions_of z ++ flat_map definitions_of (take at ps)))
+    (length (uses_of z ++ flat_map uses_of (take at ps)) + i) (length (flat_map uses_of (take at ps)) + i) index
+    (owned_at ps (number + length (definitions_of z)) at p origin i there gives low ∙ ap (λ (n : ℕ). Some n) sum)
 
 -- uses are given where each is
 pub given_each : (source : Source) (table : List (Option Measured)) (numbers : List ℕ) (ms : List Mention) (from : ℕ)
@@ -154,8 +197,8 @@ value_same table number o h = ap entry (get_set_same table number o h)
 value_other : (table : List (Option Measured)) (number other : ℕ) (o : Option Measured) → (other ≡ number → ⊥) → value_at (set table number o) other ≡ value_at table other
 value_other table number other o apart = ap entry (get_set_other table number other o apart)
 
-module _ (source : Source) (items : List Item) (spans : List Stretch) (spots meanings order : List ℕ) (cyclic : List Bool) (out : IsLaidOut source items spans spots meanings)
-    (sorted : IsSorted spans meanings order cyclic) where
+module _ (source : Source) (items : List Item) (firsts spots meanings order : List ℕ) (cyclic : List Bool) (out : IsLaidOut source items firsts spots meanings)
+    (sorted : IsSorted (length (flat_map definitions_of items)) (Uses items) order cyclic) where
   all_uses : flat_map uses_of items ≡ mentions source
   all_uses = ap (λ (ps : List Item). flat_map uses_of ps) out.laid
 
@@ -170,7 +213,7 @@ module _ (source : Source) (items : List Item) (spans : List Stretch) (spots mea
 
   -- what a use of a definition means
   use_given : (table : List (Option Measured)) (k number : ℕ) (origin : Origin) (s : IsSpot items 0 (length meanings) 0 number origin) → slice_get order k ≡ Some number
-      → (IsCyclic spans meanings number → ⊥) → AreExactFirst source order k table → (i : ℕ) (m : Mention) → slice_get (uses_of s.item) i ≡ Some m
+      → (IsOnCycle (Uses items) number → ⊥) → AreExactFirst source order k table → (i : ℕ) (m : Mention) → slice_get (uses_of s.item) i ≡ Some m
       → (used : ℕ) × (slice_get meanings (s.first + i) ≡ Some used) × Means (definitions source) m.scope m.name m.group used × IsExact source used (value_at table used)
   use_given table k number origin s at off exact i m there =
       let low : i < length (uses_of s.item) = slice_get_within (uses_of s.item) i m there in
@@ -183,38 +226,35 @@ module _ (source : Source) (items : List Item) (spans : List Stretch) (spots mea
       let below : s.first + i < length (mentions source) = slice_get_within (mentions source) (s.first + i) m mentioned in
       let u = item_below meanings (s.first + i) (omega arith) in
       let means = out.meant.meant (s.first + i) m u.0 mentioned u.1 in
-      let count = out.uses.count in
-      let defined : u.0 < length (definitions source) = slice_get_within (definitions source) u.0 means.meant.named.definition means.meant.named.here in
-      let last = s.is_end in
-      let edge : Edge spans meanings number u.0 = record {
-        stretch = record { first = s.first; end = s.end };
-        here = ap (λ (xs : List Stretch). slice_get xs number) out.spanned ∙ s.span;
-        at = s.first + i;
-        since = omega arith;
-        before = omega arith;
-        target = u.1;
-        within = omega arith;
-      } in
-      let before = sorted.behind k number u.0 at off edge in
+      let mine = s.is_number in
+      let none_more : 0 + length (flat_map definitions_of (take s.at items)) ≡ number = omega arith in
+      let owned : slice_get (owners_from 0 items) (s.first + i) ≡ Some number =
+      subst (λ (n : ℕ). slice_get (owners_from 0 items) n ≡ Some number) index
+      (owned_at items 0 s.at s.item origin i s.part s.gives low ∙ ap (λ (n : ℕ). Some n) none_more) in
+      let there_too : slice_get (flat_map uses_of items) (s.first + i) ≡ Some m = subst (λ (n : ℕ). slice_get (flat_map uses_of items) n ≡ Some m) index whole in
+      let use_ : Uses items number u.0 =
+      by_name (s.first + i) m (sorted.ordered.within k number at) owned there_too
+      (subst (λ (ps : List Item). Means (flat_map definitions_of ps) m.scope m.name m.group u.0) (sym out.laid) means) in
+      let before = sorted.ordered.behind k number u.0 at off use_ in
       (u.0, u.1, means, exact before.0 u.0 before.1 before.2)
 
   -- one definition more
   exact_here : (table : List (Option Measured)) (k number : ℕ) (o : Option Measured) (origin : Origin) → slice_get (origins source) number ≡ Some origin → slice_get order k ≡ Some number
-      → AreExactFirst source order k table → IsDefined items spans spots meanings cyclic table number o → (flag : Bool) → slice_get cyclic number ≡ Some flag → IsExact source number o
+      → AreExactFirst source order k table → IsDefined items firsts spots meanings cyclic table number o → (flag : Bool) → slice_get cyclic number ≡ Some flag → IsExact source number o
   exact_here table k number o origin there at exact is true flagged =
       let none = is.on_cycle flagged in
-      let cycle = sorted.exact number true flagged in
+      let cycle = sorted.flagged.exact number true flagged in
       subst (λ (x : Option Measured). IsExact source number x) (sym none) (record {
         measured = none_measured;
         holds = λ v e. cc;
-        only = λ v has. absurd (none_on_cycle source number v (on_cycle_from source spans meanings out.uses number cycle) has);
+        only = λ v has. absurd (none_on_cycle source number v (subst (λ (ps : List Item). IsOnCycle (Uses ps) number) out.laid cycle) has);
       })
   exact_here table k number o origin there at exact is false flagged =
-      let off = sorted.exact number false flagged in
+      let off = sorted.flagged.exact number false flagged in
       let s = spot_at number origin there in
-      let settles = is.off_cycle (0 + s.at) (record { first = s.first; end = s.end }) s.item flagged
+      let settles = is.off_cycle (0 + s.at) s.first s.item flagged
       (ap (λ (xs : List ℕ). slice_get xs number) out.spotted ∙ s.spot)
-      (ap (λ (xs : List Stretch). slice_get xs number) out.spanned ∙ s.span)
+      (ap (λ (xs : List ℕ). slice_get xs number) out.begun ∙ s.begins)
       (subst (λ (n : ℕ). slice_get items n ≡ Some s.item) (none_more s.at) s.part) in
       settled_exact source number origin o there
       (settles source origin s.gives (given_each source table meanings (uses_of s.item) s.first (use_given table k number origin s at off exact)))
@@ -222,29 +262,28 @@ module _ (source : Source) (items : List Item) (spans : List Stretch) (spots mea
       none_more : (n : ℕ) → n ≡ 0 + n
       none_more n = omega arith
 
-  spans_length : (ps : List Item) (limit from : ℕ) → length (spans_from limit from ps) ≡ length (flat_map origins_of ps)
-  spans_length [] limit from = refl
-  spans_length (variant.Used since n ∷ ps) limit from = spans_length ps limit (next_of limit from (variant.Used since n))
-  spans_length (variant.Written since w ∷ ps) limit from = spans_length ps limit (next_of limit from (variant.Written since w))
-  spans_length (variant.Defined s ∷ ps) limit from = ap (λ (n : ℕ). suc n) (spans_length ps limit (next_of limit from (variant.Defined s)))
-  spans_length (variant.Enumerated e ∷ ps) limit from = ap (λ (n : ℕ). suc n) (spans_length ps limit (next_of limit from (variant.Enumerated e)))
+  as_many : (ps : List Item) → length (flat_map definitions_of ps) ≡ length (flat_map origins_of ps)
+  as_many [] = refl
+  as_many (variant.Used since n ∷ ps) = as_many ps
+  as_many (variant.Written since w ∷ ps) = as_many ps
+  as_many (variant.Defined s ∷ ps) = ap (λ (n : ℕ). suc n) (as_many ps)
+  as_many (variant.Enumerated e ∷ ps) = ap (λ (n : ℕ). suc n) (as_many ps)
 
-  origins_length : length spans ≡ length (origins source)
-  origins_length =
-      ap (λ (xs : List Stretch). length xs) out.spanned ∙ spans_length items (length meanings) 0 ∙ ap (λ (os : List Origin). length os) all_origins
+  origins_length : length (flat_map definitions_of items) ≡ length (origins source)
+  origins_length = as_many items ∙ ap (λ (os : List Origin). length os) all_origins
 
   exact_of : (table : List (Option Measured)) (k number : ℕ) (o : Option Measured) → slice_get order k ≡ Some number
-      → AreExactFirst source order k table → IsDefined items spans spots meanings cyclic table number o → IsExact source number o
+      → AreExactFirst source order k table → IsDefined items firsts spots meanings cyclic table number o → IsExact source number o
   exact_of table k number o at exact is =
-      let low = sorted.within k number at in
+      let low = sorted.ordered.within k number at in
       let same = origins_length in
-      let count = sorted.each in
+      let count = sorted.flagged.each in
       let origin = item_below (origins source) number (omega arith) in
       let flag = item_below cyclic number (omega arith) in
       exact_here table k number o origin.0 origin.1 at exact is flag.0 flag.1
 
   pub exact_next : (table : List (Option Measured)) (k number : ℕ) (o : Option Measured) → slice_get order k ≡ Some number → number < length table
-      → AreExactFirst source order k table → IsDefined items spans spots meanings cyclic table number o → AreExactFirst source order (k + 1) (set table number o)
+      → AreExactFirst source order k table → IsDefined items firsts spots meanings cyclic table number o → AreExactFirst source order (k + 1) (set table number o)
   exact_next table k number o at low exact is j other before there = go (same_or_other other number) (before_or_not j k)
     where
       new : IsExact source number o
@@ -265,8 +304,8 @@ module _ (source : Source) (items : List Item) (spans : List Stretch) (spots mea
 
   pub exact_all : (table : List (Option Measured)) (k : ℕ) → length order ≤ k → AreExactFirst source order k table → AreExact source table
   exact_all table k past exact number low =
-      let count = out.uses.count in
-      let t = sorted.all number (omega arith) in
+      let count : length (flat_map definitions_of items) ≡ length (definitions source) = ap (λ (ps : List Item). length (flat_map definitions_of ps)) out.laid in
+      let t = sorted.ordered.all number (omega arith) in
       let here = slice_get_within order t.0 number t.1 in
       exact t.0 number (omega arith) t.1
 
@@ -274,20 +313,20 @@ pub exact_none : (source : Source) (order : List ℕ) (table : List (Option Meas
 exact_none source order table j number before at = absurd (omega arith)
 
 -- what is settled of the item in its place
-module _ (items : List Item) (spans : List Stretch) (spots meanings : List ℕ) (cyclic : List Bool) (table : List (Option Measured)) (number spot : ℕ) (off : slice_get cyclic number ≡ Some false)
+module _ (items : List Item) (firsts spots meanings : List ℕ) (cyclic : List Bool) (table : List (Option Measured)) (number spot : ℕ) (off : slice_get cyclic number ≡ Some false)
     (spotted : Some spot ≡ slice_get spots number) where
-  pub defined_there : (span : Stretch) (item : Item) (o : Option Measured) → Some span ≡ slice_get spans number → Some item ≡ slice_get items spot
-      → Settles table meanings item span.first o → IsDefined items spans spots meanings cyclic table number o
-  defined_there span item o spanned part settles = record {
+  pub defined_there : (first : ℕ) (item : Item) (o : Option Measured) → Some first ≡ slice_get firsts number → Some item ≡ slice_get items spot
+      → Settles table meanings item first o → IsDefined items firsts spots meanings cyclic table number o
+  defined_there first item o begun part settles = record {
     on_cycle = λ flagged. absurd (cc);
     off_cycle = λ s p i flagged at there here.
         let same : spot ≡ s = cc in
-        let span_same : span ≡ p = cc in
+        let first_same : first ≡ p = cc in
         let item_same : item ≡ i = cc in
-        subst (λ (x : Item). Settles table meanings x p.first o) item_same (subst (λ (y : Stretch). Settles table meanings item y.first o) span_same settles);
+        subst (λ (x : Item). Settles table meanings x p o) item_same (subst (λ (y : ℕ). Settles table meanings item y o) first_same settles);
   }
 
-  pub defined_nowhere : None ≡ slice_get items spot → IsDefined items spans spots meanings cyclic table number None
+  pub defined_nowhere : None ≡ slice_get items spot → IsDefined items firsts spots meanings cyclic table number None
   defined_nowhere none = record {
     on_cycle = λ flagged. refl;
     off_cycle = λ s p i flagged at there here. let same : spot ≡ s = cc in absurd (cc);

@@ -2,10 +2,6 @@ pub mod Operands
 pub mod Examined
 pub mod Settled
 pub mod Marked
-pub mod Graph
-pub mod Visits
-pub mod Depths
-pub mod Chains
 pub mod Laid
 pub mod Tabled
 pub mod Answered

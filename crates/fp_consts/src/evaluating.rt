@@ -7,16 +7,14 @@ ghost use Rattle.fp_meaning.specs.Origins.{expressions};
 ghost use Rattle.fp_consts.specs.Answered.{IsStop, StandFor, or_opaque};
 ghost use Rattle.fp_consts.specs.Marked.{AreValues};
 
-use crate::chains::chain_faults;
-use crate::components::in_order;
-use crate::depths::too_deep;
 use crate::laying::lay;
 use crate::marking::marked;
 use crate::tabling::table_of;
 use fp_base::{NoMemory, Row, Stop, Value, lesser};
-use fp_layout::lay_out;
+use fp_layout::{definitions_in, lay_out};
 use fp_meaning::Marks;
 use fp_tree::{Source, Uses, Values};
+use fp_uses::{Users, chain_faults, sorted_uses};
 use std::alloc::Global;
 
 /// The values of the expressions of a source, and the least rule that its constants break. Each definition is evaluated once, and each
@@ -29,18 +27,15 @@ pub fn evaluate_all(alloc: Global, source: &Source, uses: &Uses) -> Result<Marks
     let meanings = uses.meanings.as_slice();
     let layout = lay_out(alloc, source)?;
     let items = layout.items();
+    let chained = sorted_uses(alloc, items, uses)?;
     let limit = meanings.len();
     let laid = lay(alloc, items, limit)?;
-    let spans = laid.spans.as_slice();
-    let sorted = in_order(alloc, spans, meanings)?;
-    let deep = too_deep(alloc, spans, meanings, &sorted)?;
-    let table = table_of(alloc, items, &laid, &sorted, meanings)?;
+    let table = table_of(alloc, items, &laid, &chained, meanings)?;
     let values = table.as_slice();
     let marking = marked(alloc, items, values, meanings)?;
-    let places = laid.places.as_slice();
-    let cyclic = sorted.cyclic.as_slice();
-    let flags = deep.as_slice();
-    let chains = chain_faults(places, cyclic, flags);
+    let row = definitions_in(alloc, items)?;
+    let definitions = row.as_slice();
+    let chains = chain_faults(definitions, &chained, Users::Constants);
     Ok(Marks {
         at: marking.at,
         first: lesser(marking.first, chains),

@@ -1,15 +1,16 @@
-ghost use Rattle.std.specs.Prelude.{◌≡◌, ◌<◌, IfOk, length, set, slice_get};
+ghost use Rattle.std.specs.Prelude.{◌≡◌, ◌<◌, IfOk, flat_map, length, set, slice_get};
 ghost use Rattle.std.specs.Option.{option_copied};
 ghost use Rattle.fp_tree.specs.declared.source.Source.{Source as Whole};
-ghost use Rattle.fp_consts.specs.Graph.{IsSorted};
+ghost use Rattle.fp_graph.specs.Chains.{IsSorted};
+ghost use Rattle.fp_meaning.specs.Names.{definitions_of};
+ghost use Rattle.fp_meaning.specs.Uses.{Uses};
 ghost use Rattle.fp_consts.specs.Tabled.{AreExact, IsDefined, IsLaidOut};
 
-use crate::components::Sorted;
 use crate::defining::settled;
-use crate::depths::is_flagged;
 use crate::laying::Laid;
 use crate::measured::Measured;
 use fp_base::NoMemory;
+use fp_graph::{Chained, is_flagged};
 use fp_meaning::Item;
 use std::alloc::Global;
 
@@ -18,21 +19,21 @@ pub fn table_of(
     alloc: Global,
     items: &[Item],
     laid: &Laid,
-    sorted: &Sorted,
+    chained: &Chained,
     meanings: &[u32],
 ) -> Result<Vec<Option<Measured>>, NoMemory>
-    requires { IsSorted laid.now.spans meanings.now sorted.now.order.items sorted.now.cyclic.items }
-    ensures { IfOk result (λ table. (source : Whole) → IsLaidOut source items.now laid.now.spans laid.now.spots meanings.now → AreExact source table.items) }
+    requires { IsSorted (length (flat_map definitions_of items.now)) (Uses items.now) chained.now.order.items chained.now.cyclic.items }
+    ensures { IfOk result (λ table. (source : Whole) → IsLaidOut source items.now laid.now.firsts laid.now.spots meanings.now → AreExact source table.items) }
 {
-    let mut table = no_values(alloc, laid.spans.len())?;
-    let order = sorted.order.as_slice();
+    let mut table = no_values(alloc, chained.cyclic.len())?;
+    let order = chained.order.as_slice();
     for number in order {
         let value = value_of(
             alloc,
             *number,
             items,
             laid,
-            sorted,
+            chained,
             table.as_slice(),
             meanings,
         )?;
@@ -64,24 +65,24 @@ fn value_of(
     number: usize,
     items: &[Item],
     laid: &Laid,
-    sorted: &Sorted,
+    chained: &Chained,
     table: &[Option<Measured>],
     meanings: &[u32],
 ) -> Result<Option<Measured>, NoMemory>
-    requires { number < length sorted.now.cyclic.items }
-    ensures { IfOk result (IsDefined items.now laid.now.spans laid.now.spots meanings.now sorted.now.cyclic.items table.now number) }
+    requires { number < length chained.now.cyclic.items }
+    ensures { IfOk result (IsDefined items.now laid.now.firsts laid.now.spots meanings.now chained.now.cyclic.items table.now number) }
 {
-    if is_flagged(sorted.cyclic.as_slice(), number) {
+    if is_flagged(chained.cyclic.as_slice(), number) {
         return Ok(None);
     }
     let Some(spot) = laid.spots.get(number) else {
         return Ok(None);
     };
-    let Some(span) = laid.spans.get(number) else {
+    let Some(first) = laid.firsts.get(number) else {
         return Ok(None);
     };
     match item_at(items, *spot) {
-        Some(item) => settled(alloc, item, table, meanings, span.first),
+        Some(item) => settled(alloc, item, table, meanings, *first),
         None => Ok(None),
     }
 }

@@ -1,5 +1,5 @@
 //! Tests of the front end and of what it stands on, where they need code: rows, texts, values and places; files and sinks; formats;
-//! all bytes, lists of uses, and the laws.
+//! all bytes, graphs, and the laws.
 #![tactic(auto)]
 
 #[cfg(test)]
@@ -11,8 +11,8 @@ mod formats;
 #[cfg(test)]
 mod grammars;
 #[cfg(test)]
+mod graphs;
+#[cfg(test)]
 mod laws;
 #[cfg(test)]
 mod outside;
-#[cfg(test)]
-mod uses;

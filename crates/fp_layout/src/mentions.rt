@@ -27,7 +27,8 @@ pub fn mentions_in(alloc: Global, items: &[Item]) -> Result<Row<Mention>, NoMemo
     Ok(found)
 }
 
-fn of_item(alloc: Global, item: &Item, found: &mut Row<Mention>) -> Result<(), NoMemory>
+/// Adds the uses of an item.
+pub fn of_item(alloc: Global, item: &Item, found: &mut Row<Mention>) -> Result<(), NoMemory>
     ensures { OnOk result (found.new ≡ found.old ++ uses_of item.now) }
 {
     match item {

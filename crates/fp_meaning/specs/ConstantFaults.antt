@@ -1,11 +1,10 @@
--- The rules that an expression breaks by itself, and the definitions that are on cycles or at the head of chains that are too long.
+-- The rules that constants break: by expressions, each by itself, and by cycles and chains of uses that are too long.
 -- A rule that needs a value isn't broken where there is none.
-use Rattle.std.specs.Prelude.{◌≡◌, ℕ, zero, suc, ◌<◌, ℤ, pos, neg_ℤ, FitsSigned, List, [], ◌∷◌, length, slice_get, Some, None}
-use Rattle.std.specs.List.{Contains}
+use Rattle.std.specs.Prelude.{◌≡◌, ℕ, ℤ, pos, neg_ℤ, FitsSigned, List, [], ◌∷◌, slice_get, Some, None}
 use Rattle.std.specs.Int.{w128}
 use Rattle.fp_base.specs.declared.place.Place.{Place}
 use Rattle.fp_base.specs.declared.refusal.Refusal.{Refusal}
-use Rattle.fp_base.specs.declared.rule.Rule.TheVariants.{FloatUsed, Outside128Bits, ZeroDivisor, OperandKind, Cycle, ValueTooLarge, ChainTooLong}
+use Rattle.fp_base.specs.declared.rule.Rule.TheVariants.{FloatUsed, Outside128Bits, ZeroDivisor, OperandKind, ValueTooLarge}
 use Rattle.fp_base.specs.declared.value.Value.{Value, Array, Struct}
 use Rattle.fp_tree.specs.declared.source.Source.{Source}
 use Rattle.fp_tree.specs.declared.expression.Operator.{Operator}
@@ -14,12 +13,11 @@ use Rattle.fp_tree.specs.declared.expression.Expr.{Expr}
 use Rattle.fp_tree.specs.declared.expression.Form.TheOpen as form
 use Rattle.fp_tree.specs.declared.expression.Assignment.{Assignment}
 use Rattle.fp_meaning.specs.declared.group.Group.TheVariants as group
-use Rattle.fp_meaning.specs.declared.names.Definition.{Definition}
-use Rattle.fp_meaning.specs.declared.names.Mention.{Mention}
 use Rattle.fp_base.specs.Least.{broken_at, Either, InSome}
-use Rattle.fp_meaning.specs.Names.{Path, definitions, in_expression}
-use Rattle.fp_meaning.specs.Meaning.{Means}
-use Rattle.fp_meaning.specs.Origins.{Placed, Origin, origins, expressions, written_in}
+use Rattle.fp_meaning.specs.Names.{Path}
+use Rattle.fp_meaning.specs.Layout as layout
+use Rattle.fp_meaning.specs.Origins.{Placed, expressions}
+use Rattle.fp_meaning.specs.Uses.{BrokenByChains}
 use Rattle.fp_meaning.specs.Values.{Opened, opened, values_in, number_in, result_of, HasDivisor, parts_with, IsWithinSize, Val, Vals}
 
 -- what is broken by an expression's outermost production, at its place: V1 by a float, V2 by a result outside -2^127 to 2^127 - 1, V3 by
@@ -61,45 +59,10 @@ pub data BrokenIn (source : Source) (scope : Path) : Expr → Refusal → Type 0
   itself : {e : Expr} {f : Refusal} → BrokenHere source scope e.at.first (opened e) f → BrokenIn source scope e f
   within : {e part : Expr} {f : Refusal} (k : ℕ) → slice_get (parts_of (opened e)) k ≡ Some part → BrokenIn source scope part f → BrokenIn source scope e f
 
--- a definition uses another in the expression that gives it its value
-pub record Uses (source : Source) (user used : ℕ) : Type 0 where
-  pub origin : Origin
-  pub here : slice_get (origins source) user ≡ Some origin
-  pub where_ : Placed
-  pub written : written_in origin ≡ Some where_
-  pub mention : Mention
-  pub mentioned : Contains (in_expression where_.scope where_.expression) mention
-  pub means : Means (definitions source) mention.scope mention.name group.Value used
-
--- from the one to the other in so many uses
-abbrev pub Reaches : Source → ℕ → ℕ → ℕ → Type 0
-Reaches source from to zero = from ≡ to
-Reaches source from to (suc n) = (between : ℕ) × Reaches source from between n × Uses source between to
-
--- it uses itself, perhaps through others
-abbrev pub IsOnCycle : Source → ℕ → Type 0
-IsOnCycle source number = (n : ℕ) × Reaches source number number (suc n)
-
--- so many uses one after another from a definition on; no definition of the chain is on a cycle
-pub data Chain (source : Source) : ℕ → ℕ → Type 0 where
-  alone : {number : ℕ} → number < length (definitions source) → ¬ IsOnCycle source number → Chain source number zero
-  longer : {number next n : ℕ} → ¬ IsOnCycle source number → Uses source number next → Chain source next n → Chain source number (suc n)
-
--- V5, at each name on the cycle
-abbrev pub IsCyclic : Source → ℕ → Definition → Refusal → Type 0
-IsCyclic source number d f = (f ≡ broken_at Cycle d.place) × IsOnCycle source number
-
--- V17, at the name: a chain of more than 256 definitions, so of 256 uses and more
-abbrev pub IsTooDeep : Source → ℕ → Definition → Refusal → Type 0
-IsTooDeep source number d f = (f ≡ broken_at ChainTooLong d.place) × Chain source number 256
-
 -- a rule is broken in one of the expressions by itself
 abbrev pub BrokenByExpressions : Source → Refusal → Type 0
 BrokenByExpressions source = InSome (λ _ (p : Placed). BrokenIn source p.scope p.expression) (expressions source)
 
--- a constant or enumerated constant uses itself, or is the head of a chain that is too long
-abbrev pub BrokenByChains : Source → Refusal → Type 0
-BrokenByChains source = InSome (λ number d. Either (IsCyclic source number d) (IsTooDeep source number d)) (definitions source)
-
+-- and a constant or enumerated constant uses itself, or is the head of a chain that is too long
 abbrev pub ConstantsBroken : Source → Refusal → Type 0
-ConstantsBroken source = Either (BrokenByExpressions source) (BrokenByChains source)
+ConstantsBroken source = Either (BrokenByExpressions source) (BrokenByChains (layout.items source) group.Value)

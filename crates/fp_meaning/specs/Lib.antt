@@ -5,5 +5,7 @@ pub mod Meaning
 pub mod Broken
 pub mod Origins
 pub mod Values
+pub mod Owners
+pub mod Uses
 pub mod ConstantFaults
 pub mod Worked

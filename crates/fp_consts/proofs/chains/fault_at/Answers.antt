@@ -1,6 +1,0 @@
-use Rattle.fp_consts.proofs.Bridging.{least_marked}
-use Rattle.fp_consts.proofs.chains.fault_at.Goals as goal
-
-pub returns : goal.returns
-returns c =
-    least_marked c.args.place c.args.cyclic c.args.deep c.refusal_if.result c.refusal_if-2.result c.lesser.result c.lesser.ensures c.refusal_if.ensures c.refusal_if-2.ensures

@@ -1,5 +1,0 @@
-use Rattle.std.proofs.Common.{◌≡◌, ℕ, ◌<◌, ◌≤◌, Some, slice_get}
-use Rattle.fp_consts.proofs.visit.uses_itself.Given as goal
-
-abbrev pub invariant-loop-at : goal.invariant-loop-at
-invariant-loop-at l = (k : ℕ) → l.initial.at ≤ k → k < l.at → slice_get l.targets k ≡ Some l.vertex → ⊥

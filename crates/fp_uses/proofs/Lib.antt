@@ -1,0 +1,5 @@
+mod Counts
+mod Giving
+mod UsesListed
+mod Along
+mod LeastFlagged
