@@ -1,5 +1,5 @@
 use crate::cases::Case;
-use crate::conversion::becomes;
+use crate::conversion::of_types;
 use crate::grammar::{View, definition, expression};
 use crate::scenarios::of_scenario;
 use crate::serving::{code, left, written};
@@ -20,7 +20,7 @@ use std::thread::Threads;
 pub fn is_given(label: &str) -> bool {
     let named = match label {
         "source" | "second file" | "from" | "scope" | "use" => true,
-        "value" | "type" => true,
+        "types" | "value" | "type" => true,
         "words" | "files" | "failing read" | "failing out" | "failing diag" => true,
         _ => false,
     };
@@ -53,7 +53,6 @@ fn of_constants(alloc: Global, case: &Case, question: &str) -> Option<Result<Tex
         "how many values" => Some(count(alloc, case)),
         "broken constants" => Some(broken_constants(alloc, case)),
         "evaluated" => Some(evaluated(alloc, case)),
-        "becomes" => Some(becomes(alloc, case)),
         "examined" => Some(examined(alloc, case)),
         _ => None,
     }
@@ -93,6 +92,9 @@ pub fn answer<R: Threads + Wait + Sync + Files>(
         return told(alloc, answer);
     }
     if let Some(answer) = of_constants(alloc, case, question) {
+        return told(alloc, answer);
+    }
+    if let Some(answer) = of_types(alloc, case, question) {
         return told(alloc, answer);
     }
     if let Some(answer) = of_scenario(alloc, case, question) {

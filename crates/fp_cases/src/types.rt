@@ -1,130 +1,30 @@
 use crate::sources::evaluated_values;
 use crate::words::push_all;
 use fp_base::{NoMemory, Row, Stop, Text, Value};
-use fp_tables::{Constant, Field, Form, Kind, Model, TypeDef};
+use fp_tables::{Constant, Field, Form, Kind};
+use fp_type_sizes::{Own, WrittenType};
 use std::alloc::Global;
 
-/// What a type is.
-#[derive(Clone, Copy)]
-enum Shape {
-    Abstract,
-    Alias(Kind),
-    Array(u32, Kind),
-    /// Its members, each with its size where it is an array of so many.
-    Struct(&'static [(&'static str, Option<u32>, Kind)]),
-    /// Its constants.
-    Enum(&'static [&'static str]),
+/// The types of the cases that list none.
+const TYPES: &str =
+    "struct Child { x: U8; y: [2] I16 } default { x = 7, y = [1, 2] }\narray Triple = [3] U8\nenum Color { $red = 1; far = 300 }\nenum Other { $red = 1 }\nalias Alias = Child\nalias Second = Alias\nabstract Abstract\narray Pair = [2] Alias";
+
+/// An enumeration that is no type of a list; `Left.out` has no value of its own.
+const LEFT: &str = "enum Left { one = 1, out }\n";
+
+/// Types as they are listed, and the source of their enumerations.
+#[derive(Drop)]
+pub struct Listed {
+    pub types: Row<WrittenType>,
+    pub enumerations: Text,
 }
 
-/// The types of all cases, by their names, each with its default.
-static TYPES: [(&str, Shape, &str); 8] = [
-    (
-        "Child",
-        Shape::Struct(&[("x", None, Kind::U8), ("y", Some(2), Kind::I16)]),
-        "{ x = 7, y = [1, 2] }",
-    ),
-    ("Triple", Shape::Array(3, Kind::U8), "[0, 0, 0]"),
-    ("Color", Shape::Enum(&["red", "far"]), "Color.$red"),
-    ("Other", Shape::Enum(&["red"]), "Other.$red"),
-    (
-        "Alias",
-        Shape::Alias(Kind::Named(0)),
-        "{ x = 7, y = [1, 2] }",
-    ),
-    (
-        "Second",
-        Shape::Alias(Kind::Named(4)),
-        "{ x = 7, y = [1, 2] }",
-    ),
-    ("Abstract", Shape::Abstract, "Left.out"),
-    (
-        "Pair",
-        Shape::Array(2, Kind::Named(4)),
-        "[{ x = 7, y = [1, 2] }, { x = 7, y = [1, 2] }]",
-    ),
-];
-
-/// The enumerations that values name; `Left.out` has no value of its own.
-const ENUMERATIONS: &str =
-    "enum Color { $red = 1, far = 300 }\nenum Other { $red = 1 }\nenum Left { one = 1, out }\n";
-
-/// The value of an expression over the enumerations.
-pub fn value_of(alloc: Global, expression: &str) -> Result<Value, Stop> {
-    let mut text = Text::from_str(alloc, ENUMERATIONS)?;
-    push_all(&mut text, &["constant value = ", expression])?;
+/// The value of an expression over enumerations.
+pub fn value_of(alloc: Global, enumerations: &str, expression: &str) -> Result<Value, Stop> {
+    let mut text = Text::from_str(alloc, LEFT)?;
+    push_all(&mut text, &[enumerations, "constant value = ", expression])?;
     let mut values = evaluated_values(alloc, text.as_bytes())?;
     Ok(values.at.pop().unwrap_or(Value::Opaque))
-}
-
-fn fields(alloc: Global, members: &[(&str, Option<u32>, Kind)]) -> Result<Row<Field>, NoMemory> {
-    let mut fields = Row::new(alloc);
-    for (name, size, kind) in members {
-        fields.push(Field {
-            name: Text::from_str(alloc, name)?,
-            size: *size,
-            kind: *kind,
-            format: None,
-            note: Text::new(alloc),
-        })?;
-    }
-    Ok(fields)
-}
-
-fn constants(alloc: Global, of: &str, names: &[&str]) -> Result<Row<Constant>, Stop> {
-    let mut constants = Row::new(alloc);
-    for name in names {
-        let mut value = Text::from_str(alloc, of)?;
-        push_all(&mut value, &[".$", name])?;
-        let value = value_of(alloc, value.as_str())?;
-        constants.push(Constant {
-            name: Text::from_str(alloc, name)?,
-            value,
-            note: Text::new(alloc),
-        })?;
-    }
-    Ok(constants)
-}
-
-fn form(alloc: Global, name: &str, shape: Shape) -> Result<Form, Stop> {
-    match shape {
-        Shape::Abstract => Ok(Form::Abstract),
-        Shape::Alias(kind) => Ok(Form::Alias(kind)),
-        Shape::Array(size, element) => Ok(Form::Array {
-            size,
-            element,
-            format: None,
-        }),
-        Shape::Struct(members) => Ok(Form::Struct(fields(alloc, members)?)),
-        Shape::Enum(names) => Ok(Form::Enum {
-            repr: Kind::I32,
-            constants: constants(alloc, name, names)?,
-        }),
-    }
-}
-
-/// The model of these types alone.
-pub fn model(alloc: Global) -> Result<Model, Stop> {
-    let mut types = Row::new(alloc);
-    for (name, shape, default) in TYPES.iter() {
-        let form = form(alloc, name, *shape)?;
-        let default = value_of(alloc, default)?;
-        types.push(TypeDef {
-            name: Text::from_str(alloc, name)?,
-            form,
-            default,
-            note: Text::new(alloc),
-        })?;
-    }
-    Ok(Model {
-        constants: Row::new(alloc),
-        types,
-        ports: Row::new(alloc),
-        components: Row::new(alloc),
-        machines: Row::new(alloc),
-        instances: Row::new(alloc),
-        topologies: Row::new(alloc),
-        order: Row::new(alloc),
-    })
 }
 
 fn primitive(name: &str) -> Option<Kind> {
@@ -143,17 +43,176 @@ fn primitive(name: &str) -> Option<Kind> {
     }
 }
 
-/// A type by its name; one that is none where nothing has the name.
-pub fn kind_named(name: &str) -> Kind {
+/// A type by its name; the next one to be listed where none has the name.
+pub fn kind_named(types: &[WrittenType], name: &str) -> Kind {
     if let Some(kind) = primitive(name) {
         return kind;
     }
     let mut number = 0_u32;
-    for (known, _, _) in TYPES.iter() {
-        if *known == name {
+    for known in types.iter() {
+        if known.name.as_bytes() == name.as_bytes() {
             return Kind::Named(number);
         }
         number = number.saturating_add(1);
     }
     Kind::Named(number)
+}
+
+/// A size in brackets, where there is one, and what stands behind it.
+fn sized(text: &str) -> (Option<u32>, &str) {
+    let Some(inside) = text.strip_prefix("[") else {
+        return (None, text);
+    };
+    let (size, kind) = inside.split_once("] ").unwrap_or((inside, ""));
+    (Some(size.parse::<u32>().unwrap_or(0)), kind)
+}
+
+/// A member, as `x: [2] U8`.
+fn field(alloc: Global, types: &[WrittenType], text: &str) -> Result<Field, NoMemory> {
+    let (name, behind) = text.split_once(": ").unwrap_or((text, ""));
+    let (size, kind) = sized(behind);
+    Ok(Field {
+        name: Text::from_str(alloc, name)?,
+        size,
+        kind: kind_named(types, kind),
+        format: None,
+        note: Text::new(alloc),
+    })
+}
+
+fn fields(alloc: Global, types: &[WrittenType], text: &str) -> Result<Row<Field>, NoMemory> {
+    let mut fields = Row::new(alloc);
+    if text.is_empty() {
+        return Ok(fields);
+    }
+    for part in text.split("; ") {
+        fields.push(field(alloc, types, part)?)?;
+    }
+    Ok(fields)
+}
+
+/// The constants of an enumeration, as `a = 1; b = 2`.
+fn constants(
+    alloc: Global,
+    enumerations: &str,
+    of: &str,
+    text: &str,
+) -> Result<Row<Constant>, Stop> {
+    let mut constants = Row::new(alloc);
+    for part in text.split("; ") {
+        let (name, _) = part.split_once(" = ").unwrap_or((part, ""));
+        let mut path = Text::from_str(alloc, of)?;
+        push_all(&mut path, &[".", name])?;
+        let value = value_of(alloc, enumerations, path.as_str())?;
+        constants.push(Constant {
+            name: Text::from_str(alloc, name.strip_prefix("$").unwrap_or(name))?,
+            value,
+            note: Text::new(alloc),
+        })?;
+    }
+    Ok(constants)
+}
+
+/// The name before braces or `=`, and what stands behind it.
+fn named(text: &str) -> (&str, &str) {
+    if let Some((name, body)) = text.split_once(" = ") {
+        if !name.contains(" {") {
+            return (name, body);
+        }
+    }
+    let (name, body) = text.split_once(" {").unwrap_or((text, ""));
+    (name, body.strip_suffix("}").unwrap_or(body).trim())
+}
+
+/// The name of a type, and its form, where it has one.
+fn form<'a>(
+    alloc: Global,
+    listed: &Listed,
+    text: &'a str,
+) -> Result<(&'a str, Option<Form>), Stop> {
+    let types = listed.types.as_slice();
+    let (word, behind) = text.split_once(' ').unwrap_or((text, ""));
+    let (name, body) = named(behind);
+    let form = match word {
+        "abstract" => Some(Form::Abstract),
+        "alias" => Some(Form::Alias(kind_named(types, body))),
+        "array" => {
+            let (size, element) = sized(body);
+            Some(Form::Array {
+                size: size.unwrap_or(0),
+                element: kind_named(types, element),
+                format: None,
+            })
+        }
+        "struct" => Some(Form::Struct(fields(alloc, types, body)?)),
+        "enum" => return enumeration(alloc, listed, name, body),
+        _ => None,
+    };
+    Ok((name, form))
+}
+
+fn enumeration<'a>(
+    alloc: Global,
+    listed: &Listed,
+    head: &'a str,
+    body: &str,
+) -> Result<(&'a str, Option<Form>), Stop> {
+    let (name, repr) = head.split_once(": ").unwrap_or((head, "I32"));
+    let repr = kind_named(listed.types.as_slice(), repr);
+    let constants = constants(alloc, listed.enumerations.as_str(), name, body)?;
+    Ok((name, Some(Form::Enum { repr, constants })))
+}
+
+fn own(alloc: Global, enumerations: &str, default: Option<&str>) -> Result<Own, Stop> {
+    match default {
+        None => Ok(Own::Unwritten),
+        Some("none") => Ok(Own::NoValue),
+        Some(expression) => Ok(Own::Has(value_of(alloc, enumerations, expression)?)),
+    }
+}
+
+/// What is written of a type, and what stands behind `default`.
+fn split(line: &str) -> (&str, Option<&str>) {
+    match line.split_once(" default ") {
+        Some((text, default)) => (text, Some(default)),
+        None => (line, None),
+    }
+}
+
+/// The source of the enumerations, without their representations.
+fn enumerations(alloc: Global, lines: &str) -> Result<Text, NoMemory> {
+    let mut text = Text::new(alloc);
+    for line in lines.split('\n') {
+        let (definition, _) = split(line);
+        if definition.starts_with("enum ") {
+            let (head, body) = definition.split_once(" {").unwrap_or((definition, "}"));
+            let (name, _) = head.split_once(": ").unwrap_or((head, ""));
+            let constants = body.replace(alloc, "; ", ", ")?;
+            push_all(&mut text, &[name, " {", constants.as_str(), "\n"])?;
+        }
+    }
+    Ok(text)
+}
+
+/// The types of lines, as `array A = [2] U8 default [1, 2]`. A type that begins with no word of a form has none; `default none` is
+/// an expression without a value.
+pub fn types_listed(alloc: Global, text: &str) -> Result<Listed, Stop> {
+    let lines = if text.is_empty() { TYPES } else { text };
+    let mut listed = Listed {
+        types: Row::new(alloc),
+        enumerations: enumerations(alloc, lines)?,
+    };
+    for line in lines.split('\n') {
+        let (definition, default) = split(line);
+        let (name, form) = form(alloc, &listed, definition)?;
+        let name = Text::from_str(alloc, name)?;
+        let default = own(alloc, listed.enumerations.as_str(), default)?;
+        listed.types.push(WrittenType {
+            name,
+            form,
+            default,
+            note: Text::new(alloc),
+        })?;
+    }
+    Ok(listed)
 }

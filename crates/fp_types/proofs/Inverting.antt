@@ -8,10 +8,11 @@ use Rattle.fp_base.specs.declared.value.Part.{Part}
 use Rattle.fp_tables.specs.declared.kind.Kind.{Kind}
 use Rattle.fp_tables.specs.declared.kind.Field.{Field}
 use Rattle.fp_tables.specs.declared.kind.Constant.{Constant}
-use Rattle.fp_tables.specs.declared.kind.TypeDef.{TypeDef}
-use Rattle.fp_types.specs.Converting.{Opened, IsSingle, IsWithin, Target, integer, truth, words, array, struct, constants, alias, nothing, target, Becomes, number, numbered, truth_value, text, constant, part_by_part, member_by_member, in_each_part, in_each_member, aliased, EachBecomes, MembersBecome, BecomesInEach}
+use Rattle.fp_type_sizes.specs.declared.written.WrittenType.{WrittenType}
+use Rattle.fp_types.specs.declared.target.Rest.{Rest}
+use Rattle.fp_types.specs.Converting.{Opened, IsSingle, IsWithin, Target, integer, truth, words, array, struct, constants, opaque, of_kind, Becomes, number, numbered, truth_value, text, constant, part_by_part, member_by_member, in_each_part, in_each_member, in_plain, in_named, EachBecomes, MembersBecome, BecomesInEach, Completes}
 
-module _ (types : List TypeDef) where
+module _ (types : List WrittenType) where
   -- ---- types without parts
 
   abbrev pub InInteger : ℤ → ℤ → Opened → Type 0
@@ -45,7 +46,7 @@ module _ (types : List TypeDef) where
   constants_back cs (constant h) = h
 
   abbrev HasRule : Target → Type 0
-  HasRule nothing = ⊥
+  HasRule opaque = ⊥
   HasRule _ = Unit {0}
 
   has_rule : {o : Opened} {t : Target} {w : Value} → Becomes types o t w → HasRule t
@@ -55,21 +56,22 @@ module _ (types : List TypeDef) where
   has_rule text = tt
   has_rule (constant h) = tt
   has_rule (part_by_part e h) = tt
-  has_rule (member_by_member h) = tt
+  has_rule (member_by_member h hs) = tt
   has_rule (in_each_part s h) = tt
   has_rule (in_each_member s h) = tt
-  has_rule (aliased h) = tt
+  has_rule (in_plain p h) = tt
+  has_rule (in_named f s h) = tt
 
-  pub nothing_back : {o : Opened} {w : Value} → Becomes types o nothing w → ⊥
+  pub nothing_back : {o : Opened} {w : Value} → Becomes types o opaque w → ⊥
   nothing_back h = has_rule h
 
   -- ---- the others
 
   abbrev pub InArray : ℕ → Kind → Opened → Type 0
   InArray size k (value.Array items) = (length items ≡ size) × (ws : List Value) × EachBecomes types k items ws
-  InArray size k o = IsSingle o × (w : Value) × Becomes types o (target types k) w
+  InArray size k o = IsSingle o × (w : Value) × Becomes types o (of_kind k) w
 
-  single_array : (size : ℕ) (k : Kind) (o : Opened) (w : Value) → IsSingle o → Becomes types o (target types k) w → InArray size k o
+  single_array : (size : ℕ) (k : Kind) (o : Opened) (w : Value) → IsSingle o → Becomes types o (of_kind k) w → InArray size k o
   single_array size k (value.Array items) w s h = absurd s
   single_array size k (value.Int n) w s h = (s, w, h)
   single_array size k (value.Bool b) w s h = (s, w, h)
@@ -82,22 +84,19 @@ module _ (types : List TypeDef) where
   array_back size k (part_by_part e h) = (e, _, h)
   array_back size k {o = o} (in_each_part s h) = single_array size k o _ s h
 
-  abbrev pub InStruct : List Field → Opened → Type 0
-  InStruct fields (value.Struct parts) = (given : List Part) × MembersBecome types fields parts given
-  InStruct fields o = IsSingle o × (made : List Part) × BecomesInEach types o fields made
+  abbrev pub InStruct : Rest → List Field → Opened → Type 0
+  InStruct rest fields (value.Struct parts) = (given : List Part) × (made : List Part) × MembersBecome types fields parts given × Completes types rest given fields made
+  InStruct rest fields o = IsSingle o × (made : List Part) × BecomesInEach types o fields made
 
-  single_struct : (fields : List Field) (o : Opened) (made : List Part) → IsSingle o → BecomesInEach types o fields made → InStruct fields o
-  single_struct fields (value.Array items) w s h = absurd s
-  single_struct fields (value.Int n) w s h = (s, w, h)
-  single_struct fields (value.Bool b) w s h = (s, w, h)
-  single_struct fields (value.Text t) w s h = (s, w, h)
-  single_struct fields (value.Enumerated of name n) w s h = (s, w, h)
-  single_struct fields (value.Struct parts) w s h = absurd s
-  single_struct fields value.Opaque w s h = absurd s
+  single_struct : (rest : Rest) (fields : List Field) (o : Opened) (made : List Part) → IsSingle o → BecomesInEach types o fields made → InStruct rest fields o
+  single_struct rest fields (value.Array items) w s h = absurd s
+  single_struct rest fields (value.Int n) w s h = (s, w, h)
+  single_struct rest fields (value.Bool b) w s h = (s, w, h)
+  single_struct rest fields (value.Text t) w s h = (s, w, h)
+  single_struct rest fields (value.Enumerated of name n) w s h = (s, w, h)
+  single_struct rest fields (value.Struct parts) w s h = absurd s
+  single_struct rest fields value.Opaque w s h = absurd s
 
-  pub struct_back : (fields : List Field) (default : Value) {o : Opened} {w : Value} → Becomes types o (struct fields default) w → InStruct fields o
-  struct_back fields default (member_by_member h) = (_, h)
-  struct_back fields default {o = o} (in_each_member s h) = single_struct fields o _ s h
-
-  pub alias_back : {o : Opened} {w : Value} (k : Kind) → Becomes types o (alias k) w → Becomes types o (target types k) w
-  alias_back k (aliased h) = h
+  pub struct_back : (rest : Rest) (fields : List Field) {o : Opened} {w : Value} → Becomes types o (struct rest fields) w → InStruct rest fields o
+  struct_back rest fields (member_by_member h hs) = (_, _, h, hs)
+  struct_back rest fields {o = o} (in_each_member s h) = single_struct rest fields o _ s h

@@ -1,9 +1,18 @@
-pub mod OneResult
-pub mod Inverting
-pub mod Made
-pub mod Loops
-pub mod Reached
-pub mod Meetings
-pub mod Causes
-pub mod OfKind
-pub mod OfSize
+mod OneResult
+mod Firsts
+mod Inverting
+mod Made
+mod Loops
+mod Opening
+mod Through
+mod Complete
+mod Passed
+mod Meetings
+mod Causes
+mod Quiet
+mod Example
+mod AllGiven
+mod HasKind
+mod Bounded
+mod SoundTypes
+mod Total

@@ -2,13 +2,13 @@
 use Rattle.std.proofs.Common.{◌≡◌, ℕ, zero, suc, ◌+◌, ◌<◌, ◌≤◌, List, [], ◌∷◌, ◌++◌, length, take, get_or, slice_get, Some, refl, sym, ap, ◌∙◌, subst}
 use Rattle.std.proofs.lemmas.List.{take_more, take_all}
 use Rattle.std.proofs.lemmas.Option.{slice_get_read}
-use Rattle.fp_base.proofs.Options.{same_some}
 use Rattle.fp_base.specs.declared.value.Value.{Value}
 use Rattle.fp_base.specs.declared.value.Part.{Part}
+use Rattle.fp_base.proofs.Options.{same_some}
 use Rattle.fp_tables.specs.declared.kind.Kind.{Kind}
 use Rattle.fp_tables.specs.declared.kind.Field.{Field}
-use Rattle.fp_tables.specs.declared.kind.TypeDef.{TypeDef}
-use Rattle.fp_types.specs.Converting.{Opened, opened, target, member, member_named, Becomes, EachBecomes, none, more, MembersBecome, no_part, part, BecomesInEach, no_member, in_member}
+use Rattle.fp_type_sizes.specs.declared.written.WrittenType.{WrittenType}
+use Rattle.fp_types.specs.Converting.{Opened, opened, of_kind, member, member_named, Becomes, EachBecomes, none, more, MembersBecome, no_part, part, BecomesInEach, no_member, in_member}
 
 pushed : {A : Type 0} (xs : List A) (i : ℕ) (x : A) → i < length xs → x ≡ get_or xs i x → take (i + 1) xs ≡ take i xs ++ x ∷ []
 pushed xs i x lt is = take_more xs i x lt ∙ ap (λ y. take i xs ++ y ∷ []) (sym is)
@@ -16,10 +16,10 @@ pushed xs i x lt is = take_more xs i x lt ∙ ap (λ y. take i xs ++ y ∷ []) (
 abbrev pub made_part : List ℕ → Value → Part
 made_part n v = record { name = n; value = v }
 
-module _ (types : List TypeDef) where
+module _ (types : List WrittenType) where
   -- ---- items
 
-  each_add : (k : Kind) (v w : Value) {vs ws : List Value} → EachBecomes types k vs ws → Becomes types (opened v) (target types k) w
+  each_add : (k : Kind) (v w : Value) {vs ws : List Value} → EachBecomes types k vs ws → Becomes types (opened v) (of_kind k) w
       → EachBecomes types k (vs ++ v ∷ []) (ws ++ w ∷ [])
   each_add k v w none g = more g none
   each_add k v w (more h hs) g = more h (each_add k v w hs g)
@@ -28,7 +28,7 @@ module _ (types : List TypeDef) where
   each_first k made is = subst (λ (ws : List Value). EachBecomes types k [] ws) (sym is) none
 
   pub each_next : (k : Kind) (items : List Value) (i : ℕ) (item value : Value) (made more_made : List Value) → i < length items → item ≡ get_or items i item
-      → EachBecomes types k (take i items) made → Becomes types (opened item) (target types k) value → more_made ≡ made ++ value ∷ []
+      → EachBecomes types k (take i items) made → Becomes types (opened item) (of_kind k) value → more_made ≡ made ++ value ∷ []
       → EachBecomes types k (take (i + 1) items) more_made
   each_next k items i item v made more_made lt is h g e =
       subst (λ (vs : List Value). EachBecomes types k vs more_made) (sym (pushed items i item lt is))
@@ -37,13 +37,13 @@ module _ (types : List TypeDef) where
   pub each_last : (k : Kind) (items : List Value) (i : ℕ) (made : List Value) → length items ≤ i → EachBecomes types k (take i items) made → EachBecomes types k items made
   each_last k items i made all h = subst (λ (vs : List Value). EachBecomes types k vs made) (take_all i items all) h
 
-  each_at : (k : Kind) {vs ws : List Value} (i : ℕ) (v : Value) → EachBecomes types k vs ws → slice_get vs i ≡ Some v → (w : Value) × Becomes types (opened v) (target types k) w
+  each_at : (k : Kind) {vs ws : List Value} (i : ℕ) (v : Value) → EachBecomes types k vs ws → slice_get vs i ≡ Some v → (w : Value) × Becomes types (opened v) (of_kind k) w
   each_at k i v none e = absurd (cc)
-  each_at k zero v (more {w = w} h hs) e = (w, subst (λ (x : Value). Becomes types (opened x) (target types k) w) (same_some e) h)
+  each_at k zero v (more {w = w} h hs) e = (w, subst (λ (x : Value). Becomes types (opened x) (of_kind k) w) (same_some e) h)
   each_at k (suc i) v (more h hs) e = each_at k i v hs e
 
   pub each_none : (r : Type 0) (k : Kind) (items : List Value) (i : ℕ) (item : Value) → i < length items → item ≡ get_or items i item
-      → (r → (w : Value) → Becomes types (opened item) (target types k) w → ⊥) → r → (ws : List Value) → EachBecomes types k items ws → ⊥
+      → (r → (w : Value) → Becomes types (opened item) (of_kind k) w → ⊥) → r → (ws : List Value) → EachBecomes types k items ws → ⊥
   each_none r k items i item lt is never reached ws h =
       let p = each_at k i item h (slice_get_read items (length items) i item refl lt is) in never reached p.0 p.1
 

@@ -6,15 +6,17 @@ use Rattle.fp_base.specs.declared.value.Value.TheOpen as value
 use Rattle.fp_base.specs.declared.value.Part.{Part}
 use Rattle.fp_tables.specs.declared.kind.Kind.{Kind}
 use Rattle.fp_tables.specs.declared.kind.Field.{Field}
-use Rattle.fp_tables.specs.declared.kind.TypeDef.{TypeDef}
-use Rattle.fp_types.specs.Converting.{Opened, opened, IsSingle, Target, integer, truth, words, array, struct, constants, alias, nothing, target, member, member_named}
-use Rattle.fp_types.specs.Reaching.{items_of, parts_of, Reaches, ReachesEach, ReachesIn}
-use Rattle.fp_types.specs.Faults.{Meets, here, in_part, in_member, single_in_part, single_in_member, in_alias}
+use Rattle.fp_type_sizes.specs.declared.written.WrittenType.{WrittenType}
+use Rattle.fp_types.specs.Converting.{Opened, opened, IsSingle, Target, integer, truth, words, array, struct, constants, opaque, of_kind, member, member_named}
+use Rattle.fp_types.specs.Making.{items_of, parts_of, Enough, EnoughEach, EnoughIn}
+use Rattle.fp_types.specs.Faults.{Meets, here, in_part, in_member, single_in_part, single_in_member, in_plain, in_named}
 use Rattle.fp_types.specs.declared.faults.Sought.{Sought}
 use Rattle.fp_types.specs.declared.faults.Sought.TheVariants as sought
 use Rattle.fp_types.specs.Meeting.{test_of, Tells, MeetsItem, MeetsNamed, MeetsInMember, MeetsInArray, MeetsInStruct, MeetsInside}
-use Rattle.fp_types.proofs.Reached.{reached_inside, reached_named}
+use Rattle.fp_types.specs.Making.{PassesKinds, MeetsThrough}
+use Rattle.fp_types.specs.declared.target.Rest.{Rest}
 use Rattle.fp_base.proofs.Options.{same_some}
+use Rattle.fp_types.proofs.Through.{enough_named}
 
 -- ---- what a walk tells
 
@@ -58,8 +60,8 @@ found_at xs i x lt is = slice_get_read xs (length xs) i x refl lt is
 
 -- ---- what is met
 
-module _ (types : List TypeDef) (test : Opened → Target → Bool) where
-  array_inside : (size : ℕ) (k : Kind) (o : Opened) → IsSingle o → Meets types test o (target types k) → MeetsInArray types test size k o
+module _ (types : List WrittenType) (test : Opened → Target → Bool) where
+  array_inside : (size : ℕ) (k : Kind) (o : Opened) → IsSingle o → Meets types test o (of_kind k) → MeetsInArray types test size k o
   array_inside size k (value.Int n) s h = (s, h)
   array_inside size k (value.Bool b) s h = (s, h)
   array_inside size k (value.Text t) s h = (s, h)
@@ -83,7 +85,8 @@ module _ (types : List TypeDef) (test : Opened → Target → Bool) where
   inside (in_member {p = p} {f = f} i at named h) = inr (i, p, at, (f, named, h))
   inside {o = o} (single_in_part {size = size} {k = k} s h) = inr (array_inside size k o s h)
   inside {o = o} (single_in_member {fields = fields} {f = f} i s at h) = inr (struct_inside fields o s (i, f, at, h))
-  inside (in_alias h) = inr h
+  inside (in_plain p h) = inr (in_plain p h)
+  inside (in_named f s h) = inr (in_named f s h)
 
   outside_array : (size : ℕ) (k : Kind) (o : Opened) → MeetsInArray types test size k o → Meets types test o (array size k)
   outside_array size k (value.Int n) h = single_in_part h.0 h.1
@@ -94,24 +97,24 @@ module _ (types : List TypeDef) (test : Opened → Target → Bool) where
   outside_array size k (value.Struct parts) h = absurd h.0
   outside_array size k value.Opaque h = absurd h.0
 
-  outside_struct : (fields : List Field) (default : Value) (o : Opened) → MeetsInStruct types test fields o → Meets types test o (struct fields default)
-  outside_struct fields d (value.Int n) h = single_in_member h.1.0 h.0 h.1.2 h.1.3
-  outside_struct fields d (value.Bool b) h = single_in_member h.1.0 h.0 h.1.2 h.1.3
-  outside_struct fields d (value.Text t) h = single_in_member h.1.0 h.0 h.1.2 h.1.3
-  outside_struct fields d (value.Enumerated of name n) h = single_in_member h.1.0 h.0 h.1.2 h.1.3
-  outside_struct fields d (value.Struct parts) h = in_member h.0 h.2 h.3.1 h.3.2
-  outside_struct fields d (value.Array items) h = absurd h.0
-  outside_struct fields d value.Opaque h = absurd h.0
+  outside_struct : (fields : List Field) (rest : Rest) (o : Opened) → MeetsInStruct types test fields o → Meets types test o (struct rest fields)
+  outside_struct fields rest (value.Int n) h = single_in_member h.1.0 h.0 h.1.2 h.1.3
+  outside_struct fields rest (value.Bool b) h = single_in_member h.1.0 h.0 h.1.2 h.1.3
+  outside_struct fields rest (value.Text t) h = single_in_member h.1.0 h.0 h.1.2 h.1.3
+  outside_struct fields rest (value.Enumerated of name n) h = single_in_member h.1.0 h.0 h.1.2 h.1.3
+  outside_struct fields rest (value.Struct parts) h = in_member h.0 h.2 h.3.1 h.3.2
+  outside_struct fields rest (value.Array items) h = absurd h.0
+  outside_struct fields rest value.Opaque h = absurd h.0
 
   outside : (t : Target) (o : Opened) → MeetsInside types test t o → Meets types test o t
   outside (array size k) o h = outside_array size k o h
-  outside (struct fields d) o h = outside_struct fields d o h
-  outside (alias k) o h = in_alias h
+  outside (struct rest fields) o h = outside_struct fields rest o h
+  outside (of_kind k) o h = h
   outside (integer low high) o h = absurd h
   outside truth o h = absurd h
   outside words o h = absurd h
   outside (constants cs) o h = absurd h
-  outside nothing o h = absurd h
+  outside opaque o h = absurd h
 
   not_here : (t : Target) (o : Opened) → test o t ≡ false → Meets types test o t → MeetsInside types test t o
   not_here t o e h = go (inside h)
@@ -121,22 +124,21 @@ module _ (types : List TypeDef) (test : Opened → Target → Bool) where
       go (inr i) = i
 
   -- what is met where the walk goes on from a target
-  pub met_inside : (n : ℕ) (t s : Target) (o : Opened) (found : Bool) (b : Bool) → found ≡ test o t → found ≡ false → t ≡ s → Tells (ReachesIn types n s) (MeetsInside types test s o) b
-      → Tells (ReachesIn types n t) (Meets types test o t) b
+  pub met_inside : (n : ℕ) (t s : Target) (o : Opened) (found : Bool) (b : Bool) → found ≡ test o t → found ≡ false → t ≡ s → Tells (EnoughIn types n s) (MeetsInside types test s o) b
+      → Tells (EnoughIn types n t) (Meets types test o t) b
   met_inside n t s o found b e d is h =
-      told (ReachesIn types n t) (ReachesIn types n t) (MeetsInside types test t o) (Meets types test o t) b (λ x. x) (outside t o) (not_here t o (sym e ∙ d))
-      (subst (λ (x : Target). Tells (ReachesIn types n x) (MeetsInside types test x o) b) (sym is) h)
+      told (EnoughIn types n t) (EnoughIn types n t) (MeetsInside types test t o) (Meets types test o t) b (λ x. x) (outside t o) (not_here t o (sym e ∙ d))
+      (subst (λ (x : Target). Tells (EnoughIn types n x) (MeetsInside types test x o) b) (sym is) h)
 
   pub met_here : (t : Target) (o : Opened) (found : Bool) → found ≡ test o t → found ≡ true → Meets types test o t
   met_here t o found e d = here (sym e ∙ d)
 
-  pub met_step : (n : ℕ) (k : Kind) (t : Target) (o : Opened) (b : Bool) → (n ≡ 0 → ⊥) → t ≡ target types k
-      → Tells (ReachesIn types (n - 1) t) (Meets types test o t) b → Tells (Reaches types n k) (Meets types test o (target types k)) b
-  met_step n k t o b some is h =
-      subst (λ (x : Target). Tells (Reaches types n k) (Meets types test o x) b) is
-      (told (ReachesIn types (n - 1) t) (Reaches types n k) (Meets types test o t) (Meets types test o t) b (reached_inside types n k t (omega arith) is) (λ x. x) (λ x. x) h)
+  pub met_step : (n : ℕ) (k : Kind) (t : Target) (o : Opened) (b : Bool) → PassesKinds test → MeetsThrough types k t
+      → Tells (EnoughIn types (n - 1) t) (Meets types test o t) b → Tells (Enough types n k) (Meets types test o (of_kind k)) b
+  met_step n k t o b passes through h =
+      told (EnoughIn types (n - 1) t) (Enough types n k) (Meets types test o t) (Meets types test o (of_kind k)) b (through.enough n) (through.up test o) (through.down test o passes) h
 
-  single_back : (size : ℕ) (k : Kind) (o : Opened) → IsSingle o → MeetsInArray types test size k o → Meets types test o (target types k)
+  single_back : (size : ℕ) (k : Kind) (o : Opened) → IsSingle o → MeetsInArray types test size k o → Meets types test o (of_kind k)
   single_back size k (value.Int n) s h = h.1
   single_back size k (value.Bool b) s h = h.1
   single_back size k (value.Text t) s h = h.1
@@ -145,7 +147,7 @@ module _ (types : List TypeDef) (test : Opened → Target → Bool) where
   single_back size k (value.Struct parts) s h = absurd s
   single_back size k value.Opaque s h = absurd s
 
-  pub single_array : (r : Type 0) (size : ℕ) (k : Kind) (o : Opened) (b : Bool) → IsSingle o → Tells r (Meets types test o (target types k)) b → Tells r (MeetsInArray types test size k o) b
+  pub single_array : (r : Type 0) (size : ℕ) (k : Kind) (o : Opened) (b : Bool) → IsSingle o → Tells r (Meets types test o (of_kind k)) b → Tells r (MeetsInArray types test size k o) b
   single_array r size k o b s h = told r r _ _ b (λ x. x) (array_inside size k o s) (single_back size k o s) h
 
   pub no_array : (r : Type 0) (size : ℕ) (k : Kind) (o : Opened) → None ≡ items_of o → (IsSingle o → ⊥) → r → MeetsInArray types test size k o → ⊥
@@ -189,48 +191,32 @@ module _ (types : List TypeDef) (test : Opened → Target → Bool) where
   at_struct r fields o p b e h = subst (λ (x : Opened). Tells r (MeetsInStruct types test fields x) b) e h
 
   pub named_met : (n : ℕ) (fields : List Field) (p : Part) (f : Field) (b : Bool) → Some f ≡ member_named fields p.name
-      → Tells (Reaches types n f.kind) (Meets types test (opened p.value) (member f)) b → Tells (ReachesEach types n fields) (MeetsNamed types test fields p) b
+      → Tells (Enough types n f.kind) (Meets types test (opened p.value) (member f)) b → Tells (EnoughEach types n fields) (MeetsNamed types test fields p) b
   named_met n fields p f b is h =
-      told (Reaches types n f.kind) (ReachesEach types n fields) _ _ b (reached_named types n fields p.name f (sym is)) (λ m. (f, sym is, m))
+      told (Enough types n f.kind) (EnoughEach types n fields) _ _ b (enough_named types n fields p.name f (sym is)) (λ m. (f, sym is, m))
       (λ m. subst (λ (x : Field). Meets types test (opened p.value) (member x)) (same_some (sym m.1 ∙ sym is)) m.2) h
 
   pub unnamed_met : (r : Type 0) (fields : List Field) (p : Part) → None ≡ member_named fields p.name → r → MeetsNamed types test fields p → ⊥
   unnamed_met r fields p is reached m = let both : None ≡ Some _ = is ∙ m.1 in cc
 
-  pub member_met : (r : Type 0) (f : Field) (t : Target) (o : Opened) (b : Bool) → member f ≡ t → (test o t ≡ false) → Tells r (MeetsInside types test t o) b → Tells r (Meets types test o (member f)) b
-  member_met r f t o b is none h =
-      subst (λ (x : Target). Tells r (Meets types test o x) b) (sym is) (told r r _ _ b (λ x. x) (outside t o) (not_here t o none) h)
+  pub sized_member : (r : Type 0) (f : Field) (t : Target) (o : Opened) (b : Bool) → member f ≡ t → Tells r (Meets types test o t) b → Tells r (Meets types test o (member f)) b
+  sized_member r f t o b is h = subst (λ (x : Target). Tells r (Meets types test o x) b) (sym is) h
 
--- ---- neither test holds at an array or an alias
+-- ---- no test holds of a type by its kind
 
-pub no_test_of_array : (s : Sought) (size : ℕ) (k : Kind) (o : Opened) → test_of s o (array size k) ≡ false
-no_test_of_array sought.Member size k (value.Int n) = refl
-no_test_of_array sought.Member size k (value.Bool b) = refl
-no_test_of_array sought.Member size k (value.Text t) = refl
-no_test_of_array sought.Member size k (value.Enumerated of name n) = refl
-no_test_of_array sought.Member size k (value.Array items) = refl
-no_test_of_array sought.Member size k (value.Struct parts) = refl
-no_test_of_array sought.Member size k value.Opaque = refl
-no_test_of_array sought.Range size k (value.Int n) = refl
-no_test_of_array sought.Range size k (value.Bool b) = refl
-no_test_of_array sought.Range size k (value.Text t) = refl
-no_test_of_array sought.Range size k (value.Enumerated of name n) = refl
-no_test_of_array sought.Range size k (value.Array items) = refl
-no_test_of_array sought.Range size k (value.Struct parts) = refl
-no_test_of_array sought.Range size k value.Opaque = refl
-
-pub no_test_of_alias : (s : Sought) (k : Kind) (o : Opened) → test_of s o (alias k) ≡ false
-no_test_of_alias sought.Member k (value.Int n) = refl
-no_test_of_alias sought.Member k (value.Bool b) = refl
-no_test_of_alias sought.Member k (value.Text t) = refl
-no_test_of_alias sought.Member k (value.Enumerated of name n) = refl
-no_test_of_alias sought.Member k (value.Array items) = refl
-no_test_of_alias sought.Member k (value.Struct parts) = refl
-no_test_of_alias sought.Member k value.Opaque = refl
-no_test_of_alias sought.Range k (value.Int n) = refl
-no_test_of_alias sought.Range k (value.Bool b) = refl
-no_test_of_alias sought.Range k (value.Text t) = refl
-no_test_of_alias sought.Range k (value.Enumerated of name n) = refl
-no_test_of_alias sought.Range k (value.Array items) = refl
-no_test_of_alias sought.Range k (value.Struct parts) = refl
-no_test_of_alias sought.Range k value.Opaque = refl
+pub passes_kinds : (s : Sought) → PassesKinds (test_of s)
+passes_kinds sought.Member (value.Int n) k = refl
+passes_kinds sought.Member (value.Bool b) k = refl
+passes_kinds sought.Member (value.Text t) k = refl
+passes_kinds sought.Member (value.Enumerated of name n) k = refl
+passes_kinds sought.Member (value.Array items) k = refl
+passes_kinds sought.Member (value.Struct parts) k = refl
+passes_kinds sought.Member value.Opaque k = refl
+passes_kinds sought.Range (value.Int n) k = refl
+passes_kinds sought.Range (value.Bool b) k = refl
+passes_kinds sought.Range (value.Text t) k = refl
+passes_kinds sought.Range (value.Enumerated of name n) k = refl
+passes_kinds sought.Range (value.Array items) k = refl
+passes_kinds sought.Range (value.Struct parts) k = refl
+passes_kinds sought.Range value.Opaque k = refl
+passes_kinds sought.Shape v k = refl

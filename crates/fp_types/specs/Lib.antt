@@ -1,7 +1,11 @@
+pub mod Completing
 pub mod Converting
-pub mod Given
-pub mod Reaching
+pub mod Defaulted
+pub mod Example
 pub mod Faults
+pub mod Given
+pub mod Index
+pub mod Making
 pub mod Meeting
 pub mod Read
-pub mod Found
+pub mod WellWritten

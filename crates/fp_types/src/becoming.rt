@@ -1,79 +1,98 @@
 ghost use Rattle.std.specs.Prelude.{◌≡◌, IfOk};
-ghost use Rattle.fp_types.specs.Converting.{opened, target, member, array, struct};
-ghost use Rattle.fp_types.specs.Found.{FindsFields};
+ghost use Rattle.fp_types.specs.Converting.{opened, of_kind, member, array, struct};
+ghost use Rattle.fp_types.specs.Index.{FindsFields};
 ghost use Rattle.fp_types.specs.Read.{meant};
-ghost use Rattle.fp_types.specs.Reaching.{Reaches, ReachesEach, ReachesIn, IsMade, IsMadeOfEach, IsMadeOfPart, AreMadeOfMembers, AreMadeInEach};
+ghost use Rattle.fp_types.specs.Making.{AreAtHand, Suffices, SufficesEach, SufficesIn, SufficesForStruct, IsMade, IsMadeOfEach, IsMadeOfPart, AreMadeOfMembers, AreMadeInEach};
 ghost use Rattle.fp_base.specs.declared.value.Value.TheOpen as value;
 
+use crate::completing::finished;
 use crate::index::{field_named, places_of_fields};
 use crate::leaves::{as_constant, as_integer, as_truth, as_words, is_single};
-use crate::parts::{completed, items_of, listed, parts_of, repeated, structured};
-use crate::target::{Target, target_of};
+use crate::parts::{items_of, listed, parts_of, repeated, structured};
+use crate::target::{Rest, Target, target_of};
 use fp_base::{NoMemory, Part, Row, Value};
-use fp_tables::{Field, Kind, TypeDef};
+use fp_tables::{Field, Kind};
+use fp_type_sizes::{TypeExtent, WrittenType};
 use std::alloc::Global;
 use std::collections::BTreeMap;
 
-/// What a value becomes in a type, if anything, with so many steps left through the types.
+/// The most levels that a type may have.
+pub const LEVELS: u32 = 64;
+
+/// What a value becomes in a type, if anything, with so many levels left.
 #[cycle(becoming)]
 pub fn becomes(
     alloc: Global,
-    types: &[TypeDef],
+    types: &[WrittenType],
+    extents: &[Option<TypeExtent>],
+    defaults: &[Option<Value>],
     value: &Value,
     kind: Kind,
     depth: u32,
 ) -> Result<Option<Value>, NoMemory>
-    ensures { IfOk result (λ made. IsMade types.now (Reaches types.now depth kind) (opened value.now) (target types.now kind) made) }
+    requires known { AreAtHand types.now extents.now defaults.now }
+    ensures { IfOk result (λ made. IsMade types.now (Suffices types.now defaults.now depth kind) (opened value.now) (of_kind kind) made) }
 {
     if depth == 0 {
         return Ok(None);
     }
-    let target = target_of(types, kind);
-    into(alloc, types, value, &target, depth - 1)
+    match target_of(types, extents, kind) {
+        Some(target) => into(alloc, types, extents, defaults, value, &target, depth - 1),
+        None => Ok(None),
+    }
 }
 
+/// The same by what the type is.
 #[cycle(becoming)]
-fn into(
+pub fn into(
     alloc: Global,
-    types: &[TypeDef],
+    types: &[WrittenType],
+    extents: &[Option<TypeExtent>],
+    defaults: &[Option<Value>],
     value: &Value,
     target: &Target,
     depth: u32,
 ) -> Result<Option<Value>, NoMemory>
-    ensures { IfOk result (λ made. IsMade types.now (ReachesIn types.now depth (meant target.now)) (opened value.now) (meant target.now) made) }
+    requires known { AreAtHand types.now extents.now defaults.now }
+    ensures { IfOk result (λ made. IsMade types.now (SufficesIn types.now defaults.now depth (meant target.now)) (opened value.now) (meant target.now) made) }
 {
     match target {
         Target::Integer { low, high } => Ok(as_integer(value, *low, *high)),
         Target::Truth => Ok(as_truth(value)),
         Target::Words => as_words(alloc, value),
         Target::Constants(constants) => as_constant(alloc, value, constants),
-        Target::Array { size, element } => in_array(alloc, types, value, *size, *element, depth),
-        Target::Struct { fields, default } => in_struct(
-            alloc, types, value, fields, default, depth,
+        Target::Array { size, element } => in_array(
+            alloc, types, extents, defaults, value, *size, *element, depth,
         ),
-        Target::Alias(kind) => becomes(alloc, types, value, *kind, depth),
-        Target::Nothing => Ok(None),
+        Target::Struct { rest, fields } => in_struct(
+            alloc, types, extents, defaults, value, *rest, fields, depth,
+        ),
+        Target::Opaque => Ok(None),
+        Target::OfKind(kind) => becomes(alloc, types, extents, defaults, value, *kind, depth),
     }
 }
 
 #[cycle(becoming)]
 fn in_array(
     alloc: Global,
-    types: &[TypeDef],
+    types: &[WrittenType],
+    extents: &[Option<TypeExtent>],
+    defaults: &[Option<Value>],
     value: &Value,
     size: u32,
     element: Kind,
     depth: u32,
 ) -> Result<Option<Value>, NoMemory>
-    ensures { IfOk result (λ made. IsMade types.now (Reaches types.now depth element) (opened value.now) (array size element) made) }
+    requires known { AreAtHand types.now extents.now defaults.now }
+    ensures { IfOk result (λ made. IsMade types.now (Suffices types.now defaults.now depth element) (opened value.now) (array size element) made) }
 {
     let single = is_single(value);
     if single {
-        let made = becomes(alloc, types, value, element, depth)?;
+        let made = becomes(alloc, types, extents, defaults, value, element, depth)?;
         return repeated(alloc, made, size);
     }
     match items_of(value) {
-        Some(items) => part_by_part(alloc, types, items, size, element, depth),
+        Some(items) => part_by_part(alloc, types, extents, defaults, items, size, element, depth),
         None => Ok(None),
     }
 }
@@ -81,35 +100,41 @@ fn in_array(
 #[cycle(becoming)]
 fn part_by_part(
     alloc: Global,
-    types: &[TypeDef],
+    types: &[WrittenType],
+    extents: &[Option<TypeExtent>],
+    defaults: &[Option<Value>],
     items: &[Value],
     size: u32,
     element: Kind,
     depth: u32,
 ) -> Result<Option<Value>, NoMemory>
-    ensures { IfOk result (λ made. IsMade types.now (Reaches types.now depth element) (value.Array items.now) (array size element) made) }
+    requires known { AreAtHand types.now extents.now defaults.now }
+    ensures { IfOk result (λ made. IsMade types.now (Suffices types.now defaults.now depth element) (value.Array items.now) (array size element) made) }
 {
     let len = items.len();
     if len != size as usize {
         return Ok(None);
     }
-    let made = each(alloc, types, items, element, depth)?;
+    let made = each(alloc, types, extents, defaults, items, element, depth)?;
     Ok(listed(made))
 }
 
 #[cycle(becoming)]
 fn each(
     alloc: Global,
-    types: &[TypeDef],
+    types: &[WrittenType],
+    extents: &[Option<TypeExtent>],
+    defaults: &[Option<Value>],
     items: &[Value],
     kind: Kind,
     depth: u32,
 ) -> Result<Option<Row<Value>>, NoMemory>
-    ensures { IfOk result (λ made. IsMadeOfEach types.now (Reaches types.now depth kind) kind items.now made) }
+    requires known { AreAtHand types.now extents.now defaults.now }
+    ensures { IfOk result (λ made. IsMadeOfEach types.now (Suffices types.now defaults.now depth kind) kind items.now made) }
 {
     let mut made = Row::new(alloc);
     for item in items {
-        let next = becomes(alloc, types, item, kind, depth)?;
+        let next = becomes(alloc, types, extents, defaults, item, kind, depth)?;
         match next {
             Some(value) => made.push(value)?,
             None => return Ok(None),
@@ -121,24 +146,29 @@ fn each(
 #[cycle(becoming)]
 fn in_struct(
     alloc: Global,
-    types: &[TypeDef],
+    types: &[WrittenType],
+    extents: &[Option<TypeExtent>],
+    defaults: &[Option<Value>],
     value: &Value,
+    rest: Rest,
     fields: &[Field],
-    default: &Value,
     depth: u32,
 ) -> Result<Option<Value>, NoMemory>
-    ensures { IfOk result (λ made. IsMade types.now (ReachesEach types.now depth fields.now) (opened value.now) (struct fields.now default.now) made) }
+    requires known { AreAtHand types.now extents.now defaults.now }
+    ensures { IfOk result (λ made. IsMade types.now (SufficesForStruct types.now defaults.now depth rest fields.now) (opened value.now) (struct rest fields.now) made) }
 {
     let single = is_single(value);
     if single {
-        let made = in_each_member(alloc, types, value, fields, depth)?;
+        let made = in_each_member(alloc, types, extents, defaults, value, fields, depth)?;
         return Ok(structured(made));
     }
     match parts_of(value) {
         Some(parts) => {
             let places = places_of_fields(alloc, fields)?;
-            let given = members(alloc, types, parts, fields, &places, depth)?;
-            completed(alloc, given, default)
+            let given = members(
+                alloc, types, extents, defaults, parts, fields, &places, depth,
+            )?;
+            finished(alloc, defaults, rest, fields, given)
         }
         None => Ok(None),
     }
@@ -147,18 +177,21 @@ fn in_struct(
 #[cycle(becoming)]
 fn members(
     alloc: Global,
-    types: &[TypeDef],
+    types: &[WrittenType],
+    extents: &[Option<TypeExtent>],
+    defaults: &[Option<Value>],
     parts: &[Part],
     fields: &[Field],
     places: &BTreeMap<String, usize>,
     depth: u32,
 ) -> Result<Option<Row<Part>>, NoMemory>
-    requires { FindsFields fields.now places.now }
-    ensures { IfOk result (λ given. AreMadeOfMembers types.now (ReachesEach types.now depth fields.now) fields.now parts.now given) }
+    requires places { FindsFields fields.now places.now }
+    requires known { AreAtHand types.now extents.now defaults.now }
+    ensures { IfOk result (λ given. AreMadeOfMembers types.now (SufficesEach types.now defaults.now depth fields.now) fields.now parts.now given) }
 {
     let mut given = Row::new(alloc);
     for part in parts {
-        let next = in_named(alloc, types, part, fields, places, depth)?;
+        let next = in_named(alloc, types, extents, defaults, part, fields, places, depth)?;
         match next {
             Some(value) => {
                 let name = part.name.copy(alloc)?;
@@ -173,17 +206,20 @@ fn members(
 #[cycle(becoming)]
 fn in_named(
     alloc: Global,
-    types: &[TypeDef],
+    types: &[WrittenType],
+    extents: &[Option<TypeExtent>],
+    defaults: &[Option<Value>],
     part: &Part,
     fields: &[Field],
     places: &BTreeMap<String, usize>,
     depth: u32,
 ) -> Result<Option<Value>, NoMemory>
-    requires { FindsFields fields.now places.now }
-    ensures { IfOk result (λ made. IsMadeOfPart types.now (ReachesEach types.now depth fields.now) fields.now part.now made) }
+    requires places { FindsFields fields.now places.now }
+    requires known { AreAtHand types.now extents.now defaults.now }
+    ensures { IfOk result (λ made. IsMadeOfPart types.now (SufficesEach types.now defaults.now depth fields.now) fields.now part.now made) }
 {
     match field_named(places, fields, &part.name) {
-        Some(field) => in_member(alloc, types, &part.value, field, depth),
+        Some(field) => in_member(alloc, types, extents, defaults, &part.value, field, depth),
         None => Ok(None),
     }
 }
@@ -191,16 +227,19 @@ fn in_named(
 #[cycle(becoming)]
 fn in_each_member(
     alloc: Global,
-    types: &[TypeDef],
+    types: &[WrittenType],
+    extents: &[Option<TypeExtent>],
+    defaults: &[Option<Value>],
     value: &Value,
     fields: &[Field],
     depth: u32,
 ) -> Result<Option<Row<Part>>, NoMemory>
-    ensures { IfOk result (λ made. AreMadeInEach types.now (ReachesEach types.now depth fields.now) (opened value.now) fields.now made) }
+    requires known { AreAtHand types.now extents.now defaults.now }
+    ensures { IfOk result (λ made. AreMadeInEach types.now (SufficesEach types.now defaults.now depth fields.now) (opened value.now) fields.now made) }
 {
     let mut made = Row::new(alloc);
     for field in fields {
-        let next = in_member(alloc, types, value, field, depth)?;
+        let next = in_member(alloc, types, extents, defaults, value, field, depth)?;
         match next {
             Some(value) => {
                 let name = field.name.copy(alloc)?;
@@ -215,15 +254,20 @@ fn in_each_member(
 #[cycle(becoming)]
 fn in_member(
     alloc: Global,
-    types: &[TypeDef],
+    types: &[WrittenType],
+    extents: &[Option<TypeExtent>],
+    defaults: &[Option<Value>],
     value: &Value,
     field: &Field,
     depth: u32,
 ) -> Result<Option<Value>, NoMemory>
-    ensures { IfOk result (λ made. IsMade types.now (Reaches types.now depth field.now.kind) (opened value.now) (member field.now) made) }
+    requires known { AreAtHand types.now extents.now defaults.now }
+    ensures { IfOk result (λ made. IsMade types.now (Suffices types.now defaults.now depth field.now.kind) (opened value.now) (member field.now) made) }
 {
     match field.size {
-        Some(size) => in_array(alloc, types, value, size, field.kind, depth),
-        None => becomes(alloc, types, value, field.kind, depth),
+        Some(size) => in_array(
+            alloc, types, extents, defaults, value, size, field.kind, depth,
+        ),
+        None => becomes(alloc, types, extents, defaults, value, field.kind, depth),
     }
 }

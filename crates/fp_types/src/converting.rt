@@ -1,47 +1,45 @@
-ghost use Rattle.std.specs.Prelude.{◌≡◌, true};
-ghost use Rattle.fp_tables.specs.Chains.{chains_are_short};
+ghost use Rattle.fp_type_sizes.specs.Found.{AreExtents};
 ghost use Rattle.fp_types.specs.Faults.{Converted, IsCause};
-ghost use Rattle.fp_types.specs.Given.{AreTypes};
+ghost use Rattle.fp_types.specs.Given.{AreDefaults};
 
-use crate::becoming::becomes;
+use crate::becoming::{LEVELS, becomes};
 use crate::faults::{Sought, meets};
 use crate::unfit::Unfit;
 use fp_base::Value;
-use fp_tables::{Kind, TypeDef};
+use fp_tables::Kind;
+use fp_type_sizes::{TypeExtent, WrittenType};
 use std::alloc::Global;
 
-// No chain of types has 256 uses, so this many steps reach the end of each.
-const STEPS: u32 = 257;
-
-/// What a value becomes in a type. The value of a struct's own default leaves members out for the defaults of their types:
-/// convert it where the struct's default in the list has these.
-pub fn convert(alloc: Global, types: &[TypeDef], value: &Value, to: Kind) -> Result<Value, Unfit>
-    requires { AreTypes types.now }
+/// What a value becomes in a type, from the sizes and the defaults of all types.
+pub fn convert(
+    alloc: Global,
+    types: &[WrittenType],
+    extents: &[Option<TypeExtent>],
+    defaults: &[Option<Value>],
+    value: &Value,
+    to: Kind,
+) -> Result<Value, Unfit>
+    requires sizes { AreExtents types.now extents.now }
+    requires defaults { AreDefaults types.now defaults.now }
     ensures { Converted types.now value.now to result }
 {
-    converted(alloc, types, value, to)
-}
-
-/// The same over types of which no chain is too long.
-fn converted(alloc: Global, types: &[TypeDef], value: &Value, to: Kind) -> Result<Value, Unfit>
-    ensures { chains_are_short types.now ≡ true → Converted types.now value.now to result }
-{
-    let made = becomes(alloc, types, value, to, STEPS)?;
+    let made = becomes(alloc, types, extents, defaults, value, to, LEVELS)?;
     match made {
         Some(value) => Ok(value),
-        None => Err(cause(types, value, to)),
+        None => Err(cause(types, extents, value, to)),
     }
 }
 
 /// Why a value that becomes nothing does so.
-fn cause(types: &[TypeDef], value: &Value, to: Kind) -> Unfit
-    ensures { chains_are_short types.now ≡ true → IsCause types.now value.now to result }
+fn cause(types: &[WrittenType], extents: &[Option<TypeExtent>], value: &Value, to: Kind) -> Unfit
+    requires { AreExtents types.now extents.now }
+    ensures { IsCause types.now value.now to result }
 {
-    let member = meets(types, value, to, Sought::Member, STEPS);
+    let member = meets(types, extents, value, to, Sought::Member, LEVELS);
     if member {
         return Unfit::Member;
     }
-    let range = meets(types, value, to, Sought::Range, STEPS);
+    let range = meets(types, extents, value, to, Sought::Range, LEVELS);
     if range {
         return Unfit::Range;
     }

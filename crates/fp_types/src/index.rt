@@ -4,7 +4,7 @@ ghost use Rattle.std.specs.Str.{bytes_eq};
 ghost use Rattle.std.specs.BTreeMap.{get_by_text};
 ghost use Rattle.fp_base.specs.declared.value.Part.{Part};
 ghost use Rattle.fp_types.specs.Converting.{member_named};
-ghost use Rattle.fp_types.specs.Found.{FindsFields, FindsParts};
+ghost use Rattle.fp_types.specs.Index.{FindsFields, FindsParts};
 
 use fp_base::{NoMemory, Part, Text};
 use fp_tables::Field;

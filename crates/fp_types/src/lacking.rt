@@ -3,8 +3,9 @@ ghost use Rattle.std.specs.List.{list_any};
 ghost use Rattle.fp_base.specs.declared.value.Part.{Part};
 ghost use Rattle.fp_types.specs.Converting.{opened, member_named};
 ghost use Rattle.fp_types.specs.Read.{meant};
-ghost use Rattle.fp_types.specs.Faults.{lacks_member, is_outside};
+ghost use Rattle.fp_types.specs.Faults.{lacks_member, is_outside, differs, suits_array, suits_struct};
 
+use crate::leaves::{is_among_if, is_number, is_truth, is_words};
 use crate::target::{Target, member_named};
 use fp_base::{Part, Value};
 use fp_tables::Field;
@@ -51,4 +52,48 @@ fn is_beyond(number: i128, low: &i128, high: &i128) -> bool
     ensures { result ≡ not (int_le low.now number && int_le number high.now) }
 {
     !(*low <= number && number <= *high)
+}
+
+/// Whether the form of a value isn't that of a type.
+pub fn differs(value: &Value, target: &Target) -> bool
+    ensures { result ≡ differs (opened value.now) (meant target.now) }
+{
+    match target {
+        Target::Integer { .. } => !is_number(value),
+        Target::Truth => !is_truth(value),
+        Target::Words => !is_words(value),
+        Target::Array { size, .. } => !suits_array(value, *size),
+        Target::Struct { .. } => !suits_struct(value),
+        Target::Constants(constants) => !is_among_if(value, constants),
+        Target::Opaque => true,
+        Target::OfKind(_) => false,
+    }
+}
+
+fn suits_array(value: &Value, size: u32) -> bool
+    ensures { result ≡ suits_array size (opened value.now) }
+{
+    match value {
+        Value::Int(_) => true,
+        Value::Bool(_) => true,
+        Value::Text(_) => true,
+        Value::Enumerated { .. } => true,
+        Value::Array(items) => items.len() == size as usize,
+        Value::Struct(_) => false,
+        Value::Opaque => false,
+    }
+}
+
+fn suits_struct(value: &Value) -> bool
+    ensures { result ≡ suits_struct (opened value.now) }
+{
+    match value {
+        Value::Int(_) => true,
+        Value::Bool(_) => true,
+        Value::Text(_) => true,
+        Value::Enumerated { .. } => true,
+        Value::Array(_) => false,
+        Value::Struct(_) => true,
+        Value::Opaque => false,
+    }
 }

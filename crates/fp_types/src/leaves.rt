@@ -3,7 +3,8 @@ ghost use Rattle.std.specs.List.{list_any};
 ghost use Rattle.fp_base.specs.Same.{same};
 ghost use Rattle.fp_tables.specs.declared.kind.Constant.{Constant};
 ghost use Rattle.fp_types.specs.Converting.{opened, IsSingle};
-ghost use Rattle.fp_types.specs.Reaching.{number_within, as_integer, as_truth, as_words, as_constant};
+ghost use Rattle.fp_types.specs.Faults.{is_number, is_truth, is_words, is_among};
+ghost use Rattle.fp_types.specs.Making.{number_within, as_integer, as_truth, as_words, as_constant};
 
 use fp_base::{NoMemory, Value};
 use fp_tables::Constant;
@@ -21,6 +22,44 @@ pub fn is_single(value: &Value) -> bool
         Value::Array(_) => false,
         Value::Struct(_) => false,
         Value::Opaque => false,
+    }
+}
+
+pub fn is_number(value: &Value) -> bool
+    ensures { result ≡ is_number (opened value.now) }
+{
+    match value {
+        Value::Int(_) => true,
+        Value::Enumerated { .. } => true,
+        _ => false,
+    }
+}
+
+pub fn is_truth(value: &Value) -> bool
+    ensures { result ≡ is_truth (opened value.now) }
+{
+    match value {
+        Value::Bool(_) => true,
+        _ => false,
+    }
+}
+
+pub fn is_words(value: &Value) -> bool
+    ensures { result ≡ is_words (opened value.now) }
+{
+    match value {
+        Value::Text(_) => true,
+        _ => false,
+    }
+}
+
+/// Whether a value is one of an enum's constants.
+pub fn is_among_if(value: &Value, constants: &[Constant]) -> bool
+    ensures { result ≡ is_among constants.now (opened value.now) }
+{
+    match value {
+        Value::Enumerated { .. } => is_among(value, constants),
+        _ => false,
     }
 }
 

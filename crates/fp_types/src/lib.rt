@@ -1,17 +1,28 @@
-//! Types: what a value becomes in a type.
+//! Types: their defaults, what a value becomes in a type, or why it becomes nothing.
 #![tactic(auto)]
 
 mod becoming;
+mod completing;
 mod converting;
+mod defaulting;
 mod faults;
+mod giving;
 mod index;
 mod lacking;
 mod laws;
 mod leaves;
+mod misfits;
 mod parts;
 mod target;
 mod unfit;
 
 pub use converting::convert;
-pub use laws::{converted_has_kind, converted_is_of_size, one_result};
+pub use defaulting::defaults;
+pub use giving::{given, types_of};
+pub use laws::{
+    bad_default_is_none, converted_has_kind, converted_is_of_size, converts_or_breaks,
+    default_has_form, given_types_are_sound, nothing_becomes_too_large, one_default, one_result,
+    second_converts,
+};
+pub use misfits::{bad_defaults, misfit};
 pub use unfit::Unfit;

@@ -1,5 +1,5 @@
 use Rattle.std.proofs.Common.{take}
-use Rattle.fp_types.specs.Found.{FindsFields}
+use Rattle.fp_types.specs.Index.{FindsFields}
 use Rattle.fp_types.proofs.index.places_of_fields.Given as goal
 
 abbrev pub invariant-loop-at : goal.invariant-loop-at

@@ -1,5 +1,5 @@
-use Rattle.fp_types.proofs.OfKind.{converted_has_kind}
+use Rattle.fp_types.proofs.HasKind.{converted_has_kind}
 use Rattle.fp_types.proofs.laws.converted_has_kind.Goals as goal
 
 pub returns : goal.returns
-returns c types value kind made are converts = converted_has_kind types are value kind made converts
+returns c ws types value kind made well are h = converted_has_kind ws types well are value kind made h

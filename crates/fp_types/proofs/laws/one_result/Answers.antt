@@ -2,4 +2,4 @@ use Rattle.fp_types.proofs.OneResult.{one_result}
 use Rattle.fp_types.proofs.laws.one_result.Goals as goal
 
 pub returns : goal.returns
-returns c types value kind a b one other = one_result one other
+returns c ws v k a b one other = one_result one other

@@ -1,0 +1,8 @@
+pub mod OneSize
+pub mod NoCycle
+pub mod Places
+pub mod Counted
+pub mod Limits
+pub mod TooLarge
+pub mod Ordered
+mod Earlier
