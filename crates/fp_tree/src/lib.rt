@@ -3,6 +3,7 @@
 
 mod definition;
 mod expression;
+mod machine;
 mod member;
 mod name;
 mod part;
@@ -11,6 +12,10 @@ mod type_name;
 
 pub use definition::{Abstract, Alias, Array, Constant, Def, Enum, Port, Struct};
 pub use expression::{Assignment, Expr, Form, Operator};
+pub use machine::{
+    ActionUse, Behavior, BehaviorElement, Choice, Do, ElementForm, Goto, Machine, NoteLine,
+    OnSignal, Transition, TypedName,
+};
 pub use member::{Include, Locate, Member, Module, Unit};
 pub use name::{Name, Qual, Str};
 pub use part::{EnumConst, Field, Formal};
