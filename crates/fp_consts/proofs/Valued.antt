@@ -34,11 +34,11 @@ none_by c e = go c.value refl e
     go None is h = is
     go (Some e) is h = let never : has_no_value c ≡ false = ap (λ (o : Option Expr). is_none o) is in cc
 
-implied_when : (enum : Enum) → is_implied enum ≡ true → IsImplied enum
+pub implied_when : (enum : Enum) → is_implied enum ≡ true → IsImplied enum
 implied_when enum e =
     all_with (λ c. has_no_value c ≡ true) (λ c. c.value ≡ None) none_by enum.constants (AllPass-from_list_all has_no_value enum.constants e)
 
-implied_then : (enum : Enum) → IsImplied enum → is_implied enum ≡ true
+pub implied_then : (enum : Enum) → IsImplied enum → is_implied enum ≡ true
 implied_then enum all =
     list_all-from_AllPass has_no_value enum.constants
     (all_with (λ c. c.value ≡ None) (λ c. has_no_value c ≡ true) (λ c e. ap (λ (o : Option Expr). is_none o) e) enum.constants all)

@@ -89,7 +89,8 @@ fn number_found(value: &Option<Measured>) -> Option<i128>
     }
 }
 
-fn number_with(value: &Value) -> Option<i128>
+/// The number of a whole number or of an enumerated constant.
+pub fn number_with(value: &Value) -> Option<i128>
     ensures { result ≡ number_in value.now }
 {
     match value {

@@ -16,6 +16,9 @@ mod measured;
 mod operand;
 mod tabling;
 
+pub use counting::past_item;
+pub use defining::number_with;
+pub use dotting::with_dots;
 pub use evaluating::{evaluate, evaluate_all};
 pub use examining::examine;
 pub use found::Examination;

@@ -10,6 +10,6 @@ mod owning;
 
 pub use counting::constant_counts;
 pub use defining::{definitions_in, definitions_of, name_of};
-pub use laying::{Layout, lay_out};
+pub use laying::{Layout, lay_out, none_written};
 pub use mentions::{mentions_in, mentions_of};
 pub use owning::use_owners;
