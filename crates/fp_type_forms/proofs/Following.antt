@@ -1,0 +1,150 @@
+-- Behind a definition stand its parts.
+use Rattle.std.proofs.Common.{◌≡◌, ℕ, zero, suc, List, [], ◌∷◌, ◌++◌, drop, flat_map, map, slice_get, Option, Some, None, sym, ap, ◌∙◌, subst, append_assoc}
+use Rattle.std.specs.List.{AllByRecursion}
+use Rattle.std.proofs.lemmas.List.{append-nil}
+use Rattle.std.proofs.lemmas.List.Folds.{flat_map-map}
+use Rattle.fp_base.proofs.Lists.{each_append, each_flat, each_of_any, of_item}
+use Rattle.fp_tree.specs.declared.source.Source.{Source}
+use Rattle.fp_tree.specs.declared.member.Unit.{Unit as File}
+use Rattle.fp_tree.specs.declared.member.Member.{Member, Member-F}
+use Rattle.fp_tree.specs.declared.member.Member.TheFolds.{fold-Member, fold-Module, fold-roll-Member, fold-roll-Module, ind-Member, map-Member, map-Module}
+use Rattle.fp_tree.specs.declared.member.Member.TheOpen as open_member
+use Rattle.fp_tree.specs.declared.member.Member.TheViews.{roll-Member, roll-Module}
+use Rattle.fp_tree.specs.declared.member.Module.{Module, Module-F}
+use Rattle.fp_tree.specs.declared.definition.Def.{Def}
+use Rattle.fp_tree.specs.declared.definition.Def.TheVariants as def
+use Rattle.fp_tree.specs.declared.definition.Enum.{Enum}
+use Rattle.fp_tree.specs.declared.expression.Expr.{Expr}
+use Rattle.fp_tree.specs.declared.type_name.TypeName.{TypeName}
+use Rattle.fp_tree.specs.declared.type_name.TypeForm.{TypeForm}
+use Rattle.fp_tree.specs.declared.type_name.TypeForm.TheVariants as type
+use Rattle.fp_tree.specs.declared.part.EnumConst.{EnumConst}
+use Rattle.fp_tree.specs.declared.part.Field.{Field}
+use Rattle.fp_tree.specs.declared.part.Formal.{Formal}
+use Rattle.fp_meaning.specs.declared.item.Item.{Item}
+use Rattle.fp_meaning.specs.declared.item.Item.TheVariants as item
+use Rattle.fp_meaning.specs.Sites.{Path, Site, in_optional}
+use Rattle.fp_meaning.specs.Layout.{expression_items, type_form_items, type_items, field_items, formal_items, constant_items, part_items, items_in, member_step, module_step, in_member, in_members, items}
+
+-- ---- no definition stands among the parts of one
+
+abbrev IsPart : Item → Type 0
+IsPart (item.Defined s) = ⊥
+IsPart _ = Unit {0}
+
+abbrev AreParts : List Item → Type 0
+AreParts is = AllByRecursion IsPart is
+
+expression_parts : (since : ℕ) (scope : Path) (o : Option Expr) → AreParts (in_optional (expression_items since scope) o)
+expression_parts since scope None = tt
+expression_parts since scope (Some e) = (tt, tt)
+
+form_parts : (since : ℕ) (scope : Path) (t : TypeForm) → AreParts (type_form_items since scope t)
+form_parts since scope (type.Text size) = expression_parts since scope size
+form_parts since scope (type.Use q) = (tt, tt)
+form_parts since scope t = tt
+
+name_parts : (scope : Path) (o : Option TypeName) → AreParts (in_optional (type_items 0 scope) o)
+name_parts scope None = tt
+name_parts scope (Some t) = form_parts 0 scope t.form
+
+listed_parts : (scope : Path) (d : Enum) (k : ℕ) (cs : List EnumConst) → AreParts (constant_items scope d k cs)
+listed_parts scope d k [] = tt
+listed_parts scope d k (c ∷ cs) = (tt, listed_parts scope d (suc k) cs)
+
+both_parts : (xs ys : List Item) → AreParts xs → AreParts ys → AreParts (xs ++ ys)
+both_parts xs ys h k = each_append IsPart xs ys h k
+
+field_parts : (scope : Path) (f : Field) → AreParts (field_items scope f)
+field_parts scope f = both_parts (in_optional (expression_items 0 scope) f.size) (type_items 0 scope f.of) (expression_parts 0 scope f.size) (form_parts 0 scope f.of.form)
+
+are_parts : (scope : Path) (d : Def) → AreParts (part_items scope d)
+are_parts scope (def.Constant d) = tt
+are_parts scope (def.Abstract d) = tt
+are_parts scope (def.Alias d) = form_parts 0 scope d.target.form
+are_parts scope (def.Array d) =
+    both_parts (expression_items 0 scope d.size ++ type_items 0 scope d.element) (in_optional (expression_items 0 scope) d.default)
+    (both_parts (expression_items 0 scope d.size) (type_items 0 scope d.element) (tt, tt) (form_parts 0 scope d.element.form)) (expression_parts 0 scope d.default)
+are_parts scope (def.Struct d) =
+    both_parts (flat_map (field_items scope) d.fields) (in_optional (expression_items 0 scope) d.default)
+    (each_flat IsPart (field_items scope) d.fields (each_of_any (λ (f : Field). AreParts (field_items scope f)) (field_parts scope) d.fields)) (expression_parts 0 scope d.default)
+are_parts scope (def.Enum d) =
+    both_parts (in_optional (type_items 0 scope) d.repr ++ constant_items scope d 0 d.constants) (in_optional (expression_items _ scope) d.default)
+    (both_parts (in_optional (type_items 0 scope) d.repr) (constant_items scope d 0 d.constants) (name_parts scope d.repr) (listed_parts scope d 0 d.constants))
+    (expression_parts _ scope d.default)
+are_parts scope (def.Port d) =
+    both_parts (flat_map (formal_items scope) d.formals) (in_optional (type_items 0 scope) d.result)
+    (each_flat IsPart (formal_items scope) d.formals (each_of_any (λ (f : Formal). AreParts (formal_items scope f)) (λ f. form_parts 0 scope f.of.form) d.formals))
+    (name_parts scope d.result)
+
+-- ---- behind each definition of a list stand its parts
+
+abbrev pub AreWhole : List Item → Type 0
+AreWhole is = (k : ℕ) (s : Site) → slice_get is k ≡ Some (item.Defined s) → (rest : List Item) × (drop (suc k) is ≡ part_items s.scope s.definition ++ rest)
+
+whole_nothing : AreWhole []
+whole_nothing k s at = absurd (cc)
+
+whole_joined : (xs ys : List Item) → AreWhole xs → AreWhole ys → AreWhole (xs ++ ys)
+whole_joined [] ys h g k s at = g k s at
+whole_joined (x ∷ xs) ys h g zero s at =
+    let t = h zero s at in (t.0 ++ ys, ap (λ (l : List Item). l ++ ys) t.1 ∙ append_assoc (part_items s.scope s.definition) t.0 ys)
+whole_joined (x ∷ xs) ys h g (suc k) s at = whole_joined xs ys (λ j. h (suc j)) g k s at
+
+same_site : {s t : Site} → ◌≡◌ {A = Option Item} (Some (item.Defined s)) (Some (item.Defined t)) → s ≡ t
+same_site e = cc
+
+whole_definition : (scope : Path) (d : Def) → AreWhole (items_in scope d)
+whole_definition scope d zero s at =
+    ([], sym (append-nil (part_items scope d)) ∙ ap (λ (t : Site). part_items t.scope t.definition ++ []) (same_site at))
+whole_definition scope d (suc k) s at = absurd (of_item IsPart (part_items scope d) k (item.Defined s) (are_parts scope d) at)
+
+abbrev in_module : Path → Module → List Item
+in_module scope m = fold-Module (Path → List Item) (Path → List Item) member_step module_step m scope
+
+abbrev Keeps : Member → Type 0
+Keeps m = (scope : Path) → AreWhole (in_member scope m)
+
+abbrev Keep : Module → Type 0
+Keep m = (scope : Path) → AreWhole (in_module scope m)
+
+member_rolled : (x : Member-F Member Module) (scope : Path) → in_member scope (roll-Member x) ≡ member_step (map-Member _ _ _ _ (fold-Member (Path → List Item) (Path → List Item) member_step module_step) (fold-Module (Path → List Item) (Path → List Item) member_step module_step) x) scope
+member_rolled x scope = ap (λ (h : Path → List Item). h scope) (fold-roll-Member (Path → List Item) (Path → List Item) member_step module_step x)
+
+members_rolled : (x : Module-F Member Module) (scope : Path) → in_module scope (roll-Module x) ≡ in_members (scope ++ x.name.text ∷ []) x.members
+members_rolled x scope =
+    ap (λ (h : Path → List Item). h scope) (fold-roll-Module (Path → List Item) (Path → List Item) member_step module_step x)
+    ∙ flat_map-map (λ (inner : Path → List Item). inner (scope ++ x.name.text ∷ []))
+    (fold-Member (Path → List Item) (Path → List Item) member_step module_step) x.members
+
+whole_members : (ms : List ((m : Member) × Keeps m)) (scope : Path) → AreWhole (in_members scope (map (λ e. e.0) ms))
+whole_members [] scope = whole_nothing
+whole_members (e ∷ ms) scope = whole_joined (in_member scope e.0) (in_members scope (map (λ x. x.0) ms)) (e.1 scope) (whole_members ms scope)
+
+by_module : (y : Module-F ((m : Member) × Keeps m) ((m : Module) × Keep m)) → Keep (roll-Module (map-Module _ _ _ _ (λ e. e.0) (λ e. e.0) y))
+by_module y scope =
+    let x : Module-F Member Module = map-Module _ _ _ _ (λ e. e.0) (λ e. e.0) y in
+    subst AreWhole (sym (members_rolled x scope)) (whole_members y.members (scope ++ x.name.text ∷ []))
+
+by_member : (y : Member-F ((m : Member) × Keeps m) ((m : Module) × Keep m)) → Keeps (roll-Member (map-Member _ _ _ _ (λ e. e.0) (λ e. e.0) y))
+by_member (open_member.Module e) scope = subst AreWhole (sym (member_rolled (open_member.Module e.0) scope)) (e.1 scope)
+by_member (open_member.Def d) scope = subst AreWhole (sym (member_rolled (open_member.Def d) scope)) (whole_definition scope d)
+by_member (open_member.Include i) scope = subst AreWhole (sym (member_rolled (open_member.Include i) scope)) whole_nothing
+by_member (open_member.Locate l) scope = subst AreWhole (sym (member_rolled (open_member.Locate l) scope)) whole_nothing
+
+member_layer : (x : Member-F Member Module) (y : Member-F ((m : Member) × Keeps m) ((m : Module) × Keep m)) → map-Member _ _ _ _ (λ e. e.0) (λ e. e.0) y ≡ x → Keeps (roll-Member x)
+member_layer x y is = subst (λ (z : Member-F Member Module). Keeps (roll-Member z)) is (by_member y)
+
+module_layer : (x : Module-F Member Module) (y : Module-F ((m : Member) × Keeps m) ((m : Module) × Keep m)) → map-Module _ _ _ _ (λ e. e.0) (λ e. e.0) y ≡ x → Keep (roll-Module x)
+module_layer x y is = subst (λ (z : Module-F Member Module). Keep (roll-Module z)) is (by_module y)
+
+member_keeps : (m : Member) → Keeps m
+member_keeps = ind-Member Keeps Keep member_layer module_layer
+
+flat_whole : {A : Type 0} (f : A → List Item) → ((x : A) → AreWhole (f x)) → (xs : List A) → AreWhole (flat_map f xs)
+flat_whole f h [] = whole_nothing
+flat_whole f h (x ∷ xs) = whole_joined (f x) (flat_map f xs) (h x) (flat_whole f h xs)
+
+pub items_whole : (source : Source) → AreWhole (items source)
+items_whole source =
+    flat_whole (λ (u : File). in_members [] u.members) (λ u. flat_whole (in_member []) (λ m. member_keeps m []) u.members) source.units

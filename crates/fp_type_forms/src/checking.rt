@@ -1,0 +1,84 @@
+ghost use Rattle.std.specs.Prelude.{◌≡◌, IfOk};
+ghost use Rattle.fp_base.specs.Least.{Either, IsLeast};
+ghost use Rattle.fp_consts.specs.Marked.{AreValues};
+ghost use Rattle.fp_meaning.specs.Meaning.{AreMeanings};
+ghost use Rattle.fp_meaning.specs.Names.{definitions, mentions};
+ghost use Rattle.fp_meaning.specs.Origins.{expressions};
+ghost use Rattle.fp_tree.specs.declared.source.Source.{Source as Files};
+ghost use Rattle.fp_type_forms.specs.Broken.{BrokenByItem, LeastOfAll, LeastOfBoth, NumbersRepeated, TypePartsBroken};
+ghost use Rattle.fp_type_forms.specs.Resolved.{AreResolved, parts_of_item};
+
+use crate::faults::fault_in;
+use crate::ranking::ranks_of;
+use crate::repeats::repeats_among;
+use crate::resolving::{Resolution, resolutions};
+use fp_base::{NoMemory, Refusal, Value, lesser};
+use fp_layout::lay_out;
+use fp_meaning::Item;
+use fp_tree::{Source, Uses};
+use std::alloc::Global;
+
+/// The least rule that the parts of types and ports break, each by itself: floats, sizes, numbers that are none, and enumerations in which
+/// values are written for some constants only or a number stands twice. None exactly where none is broken.
+pub fn part_faults(
+    alloc: Global,
+    source: &Source,
+    uses: &Uses,
+    marks: &[Option<Value>],
+) -> Result<Option<Refusal>, NoMemory>
+    requires meanings { AreMeanings (definitions source.now) (mentions source.now) uses.now.meanings }
+    requires values { AreValues source.now (expressions source.now) marks.now }
+    ensures { IfOk result (IsLeast (Either (TypePartsBroken source.now) (NumbersRepeated source.now))) }
+{
+    let layout = lay_out(alloc, source)?;
+    let items = layout.items();
+    let ranks = ranks_of(alloc, items)?;
+    let meanings = uses.meanings.as_slice();
+    let resolved = resolutions(alloc, items, meanings, ranks.as_slice(), marks.len())?;
+    faults_of(alloc, items, resolved.as_slice(), marks)
+}
+
+fn faults_of(
+    alloc: Global,
+    items: &[Item],
+    resolutions: &[Resolution],
+    marks: &[Option<Value>],
+) -> Result<Option<Refusal>, NoMemory>
+    ensures { IfOk result (LeastOfBoth marks.now resolutions.now items.now) }
+{
+    let parts = faults_among(items, resolutions, marks);
+    let repeats = repeats_among(alloc, items, resolutions, marks)?;
+    Ok(lesser(parts, repeats))
+}
+
+fn faults_among(
+    items: &[Item],
+    resolutions: &[Resolution],
+    marks: &[Option<Value>],
+) -> Option<Refusal>
+    ensures { LeastOfAll BrokenByItem marks.now resolutions.now items.now result }
+{
+    let mut first = None;
+    for (index, item) in items.iter().enumerate() {
+        let one = item_fault(item, resolutions, marks, index + 1);
+        first = lesser(first, one);
+    }
+    first
+}
+
+/// The least that is broken in the parts of an item, whose resolutions begin at `start`.
+fn item_fault(
+    item: &Item,
+    resolutions: &[Resolution],
+    marks: &[Option<Value>],
+    start: usize,
+) -> Option<Refusal>
+    ensures { (source : Files) → AreResolved source marks.now resolutions.now (parts_of_item item.now) start → IsLeast (BrokenByItem source item.now) result }
+{
+    match item {
+        Item::Defined(sited) => fault_in(sited.definition(), resolutions, marks, start),
+        Item::Enumerated(_) => None,
+        Item::Used { .. } => None,
+        Item::Written { .. } => None,
+    }
+}

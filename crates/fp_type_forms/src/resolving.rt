@@ -1,0 +1,149 @@
+ghost use Rattle.std.specs.Prelude.{◌≡◌, [], cond, length, slice_get, IfOk};
+ghost use Rattle.fp_consts.specs.Laid.{past};
+ghost use Rattle.fp_meaning.specs.Origins.{expressions_of};
+ghost use Rattle.fp_type_forms.specs.Resolved.{IsResolvedWith, ResolvesAll, resolved_to, type_meant, type_ranked};
+
+use fp_base::{NoMemory, Row};
+use fp_consts::past_item;
+use fp_meaning::Item;
+use std::alloc::Global;
+
+/// What an item of a source is resolved to.
+#[derive(Clone, Copy)]
+pub enum Resolution {
+    Nothing,
+    /// The type that a use means, by its number among the types.
+    Type(u32),
+    /// An expression, by its number among the expressions.
+    Expression(usize),
+}
+
+/// The items that are resolved so far, and the numbers of the use and of the expression behind them.
+#[derive(Drop)]
+pub struct Resolved {
+    pub at: Row<Resolution>,
+    pub next_use: usize,
+    pub next_mark: usize,
+}
+
+/// The items of a source, each resolved, from what its uses mean, the number of types before each definition, and the number of its
+/// expressions.
+pub fn resolutions(
+    alloc: Global,
+    items: &[Item],
+    meanings: &[u32],
+    ranks: &[u32],
+    limit: usize,
+) -> Result<Row<Resolution>, NoMemory>
+    ensures { IfOk result (ResolvesAll items.now meanings.now ranks.now limit) }
+{
+    let mut resolved = nothing_resolved(alloc);
+    for item in items {
+        resolved = with_item(resolved, item, meanings, ranks, limit)?;
+    }
+    Ok(resolved.at)
+}
+
+fn nothing_resolved(alloc: Global) -> Resolved
+    ensures { result ≡ record { at = []; next_use = 0; next_mark = 0 } }
+{
+    Resolved {
+        at: Row::new(alloc),
+        next_use: 0,
+        next_mark: 0,
+    }
+}
+
+fn with_item(
+    before: Resolved,
+    item: &Item,
+    meanings: &[u32],
+    ranks: &[u32],
+    limit: usize,
+) -> Result<Resolved, NoMemory>
+    ensures { IfOk result (IsResolvedWith meanings.now ranks.now limit item.now before) }
+{
+    let Resolved {
+        mut at,
+        next_use,
+        next_mark,
+    } = before;
+    let resolution = resolution_of(item, next_use, next_mark, meanings, ranks);
+    at.push(resolution)?;
+    let behind_use = past_item(item, next_use, meanings.len());
+    let behind_mark = past_mark(item, next_mark, limit);
+    Ok(Resolved {
+        at,
+        next_use: behind_use,
+        next_mark: behind_mark,
+    })
+}
+
+fn resolution_of(
+    item: &Item,
+    next_use: usize,
+    next_mark: usize,
+    meanings: &[u32],
+    ranks: &[u32],
+) -> Resolution
+    ensures { result ≡ resolved_to meanings.now ranks.now next_use next_mark item.now }
+{
+    match item {
+        Item::Defined(_) => Resolution::Nothing,
+        Item::Enumerated(_) => Resolution::Expression(next_mark),
+        Item::Used { .. } => type_used(next_use, meanings, ranks),
+        Item::Written { .. } => Resolution::Expression(next_mark),
+    }
+}
+
+fn type_used(next_use: usize, meanings: &[u32], ranks: &[u32]) -> Resolution
+    ensures { result ≡ type_meant ranks.now (slice_get meanings.now next_use) }
+{
+    match meanings.get(next_use) {
+        Some(number) => type_numbered(*number, ranks),
+        None => Resolution::Nothing,
+    }
+}
+
+fn type_numbered(number: u32, ranks: &[u32]) -> Resolution
+    ensures { result ≡ type_ranked (slice_get ranks.now number) }
+{
+    match ranks.get(number as usize) {
+        Some(rank) => Resolution::Type(*rank),
+        None => Resolution::Nothing,
+    }
+}
+
+/// The number of the expression behind an item, where there are so many.
+fn past_mark(item: &Item, next: usize, limit: usize) -> usize
+    ensures { result ≡ past (length (expressions_of item.now)) limit next }
+{
+    past_if(has_expression(item), next, limit)
+}
+
+fn past_if(is_there: bool, next: usize, limit: usize) -> usize
+    ensures { result ≡ past (cond is_there 1 0) limit next }
+{
+    if is_there {
+        past_one(next, limit)
+    } else {
+        next
+    }
+}
+
+fn past_one(next: usize, limit: usize) -> usize
+    ensures { result ≡ past 1 limit next }
+{
+    if next < limit { next + 1 } else { next }
+}
+
+fn has_expression(item: &Item) -> bool
+    ensures { length (expressions_of item.now) ≡ cond result 1 0 }
+{
+    match item {
+        Item::Defined(sited) => sited.value().is_some(),
+        Item::Enumerated(listed) => listed.value().is_some(),
+        Item::Used { .. } => false,
+        Item::Written { .. } => true,
+    }
+}
