@@ -4,11 +4,12 @@ use crate::grammar::{View, definition, expression};
 use crate::scenarios::of_scenario;
 use crate::serving::{code, left, written};
 use crate::sources::{
-    broken_constants, broken_names, copy, count, definitions, evaluated, examined, found, meanings,
-    members, values,
+    broken_constants, broken_names, broken_parts, copy, count, definitions, evaluated, examined,
+    found, meanings, members, values,
 };
 use crate::tokens::tokens;
 use crate::words::refused;
+use crate::written_types::written_types;
 use fp_base::{NoMemory, Stop, Text};
 use fp_meaning::Group;
 use std::alloc::Global;
@@ -54,6 +55,8 @@ fn of_constants(alloc: Global, case: &Case, question: &str) -> Option<Result<Tex
         "broken constants" => Some(broken_constants(alloc, case)),
         "evaluated" => Some(evaluated(alloc, case)),
         "examined" => Some(examined(alloc, case)),
+        "written types" => Some(written_types(alloc, case)),
+        "broken parts" => Some(broken_parts(alloc, case)),
         _ => None,
     }
 }

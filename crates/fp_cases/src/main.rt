@@ -18,6 +18,7 @@ mod tokens;
 mod tree;
 mod types;
 mod words;
+mod written_types;
 
 use crate::asked::{answer, is_given};
 use crate::cases::{Case, Section, cases_of};

@@ -9,6 +9,8 @@ use fp_meaning::{Group, Marks};
 use fp_names::{collect, name_faults, uses};
 use fp_parse_parts::{Inside, Members, parse};
 use fp_tree::{Source, Unit, Values};
+use fp_type_forms::{part_faults, types_written};
+use fp_type_sizes::WrittenType;
 use std::alloc::Global;
 
 fn unit(alloc: Global, file: u32, source: &[u8]) -> Result<Unit, Stop> {
@@ -104,6 +106,26 @@ fn marks(alloc: Global, case: &Case) -> Result<Marks, Stop> {
     let names = collect(alloc, &source)?;
     let meant = uses(alloc, &source, &names)?;
     Ok(evaluate_all(alloc, &source, &meant)?)
+}
+
+/// What is written of its types.
+pub fn types(alloc: Global, case: &Case) -> Result<Row<WrittenType>, Stop> {
+    let source = source(alloc, case)?;
+    let names = collect(alloc, &source)?;
+    let meant = uses(alloc, &source, &names)?;
+    let marks = evaluate_all(alloc, &source, &meant)?;
+    let values = marks.at.as_slice();
+    Ok(types_written(alloc, &source, &meant, values)?)
+}
+
+/// What is broken first in the parts of its types and ports.
+pub fn broken_parts(alloc: Global, case: &Case) -> Result<Text, Stop> {
+    let source = source(alloc, case)?;
+    let names = collect(alloc, &source)?;
+    let meant = uses(alloc, &source, &names)?;
+    let marks = evaluate_all(alloc, &source, &meant)?;
+    let first = part_faults(alloc, &source, &meant, marks.at.as_slice())?;
+    Ok(first_broken(alloc, first)?)
 }
 
 fn optional(alloc: Global, value: Option<&Value>) -> Result<Text, NoMemory> {
