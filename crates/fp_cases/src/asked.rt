@@ -8,6 +8,7 @@ use crate::sources::{
     found, meanings, members, values,
 };
 use crate::tokens::tokens;
+use crate::used::{broken_uses, flagged};
 use crate::words::refused;
 use crate::written_types::written_types;
 use fp_base::{NoMemory, Stop, Text};
@@ -54,6 +55,9 @@ fn of_constants(alloc: Global, case: &Case, question: &str) -> Option<Result<Tex
         "how many values" => Some(count(alloc, case)),
         "broken constants" => Some(broken_constants(alloc, case)),
         "evaluated" => Some(evaluated(alloc, case)),
+        "on cycles" => Some(flagged(alloc, case, false)),
+        "heads of long chains" => Some(flagged(alloc, case, true)),
+        "broken uses" => Some(broken_uses(alloc, case)),
         "examined" => Some(examined(alloc, case)),
         "written types" => Some(written_types(alloc, case)),
         "broken parts" => Some(broken_parts(alloc, case)),

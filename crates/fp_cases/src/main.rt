@@ -17,6 +17,7 @@ mod sources;
 mod tokens;
 mod tree;
 mod types;
+mod used;
 mod words;
 mod written_types;
 

@@ -31,7 +31,7 @@ fn source_of(alloc: Global, first: &[u8], second: &[u8]) -> Result<Source, Stop>
     Ok(Source { names, units })
 }
 
-fn source(alloc: Global, case: &Case) -> Result<Source, Stop> {
+pub fn source(alloc: Global, case: &Case) -> Result<Source, Stop> {
     source_of(alloc, case.source(), case.text("second file").as_bytes())
 }
 
