@@ -12,7 +12,7 @@ use Rattle.fp_parse_defs.proofs.Levels.{kept}
 pub type_body_fits : (depth : ℕ) → FitsThroughout kind (type_body depth)
 type_body_fits depth = let e = (kept depth).exprs in record { predictive = refl; each = refl; refs = assumption (each_kind, e) }
 
-type_good : (depth : ℕ) → RefsGood kind (type_name depth)
+pub type_good : (depth : ℕ) → RefsGood kind (type_name depth)
 type_good depth = let e = (kept depth).exprs in sealed_good (type_body depth) type_begins (k_size ∷ expr_goes_on) refl refl refl refl (assumption (each_kind, e))
 
 pub definition_parts_fit : (depth : ℕ) → FitsThroughout kind (definition depth)

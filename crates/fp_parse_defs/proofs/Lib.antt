@@ -1,4 +1,5 @@
 mod Levels
 pub mod DefinitionsFit
 mod Parts
+pub mod ExpressionsDecided
 mod ReadingLemmas

@@ -31,7 +31,7 @@ pub fn parse_expr(alloc: Global, tokens: &Row<Token>, from: u32) -> Result<(Expr
     requires within { from ≤ length tokens.now }
     ensures { AnswersNode Language.expression tokens.now from result }
 {
-    parse::<Value>(alloc, tokens, from)
+    parse_node::<Value>(alloc, tokens, from)
 }
 
 /// Reads a definition from a position on.
@@ -41,10 +41,15 @@ pub fn parse_def(alloc: Global, tokens: &Row<Token>, from: u32) -> Result<(Def, 
     requires within { from ≤ length tokens.now }
     ensures { AnswersNode D.definition tokens.now from result }
 {
-    parse::<OneDefinition>(alloc, tokens, from)
+    parse_node::<OneDefinition>(alloc, tokens, from)
 }
 
-fn parse<P: Piece>(alloc: Global, tokens: &Row<Token>, from: u32) -> Result<(P::Node, u32), Stop>
+/// Reads what a piece reads, in which expressions nest as deep as they may, from a position on.
+pub fn parse_node<P: Piece>(
+    alloc: Global,
+    tokens: &Row<Token>,
+    from: u32,
+) -> Result<(P::Node, u32), Stop>
     requires fits { (depth : ℕ) → FitsThroughout kind (P.Piece.grammar depth) }
     requires some { 0 < length tokens.now }
     requires short { length tokens.now < 2 ^ 32 }

@@ -18,7 +18,7 @@ use Rattle.fp_parse_pieces.specs.Words as W
 use Rattle.fp_parse_pieces.specs.Lists as L
 use Rattle.fp_parse_pieces.specs.Lists.ListPiece.{separator}
 
-somewhere : Span
+pub somewhere : Span
 somewhere = let place : Place = record { file = 0; line = 1; column = 1 } in record { first = place; past = place }
 
 -- a number is even or odd

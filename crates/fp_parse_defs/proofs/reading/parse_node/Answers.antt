@@ -3,7 +3,7 @@ use Rattle.std.specs.Prelude.{Err, Ok}
 use Rattle.fp_base.specs.declared.refusal.Stop.TheVariants.{Broken}
 use Rattle.fp_parse_defs.specs.Reading.{AnswersNode}
 use Rattle.fp_parse_defs.proofs.ReadingLemmas.{answer_deeper, answer_node, answer_none}
-use Rattle.fp_parse_defs.proofs.reading.parse.Goals as goal
+use Rattle.fp_parse_defs.proofs.reading.parse_node.Goals as goal
 
 pub returns-then-to-deeper : goal.returns-then-to-deeper
 returns-then-to-deeper g c =
