@@ -1,6 +1,6 @@
 use crate::cases::Case;
 use crate::conversion::of_types;
-use crate::grammar::{View, definition, expression};
+use crate::grammar::{View, copied_machine, definition, expression, machine};
 use crate::scenarios::of_scenario;
 use crate::serving::{code, left, written};
 use crate::sources::{
@@ -37,6 +37,9 @@ fn of_source(alloc: Global, case: &Case, question: &str) -> Option<Result<Text, 
         "places of expression" => Some(expression(alloc, case, View::Places)),
         "definition" => Some(definition(alloc, case, View::Shape)),
         "places of definition" => Some(definition(alloc, case, View::Places)),
+        "machine" => Some(machine(alloc, case, View::Shape)),
+        "places of machine" => Some(machine(alloc, case, View::Places)),
+        "copy of machine" => Some(copied_machine(alloc, case, View::Shape)),
         "members" => Some(members(alloc, case)),
         "copy" => Some(copy(alloc, case)),
         "definitions" => Some(definitions(alloc, case)),

@@ -32,7 +32,8 @@ fn add_type(alloc: Global, of: &TypeName, tree: &mut Tree) -> Result<(), NoMemor
     }
 }
 
-fn add_optional_type(
+/// Adds a type's name, where there is one, and a text before it.
+pub fn add_optional_type(
     alloc: Global,
     before: &str,
     of: &Option<TypeName>,

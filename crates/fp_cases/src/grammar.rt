@@ -1,12 +1,14 @@
 use crate::cases::Case;
 use crate::definitions::add_definition;
 use crate::expressions::add_expression;
+use crate::machines::add_machine;
 use crate::tree::Tree;
 use crate::words::{numeral, push_all};
 use fp_base::{NoMemory, Stop, Text};
 use fp_lexer::lex;
 use fp_parse_defs::{parse_def, parse_expr};
-use fp_tree::Expr;
+use fp_parse_states::parse_machine;
+use fp_tree::{Expr, Machine};
 use std::alloc::Global;
 
 const MOST_TOKENS: usize = 1000;
@@ -60,5 +62,31 @@ pub fn definition(alloc: Global, case: &Case, view: View) -> Result<Text, Stop> 
     }
     let (definition, to) = parse_def(alloc, &tokens, from)?;
     add_definition(alloc, &definition, &mut tree)?;
+    Ok(viewed(alloc, tree, to, view)?)
+}
+
+fn parsed_machine(alloc: Global, case: &Case) -> Result<(Machine, u32), Stop> {
+    let tokens = lex(alloc, 0, case.source())?;
+    let from = case.number("from");
+    if tokens.len() == 0 || tokens.len() > MOST_TOKENS || from as usize > tokens.len() {
+        return Err(Stop::NoMemory);
+    }
+    parse_machine(alloc, &tokens, from)
+}
+
+/// What a state machine spells.
+pub fn machine(alloc: Global, case: &Case, view: View) -> Result<Text, Stop> {
+    let mut tree = Tree::new(alloc);
+    let (machine, to) = parsed_machine(alloc, case)?;
+    add_machine(alloc, &machine, &mut tree)?;
+    Ok(viewed(alloc, tree, to, view)?)
+}
+
+/// The same of a copy.
+pub fn copied_machine(alloc: Global, case: &Case, view: View) -> Result<Text, Stop> {
+    let mut tree = Tree::new(alloc);
+    let (machine, to) = parsed_machine(alloc, case)?;
+    let copy = machine.copy(alloc)?;
+    add_machine(alloc, &copy, &mut tree)?;
     Ok(viewed(alloc, tree, to, view)?)
 }

@@ -9,6 +9,7 @@ mod definitions;
 mod escapes;
 mod expressions;
 mod grammar;
+mod machines;
 mod members;
 mod repeated;
 mod scenarios;

@@ -1,6 +1,7 @@
 use fp_lexer::{one_lexing, places_rise, same_words, spans_rise, worked_strings};
 use fp_main::Status;
 use fp_parse_parts::{one_refusal, one_unit};
+use fp_parse_states::{machine_or_break, one_machine, same_bodies, worked_rows};
 
 #[test]
 fn laws_can_be_cited(rt: HostRuntime) {
@@ -11,5 +12,9 @@ fn laws_can_be_cited(rt: HostRuntime) {
     worked_strings();
     one_unit();
     one_refusal();
+    machine_or_break();
+    one_machine();
+    same_bodies();
+    worked_rows();
     assert_eq!(rt; Status::NoTopology.code(), 12);
 }

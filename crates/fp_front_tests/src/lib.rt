@@ -1,5 +1,5 @@
 //! Tests of the front end and of what it stands on, where they need code: rows, texts, values and places; files and sinks; formats;
-//! all bytes, graphs, and the laws.
+//! all bytes, graphs, states that nest, and the laws.
 #![tactic(auto)]
 
 #[cfg(test)]
@@ -14,5 +14,7 @@ mod grammars;
 mod graphs;
 #[cfg(test)]
 mod laws;
+#[cfg(test)]
+mod machines;
 #[cfg(test)]
 mod outside;

@@ -1,0 +1,8 @@
+mod TransitionsFit
+mod BodiesFit
+mod Rows
+mod Singles
+mod ToSteps
+mod FromSteps
+pub mod NestedFit
+mod MachinesDecided
