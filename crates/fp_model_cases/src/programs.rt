@@ -75,8 +75,25 @@ impl FromJson for Caller {
     }
 }
 
+/// The place of a hook, where the key of its sort is there.
+fn hook_place_of(alloc: Global, json: &Json) -> Result<Option<Spot>, Fault> {
+    if let Some(port) = option_at::<u32>(alloc, json, "hook port")? {
+        return Ok(Some(Spot::HookPort(port)));
+    }
+    if let Some(command) = option_at::<u32>(alloc, json, "hook command")? {
+        return Ok(Some(Spot::HookCommand(command)));
+    }
+    if let Some(running) = option_at::<u32>(alloc, json, "hook signal")? {
+        return Ok(Some(Spot::HookSignal(running)));
+    }
+    Ok(None)
+}
+
 /// The place of a handler: the key of its sort says it.
 fn place_of(alloc: Global, json: &Json) -> Result<Spot, Fault> {
+    if let Some(place) = hook_place_of(alloc, json)? {
+        return Ok(place);
+    }
     if let Some(port) = option_at::<u32>(alloc, json, "port")? {
         return Ok(Spot::Port(port));
     }
@@ -88,7 +105,17 @@ fn place_of(alloc: Global, json: &Json) -> Result<Spot, Fault> {
     Ok(Spot::Action { running, action })
 }
 
-const KEYS_OF_A_HANDLER: [&str; 6] = ["instance", "port", "command", "machine", "action", "do"];
+const KEYS_OF_A_HANDLER: [&str; 9] = [
+    "instance",
+    "port",
+    "command",
+    "machine",
+    "action",
+    "hook port",
+    "hook command",
+    "hook signal",
+    "do",
+];
 
 impl FromJson for Handler {
     fn from_json(alloc: Global, json: &Json) -> Result<Handler, Fault> {
