@@ -132,36 +132,59 @@ module _ (t : Described) where
 
   -- ---- handlers
 
-  acts_at_suit : (i : ℕ) (place : Spot) (xs : List Act) → some_and (λ scope. acts.suit_in_turn t (programs.act_suits t i place) scope xs) (programs.bound_at t i place) ≡ true
-      → some_and (λ bound. listed.acts_suit t i place bound xs) (listed.bound_at t i place) ≡ true
-  acts_at_suit i (spot.Port n) xs h = go (port_of t.model i n) h
+  -- with what a port or a command binds, in a handler of any place
+  port_acts_suit : (i : ℕ) (place : Spot) (n : ℕ) (xs : List Act) → some_and (λ scope. acts.suit_in_turn t (programs.act_suits t i place) scope xs) (programs.port_bound t i n) ≡ true
+      → some_and (λ bound. listed.acts_suit t i place bound xs) (listed.port_bound t i n) ≡ true
+  port_acts_suit i place n xs h = go (port_of t.model i n) h
     where
-      of_port : (b : Bool) (fs : List Formal) → some_and (λ scope. acts.suit_in_turn t (programs.act_suits t i (spot.Port n)) scope xs) (cond b (Some (arguments.formals_bound fs)) None) ≡ true
-          → some_and (λ bound. listed.acts_suit t i (spot.Port n) bound xs) (cond b (Some (listed.formals_bound fs)) None) ≡ true
-      of_port true fs h = acts_suit i (spot.Port n) (arguments.formals_bound fs) (listed.formals_bound fs) xs (formals_agree fs) h
+      of_port : (b : Bool) (fs : List Formal) → some_and (λ scope. acts.suit_in_turn t (programs.act_suits t i place) scope xs) (cond b (Some (arguments.formals_bound fs)) None) ≡ true
+          → some_and (λ bound. listed.acts_suit t i place bound xs) (cond b (Some (listed.formals_bound fs)) None) ≡ true
+      of_port true fs h = acts_suit i place (arguments.formals_bound fs) (listed.formals_bound fs) xs (formals_agree fs) h
       of_port false fs h = absurd (cc)
 
       go : (o : Option Port)
-          → some_and (λ scope. acts.suit_in_turn t (programs.act_suits t i (spot.Port n)) scope xs)
+          → some_and (λ scope. acts.suit_in_turn t (programs.act_suits t i place) scope xs)
           (option_and_then (λ (p : Port). cond (programs.is_general_input p.role || programs.is_internal p.role) (Some (arguments.formals_bound p.formals)) None) o)
           ≡ true
-          → some_and (λ bound. listed.acts_suit t i (spot.Port n) bound xs)
+          → some_and (λ bound. listed.acts_suit t i place bound xs)
           (option_and_then (λ (p : Port). cond (programs.is_general_input p.role || programs.is_internal p.role) (Some (listed.formals_bound p.formals)) None) o)
           ≡ true
       go None h = absurd (cc)
       go (Some p) h = of_port (programs.is_general_input p.role || programs.is_internal p.role) p.formals h
-  acts_at_suit i (spot.Command n) xs h = go (acts.command_of t i n) h
+
+  command_acts_suit : (i : ℕ) (place : Spot) (n : ℕ) (xs : List Act) → some_and (λ scope. acts.suit_in_turn t (programs.act_suits t i place) scope xs) (programs.command_bound t i n) ≡ true
+      → some_and (λ bound. listed.acts_suit t i place bound xs) (listed.command_bound t i n) ≡ true
+  command_acts_suit i place n xs h = go (acts.command_of t i n) h
     where
-      go : (o : Option Command) → some_and (λ scope. acts.suit_in_turn t (programs.act_suits t i (spot.Command n)) scope xs) (option_map (λ (c : Command). arguments.formals_bound c.formals) o) ≡ true
-          → some_and (λ bound. listed.acts_suit t i (spot.Command n) bound xs) (option_map (λ (c : Command). listed.formals_bound c.formals) o) ≡ true
+      go : (o : Option Command) → some_and (λ scope. acts.suit_in_turn t (programs.act_suits t i place) scope xs) (option_map (λ (c : Command). arguments.formals_bound c.formals) o) ≡ true
+          → some_and (λ bound. listed.acts_suit t i place bound xs) (option_map (λ (c : Command). listed.formals_bound c.formals) o) ≡ true
       go None h = absurd (cc)
-      go (Some c) h = acts_suit i (spot.Command n) (arguments.formals_bound c.formals) (listed.formals_bound c.formals) xs (formals_agree c.formals) h
+      go (Some c) h = acts_suit i place (arguments.formals_bound c.formals) (listed.formals_bound c.formals) xs (formals_agree c.formals) h
+
+  -- what suits with what is bound under `hook` suits with what the place binds
+  bound_anyway : (hooked : Bool) (bound : Option arguments.Scope) (suits : arguments.Scope → Bool) → some_and suits (cond hooked bound None) ≡ true → some_and suits bound ≡ true
+  bound_anyway true bound suits h = h
+  bound_anyway false bound suits h = absurd (cc)
+
+  acts_at_suit : (i : ℕ) (place : Spot) (xs : List Act) → some_and (λ scope. acts.suit_in_turn t (programs.act_suits t i place) scope xs) (programs.bound_at t i place) ≡ true
+      → some_and (λ bound. listed.acts_suit t i place bound xs) (listed.bound_at t i place) ≡ true
+  acts_at_suit i (spot.Port n) xs h = port_acts_suit i (spot.Port n) n xs h
+  acts_at_suit i (spot.Command n) xs h = command_acts_suit i (spot.Command n) n xs h
   acts_at_suit i (spot.Action running action) xs h = go (option_and_then (λ (m : Machine). slice_get m.actions action) (acts.machine_at t i running)) h
     where
       go : (o : Option Named) → some_and (λ scope. acts.suit_in_turn t (programs.act_suits t i (spot.Action running action)) scope xs) (option_map (λ (x : Named). programs.value_bound x.kind) o) ≡ true
           → some_and (λ bound. listed.acts_suit t i (spot.Action running action) bound xs) (option_map (λ (x : Named). listed.bound_as (Some (codes "value")) x.kind) o) ≡ true
       go None h = absurd (cc)
       go (Some x) h = acts_suit i (spot.Action running action) (programs.value_bound x.kind) (listed.bound_as (Some (codes "value")) x.kind) xs (value_agrees x.kind) h
+  acts_at_suit i (spot.HookPort n) xs h =
+      port_acts_suit i (spot.HookPort n) n xs
+      (bound_anyway (some_and programs.is_hooked (programs.port_way t i n)) (programs.port_bound t i n) (λ scope. acts.suit_in_turn t (programs.act_suits t i (spot.HookPort n)) scope xs) h)
+  acts_at_suit i (spot.HookCommand n) xs h =
+      command_acts_suit i (spot.HookCommand n) n xs
+      (bound_anyway (some_and programs.is_hooked (programs.command_way t i n)) (programs.command_bound t i n) (λ scope. acts.suit_in_turn t (programs.act_suits t i (spot.HookCommand n)) scope xs) h)
+  acts_at_suit i (spot.HookSignal running) xs h =
+      acts_suit i (spot.HookSignal running) arguments.nothing_bound [] xs (λ name. refl)
+      (bound_anyway (some_and programs.is_hooked (programs.signal_way t i running)) (Some arguments.nothing_bound) (λ scope. acts.suit_in_turn t (programs.act_suits t i (spot.HookSignal running)) scope xs) h)
 
   pub listed_handlers : (program : Program) → IsSoundProgram t program → list_all (listed.handler_suits t) program.handlers ≡ true
   listed_handlers program sound =

@@ -27,7 +27,7 @@ use Rattle.fp_events.specs.Actor.{Action, act, send, Doing, Opened, arrived, Fra
 use Rattle.fp_events.specs.Due.{first_action}
 use Rattle.fp_events.specs.Ends.{is_own}
 use Rattle.fp_events.specs.Fits.{what_fits, saved_kind, value_fits, arrival_fits}
-use Rattle.fp_events.specs.Follows.{without_first, bind, in_frame, replaced, removed, bound_below, closed, value_in, ok_note, acts_at, handling, returned, opened, sends, parameter_of, parameter_name, performed, sent_as, bound_name, follows}
+use Rattle.fp_events.specs.Follows.{without_first, bind, in_frame, replaced, removed, bound_below, closed, value_in, ok_note, acts_at, handling, hook_spot, hooking, returned, opened, sends, parameter_of, parameter_name, performed, sent_as, bound_name, follows}
 use Rattle.fp_events.specs.Lookup.{handler}
 use Rattle.fp_events.specs.Manners.{Manner, by, sets, saves, manner}
 use Rattle.fp_base.proofs.Lists.{all_get}
@@ -217,7 +217,7 @@ module _ (t : Described) (program : Program) (sound : IsSound t.model) (good : I
       (two_sends_good i special.PrmSet special.CmdResp (parameter_name t program i r.point) ok_note (saved_named i r.point v (both (arrival_fits t program i r) _ fit).1) refl) h
   follows_good i x (what.Put number r) fit at h = removed_good x.frames h
   follows_good i x (what.Dropped r) fit at h = removed_good x.frames h
-  follows_good i x (what.Hooked r) fit at h = removed_good x.frames h
+  follows_good i x (what.Hooked r) fit at h = opened_good i (hooking t program i r.point r.with) None x.frames (acts_good i (hook_spot r.point)) h
   follows_good i x (what.Asserted r) fit at h = h
   follows_good i x (what.Leave v) fit at h = closed_good v x.frames h
   follows_good i x what.Done fit at h = closed_good None x.frames h

@@ -82,12 +82,21 @@ module _ (t : Described) where
     acts_suit bound [] = true
     acts_suit bound (a ∷ rest) = act_suits bound a && acts_suit (binds i a ++ bound) rest
 
-  -- what is bound where a handler begins
+  abbrev pub port_bound : ℕ → ℕ → Option Bindings
+  port_bound i n = option_and_then (λ (p : Port). cond (is_general_input p.role || is_internal p.role) (Some (formals_bound p.formals)) None) (port_of t.model i n)
+
+  abbrev pub command_bound : ℕ → ℕ → Option Bindings
+  command_bound i n = option_map (λ (c : Command). formals_bound c.formals) (command_of t i n)
+
+  -- what is bound where a handler begins, whatever the policy of its place
   abbrev pub bound_at : ℕ → Spot → Option Bindings
-  bound_at i (spot.Port n) = option_and_then (λ (p : Port). cond (is_general_input p.role || is_internal p.role) (Some (formals_bound p.formals)) None) (port_of t.model i n)
-  bound_at i (spot.Command n) = option_map (λ (c : Command). formals_bound c.formals) (command_of t i n)
+  bound_at i (spot.Port n) = port_bound i n
+  bound_at i (spot.Command n) = command_bound i n
   bound_at i (spot.Action running action) =
       option_map (λ (x : Named). bound_as (Some (codes "value")) x.kind) (option_and_then (λ (m : Machine). slice_get m.actions action) (machine_at t i running))
+  bound_at i (spot.HookPort n) = port_bound i n
+  bound_at i (spot.HookCommand n) = command_bound i n
+  bound_at i (spot.HookSignal running) = Some []
 
   abbrev pub handler_suits : Handler → Bool
   handler_suits h = some_and (λ bound. acts_suit h.instance h.place bound h.acts) (bound_at h.instance h.place)

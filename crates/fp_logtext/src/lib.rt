@@ -9,5 +9,5 @@ mod names;
 mod parts;
 mod words;
 
-pub use laws::{fitting_runs, full_queue_texts, signal_value_text};
+pub use laws::{fitting_runs, full_queue_texts, hook_handler_texts, signal_value_text};
 pub use log::print_log;
