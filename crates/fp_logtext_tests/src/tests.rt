@@ -3,8 +3,8 @@ use crate::spent::{handed_on, handed_on_text};
 use fp_base::{NoMemory, Row};
 use fp_events::{Entry, Finish};
 use fp_worked_models::cases::{
-    CHOICES, COMMAND_TO_RESPONSE, Case, GREATEST_FIRST, HELD_AND_SAME, NESTED_STATES,
-    SECOND_ASSERTED, SECOND_DROPPED, SECOND_WAITS, SET_READ_SAVED,
+    CHOICES, COMMAND_TO_RESPONSE, Case, GREATEST_FIRST, HELD_AND_SAME, HOOK_DISPATCHES,
+    HOOK_UNHANDLED, NESTED_STATES, SECOND_ASSERTED, SECOND_DROPPED, SECOND_WAITS, SET_READ_SAVED,
 };
 use fp_worked_models::lines::entries;
 use fp_worked_models::models::LOOPED;
@@ -87,6 +87,18 @@ fn second_asserted(rt: HostRuntime) -> Result<(), Fail> {
 #[test]
 fn second_waits(rt: HostRuntime) -> Result<(), Fail> {
     assert!(rt; prints(rt.alloc(), &SECOND_WAITS)?);
+    Ok(())
+}
+
+#[test]
+fn hook_dispatches(rt: HostRuntime) -> Result<(), Fail> {
+    assert!(rt; prints(rt.alloc(), &HOOK_DISPATCHES)?);
+    Ok(())
+}
+
+#[test]
+fn hook_unhandled(rt: HostRuntime) -> Result<(), Fail> {
+    assert!(rt; prints(rt.alloc(), &HOOK_UNHANDLED)?);
     Ok(())
 }
 

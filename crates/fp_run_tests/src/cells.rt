@@ -1,4 +1,5 @@
 mod asking;
+mod hooked;
 mod models;
 mod playing;
 mod script;

@@ -148,15 +148,16 @@ pub const POSTED: Case = Case {
         ],
         ..IDLE
     },
-    turns: &[Steps(0, 8)],
+    turns: &[Steps(0, 9)],
     log: "1 k q enter go[0] via caller ()\n\
         2 k q put 1 post p via self (4)\n\
         3 k q hook post p via self (4)\n\
-        4 k q take 1 post p (4)\n\
-        5 k q write t unwired (3)\n\
-        6 k q done\n\
-        7 k q empty\n\
-        8 k q leave\n\
+        4 k q leave\n\
+        5 k q take 1 post p (4)\n\
+        6 k q write t unwired (3)\n\
+        7 k q done\n\
+        8 k q empty\n\
+        9 k q leave\n\
         end complete\n",
     ..NOTHING
 };

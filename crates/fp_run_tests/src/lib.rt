@@ -17,6 +17,8 @@ mod deeds;
 #[cfg(test)]
 mod handled;
 #[cfg(test)]
+mod hooked;
+#[cfg(test)]
 mod models;
 #[cfg(test)]
 mod player;

@@ -9,6 +9,11 @@ const SYNC: Role = Role::Input(Way::Sync);
 
 const ASYNC: Role = Role::Input(LATER);
 
+const SOON: Role = Role::Input(Way::Later {
+    priority: 1,
+    full: Full::Dropped,
+});
+
 const URGENT: Role = Role::Input(Way::Later {
     priority: 5,
     full: Full::Assert,
@@ -156,5 +161,60 @@ pub const WIRED: Plan = Plan {
     components: &[COMMANDED, SINKS],
     instances: &[("c", 0), ("s", 1)],
     wires: &[[0, 2, 1, 0], [0, 4, 1, 1], [0, 6, 1, 2], [0, 7, 1, 3]],
+    ..ASKING
+};
+
+const GUARDED_POSTER: ComponentPlan = ComponentPlan {
+    ports: &[
+        ("g", Role::Input(Way::Guarded), GO),
+        ("p", Role::Internal(LATER), NUMBER),
+    ],
+    ..POSTER
+};
+
+/// The queued instance with an internal port, to which it posts from under its guard.
+pub const POSTING_GUARDED: Plan = Plan {
+    components: &[GUARDED_POSTER],
+    ..POSTING
+};
+
+const COMMANDED_LATER: ComponentPlan = ComponentPlan {
+    queueing: Queueing::Queued,
+    ports: &[
+        ("r", Role::Special(Special::CmdRecv), CMD),
+        ("g", Role::Special(Special::CmdReg), CMD_REG),
+        ("s", Role::Special(Special::CmdResp), CMD_RESPONSE),
+    ],
+    commands: &[("RUN", Part::Plain, LATER)],
+    ..EMPTY
+};
+
+/// A queued instance with a command, and a sink for its responses.
+pub const COMMANDED_ONCE: Plan = Plan {
+    components: &[COMMANDED_LATER, SINKS],
+    instances: &[("c", 0), ("s", 1)],
+    wires: &[[0, 2, 1, 0]],
+    ..ASKING
+};
+
+/// The instance that runs a machine and calls a sink, with a queue of one.
+pub const ACTING_ONCE: Plan = Plan { queue: 1, ..ACTING };
+
+const HANDS_ON: ComponentPlan = ComponentPlan {
+    queueing: Queueing::Queued,
+    ports: &[("i", ASYNC, NUMBER), ("o", Role::Output, NUMBER)],
+    ..EMPTY
+};
+
+const DROPS: ComponentPlan = ComponentPlan {
+    queueing: Queueing::Queued,
+    ports: &[("i", SOON, NUMBER)],
+    ..EMPTY
+};
+
+/// A queued instance that calls another, which drops what finds its queue full.
+pub const HANDING_ON: Plan = Plan {
+    components: &[HANDS_ON, DROPS],
+    instances: &[("a", 0), ("d", 1)],
     ..ASKING
 };

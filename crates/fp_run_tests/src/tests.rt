@@ -4,6 +4,9 @@ use crate::handled::{
     DEFAULT_RETURNED, DISPATCHER_HALTS, GUARD_HELD, LATEST_BOUND, OWN_HANDLER, POSTED, RESPONDED,
     SENT_FIRST, STEPS_SPENT, TURN_HELD, VALUE_OF_SIGNAL,
 };
+use crate::hooked::{
+    HOOK_DISPATCHES, HOOK_DROPPED, HOOK_OF_SIGNAL, HOOK_RESPONDS, HOOK_UNDER_GUARD, HOOK_UNHANDLED,
+};
 use crate::worked::{
     CHOICES, COMMAND_TO_RESPONSE, GREATEST_FIRST, HELD_AND_SAME, NESTED_STATES, NOTHING,
     SECOND_ASSERTED, SECOND_DROPPED, SECOND_WAITS, SET_READ_SAVED,
@@ -133,6 +136,42 @@ fn responded(rt: HostRuntime) -> Result<(), Fail> {
 #[test]
 fn steps_spent(rt: HostRuntime) -> Result<(), Fail> {
     assert_eq!(rt; differences(rt.alloc(), &STEPS_SPENT)?.as_str(), "");
+    Ok(())
+}
+
+#[test]
+fn hook_dispatches(rt: HostRuntime) -> Result<(), Fail> {
+    assert_eq!(rt; differences(rt.alloc(), &HOOK_DISPATCHES)?.as_str(), "");
+    Ok(())
+}
+
+#[test]
+fn hook_unhandled(rt: HostRuntime) -> Result<(), Fail> {
+    assert_eq!(rt; differences(rt.alloc(), &HOOK_UNHANDLED)?.as_str(), "");
+    Ok(())
+}
+
+#[test]
+fn hook_under_guard(rt: HostRuntime) -> Result<(), Fail> {
+    assert_eq!(rt; differences(rt.alloc(), &HOOK_UNDER_GUARD)?.as_str(), "");
+    Ok(())
+}
+
+#[test]
+fn hook_responds(rt: HostRuntime) -> Result<(), Fail> {
+    assert_eq!(rt; differences(rt.alloc(), &HOOK_RESPONDS)?.as_str(), "");
+    Ok(())
+}
+
+#[test]
+fn hook_of_signal(rt: HostRuntime) -> Result<(), Fail> {
+    assert_eq!(rt; differences(rt.alloc(), &HOOK_OF_SIGNAL)?.as_str(), "");
+    Ok(())
+}
+
+#[test]
+fn hook_dropped(rt: HostRuntime) -> Result<(), Fail> {
+    assert_eq!(rt; differences(rt.alloc(), &HOOK_DROPPED)?.as_str(), "");
     Ok(())
 }
 

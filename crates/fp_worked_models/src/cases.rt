@@ -1,12 +1,12 @@
 use crate::lines::From::{Caller, Own, Wire};
 use crate::lines::Line;
 use crate::lines::Say::{
-    Asserted, Done, Dropped, Emit, Empty, Enter, Leave, Move, Put, Read, Save, Set, Start, Take,
-    Write,
+    Asserted, Done, Dropped, Emit, Empty, Enter, Hooked, Leave, Move, Put, Read, Save, Set, Start,
+    Take, Write,
 };
 use crate::lines::Simple::{Number, Response};
 use crate::models::{
-    ASSERTING, BLOCKING, CHOOSING, DISPATCHED, DROPPING, NESTED, PARAMETER, PRIORITIES,
+    ASSERTING, BLOCKING, CHOOSING, DISPATCHED, DROPPING, HOOKING, NESTED, PARAMETER, PRIORITIES,
 };
 use crate::plans::Plan;
 use fp_events::{Fate, Finish, Point};
@@ -282,5 +282,45 @@ pub const SECOND_WAITS: Case = Case {
     finish: Finish::Stuck,
     log: "1 k q put 1 i[0] via caller (1)\n\
         end stuck\n",
+    ..NOTHING
+};
+
+/// The second call finds the queue full, and its hook handler makes room for the third.
+pub const HOOK_DISPATCHES: Case = Case {
+    plan: HOOKING,
+    lines: &[
+        (1, 0, 0, Put(1, (PORT_0, Caller, &[Number(1)]))),
+        (2, 0, 0, Hooked((PORT_0, Caller, &[Number(2)]))),
+        (3, 0, 0, Take(1, PORT_0, &[Number(1)])),
+        (4, 0, 0, Done),
+        (5, 0, 0, Leave),
+        (6, 0, 0, Put(2, (PORT_0, Caller, &[Number(3)]))),
+    ],
+    log: "1 k q put 1 i[0] via caller (1)\n\
+        2 k q hook i[0] via caller (2)\n\
+        3 k q take 1 i[0] (1)\n\
+        4 k q done\n\
+        5 k q leave\n\
+        6 k q put 2 i[0] via caller (3)\n\
+        end complete\n",
+    ..NOTHING
+};
+
+/// Without a hook handler the second and the third call are lost.
+pub const HOOK_UNHANDLED: Case = Case {
+    plan: HOOKING,
+    lines: &[
+        (1, 0, 0, Put(1, (PORT_0, Caller, &[Number(1)]))),
+        (2, 0, 0, Hooked((PORT_0, Caller, &[Number(2)]))),
+        (3, 0, 0, Leave),
+        (4, 0, 0, Hooked((PORT_0, Caller, &[Number(3)]))),
+        (5, 0, 0, Leave),
+    ],
+    log: "1 k q put 1 i[0] via caller (1)\n\
+        2 k q hook i[0] via caller (2)\n\
+        3 k q leave\n\
+        4 k q hook i[0] via caller (3)\n\
+        5 k q leave\n\
+        end complete\n",
     ..NOTHING
 };

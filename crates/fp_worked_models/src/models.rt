@@ -145,6 +145,11 @@ const BLOCKS: ComponentPlan = ComponentPlan {
     ..DROPS
 };
 
+const HOOKS: ComponentPlan = ComponentPlan {
+    ports: &[("i", ASYNC, NUMBER)],
+    ..DROPS
+};
+
 /// A queued instance with a priority for each of three ports.
 pub const PRIORITIES: Plan = Plan {
     components: &[QUEUED],
@@ -178,6 +183,12 @@ pub const ASSERTING: Plan = Plan {
 /// The same, but waiting for room.
 pub const BLOCKING: Plan = Plan {
     components: &[BLOCKS],
+    ..DROPPING
+};
+
+/// The same, but handing the next call to a hook.
+pub const HOOKING: Plan = Plan {
+    components: &[HOOKS],
     ..DROPPING
 };
 

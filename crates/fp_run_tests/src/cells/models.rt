@@ -1,6 +1,6 @@
 use fp_tables::{Full, Part, Queueing, Role, Special, Way};
 use fp_worked_models::definitions::{CMD, CMD_REG, CMD_RESPONSE, GO, NUMBER, PRM_GET, PRM_SET};
-use fp_worked_models::models::{DROPPING, NESTED, PARAMETER};
+use fp_worked_models::models::{NESTED, PARAMETER};
 use fp_worked_models::plans::{ComponentPlan, EMPTY, LATER, Plan};
 
 const ASSERTED: Way = Way::Later {
@@ -66,16 +66,4 @@ const WRITES_ALWAYS: ComponentPlan = ComponentPlan {
 pub const ALWAYS: Plan = Plan {
     components: &[WRITES_ALWAYS],
     ..PARAMETER
-};
-
-const HOOKS: ComponentPlan = ComponentPlan {
-    queueing: Queueing::Queued,
-    ports: &[("i", Role::Input(LATER), NUMBER)],
-    ..EMPTY
-};
-
-/// A queued instance whose queue holds one call and hooks the next.
-pub const HOOKING: Plan = Plan {
-    components: &[HOOKS],
-    ..DROPPING
 };

@@ -1,4 +1,4 @@
-use crate::cells::models::{ALWAYS, CROWDED, HOOKING, WAYS};
+use crate::cells::models::{ALWAYS, CROWDED, WAYS};
 use crate::cells::script::Expected::{AtLimit, Told, Waits};
 use crate::cells::script::Script;
 use crate::cells::script::Wish::{
@@ -8,11 +8,11 @@ use fp_events::{Point, Why};
 use fp_worked_models::lines::From::{Caller, Own, Wire};
 use fp_worked_models::lines::Simple::Number;
 use fp_worked_models::models::{
-    ASSERTING, BLOCKING, CHOOSING, DISPATCHED, DROPPING, NESTED, PARAMETER, PRIORITIES,
+    ASSERTING, BLOCKING, CHOOSING, DISPATCHED, DROPPING, HOOKING, NESTED, PARAMETER, PRIORITIES,
 };
 
 /// Nothing is asked.
-const NOTHING: Script = Script {
+pub const NOTHING: Script = Script {
     plan: NESTED,
     callers: &["k"],
     steps: 50,
@@ -21,9 +21,9 @@ const NOTHING: Script = Script {
     turns: &[],
 };
 
-const PORT_0: Point = Point::Port { port: 0, number: 0 };
+pub const PORT_0: Point = Point::Port { port: 0, number: 0 };
 
-const PORT_1: Point = Point::Port { port: 1, number: 0 };
+pub const PORT_1: Point = Point::Port { port: 1, number: 0 };
 
 const PORT_2: Point = Point::Port { port: 2, number: 0 };
 
@@ -40,7 +40,7 @@ const SYNC: Point = Point::Command(0);
 
 const GUARDED: Point = Point::Command(1);
 
-const LATER: Point = Point::Command(2);
+pub const LATER: Point = Point::Command(2);
 
 const SET: Point = Point::Command(3);
 

@@ -1,3 +1,4 @@
+use crate::cells::hooked::{GUARD_HOOKED, HOOK_DISPATCHES, HOOK_UNHANDLED};
 use crate::cells::playing::all_differences;
 use crate::cells::tables::{
     CHOICES, GREATEST_FIRST, GUARD, HELD_AND_SAME, LIMIT, NESTED_STATES, SECOND_ASSERTED,
@@ -43,6 +44,18 @@ fn second_hooked(rt: HostRuntime) -> Result<(), Fail> {
 }
 
 #[test]
+fn hook_dispatches(rt: HostRuntime) -> Result<(), Fail> {
+    assert_eq!(rt; all_differences(rt.alloc(), &HOOK_DISPATCHES)?.as_str(), "");
+    Ok(())
+}
+
+#[test]
+fn hook_unhandled(rt: HostRuntime) -> Result<(), Fail> {
+    assert_eq!(rt; all_differences(rt.alloc(), &HOOK_UNHANDLED)?.as_str(), "");
+    Ok(())
+}
+
+#[test]
 fn second_waits(rt: HostRuntime) -> Result<(), Fail> {
     assert_eq!(rt; all_differences(rt.alloc(), &SECOND_WAITS)?.as_str(), "");
     Ok(())
@@ -81,6 +94,12 @@ fn wired(rt: HostRuntime) -> Result<(), Fail> {
 #[test]
 fn guard(rt: HostRuntime) -> Result<(), Fail> {
     assert_eq!(rt; all_differences(rt.alloc(), &GUARD)?.as_str(), "");
+    Ok(())
+}
+
+#[test]
+fn guard_hooked(rt: HostRuntime) -> Result<(), Fail> {
+    assert_eq!(rt; all_differences(rt.alloc(), &GUARD_HOOKED)?.as_str(), "");
     Ok(())
 }
 
