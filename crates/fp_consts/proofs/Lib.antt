@@ -11,7 +11,7 @@ mod Arms
 mod Grounded
 mod Marked
 mod Counted
-mod Valued
+pub mod Valued
 mod Tabled
 mod Grouped
 mod Evaluated
