@@ -96,7 +96,10 @@ fn add_number(alloc: Global, value: &Value, out: &mut Text) -> Result<(), NoMemo
 
 fn add_size(alloc: Global, size: Option<u32>, out: &mut Text) -> Result<(), NoMemory> {
     match size {
-        Some(size) => push_all(out, &["[", numeral(alloc, size as u64)?.as_str(), "] "]),
+        Some(size) => {
+            let number = numeral(alloc, size as u64)?;
+            push_all(out, &["[", number.as_str(), "] "])
+        }
         None => Ok(()),
     }
 }
@@ -138,7 +141,10 @@ fn add_default(alloc: Global, default: &Own, out: &mut Text) -> Result<(), NoMem
     match default {
         Own::Unwritten => Ok(()),
         Own::NoValue => out.push_str(" default none"),
-        Own::Has(value) => push_all(out, &[" default ", printed(alloc, value)?.as_str()]),
+        Own::Has(value) => {
+            let value = printed(alloc, value)?;
+            push_all(out, &[" default ", value.as_str()])
+        }
     }
 }
 
