@@ -3,14 +3,12 @@ use Rattle.std.proofs.Common.{◌≡◌, ℕ, ◌+◌, ◌<◌, ◌⊎◌, List,
 use Rattle.std.proofs.lemmas.Option.{slice_get_within}
 use Rattle.fp_base.specs.declared.refusal.Refusal.{Refusal}
 use Rattle.fp_base.specs.Least.{IsLeast, lesser_of, Either, InFirst, InOne, InSome}
+use Rattle.fp_base.proofs.Spots.{below_or_at}
 use Rattle.fp_base.proofs.Calculus.{least_none, least_either, least_same}
 
 -- of no element
 pub least_first_none : {A : Type 0} (P : ℕ → A → Refusal → Type 0) (xs : List A) → IsLeast (InFirst 0 P xs) None
 least_first_none P xs = least_none (λ f t. absurd (omega arith))
-
-below_or_at : (k n : ℕ) → k < n + 1 → (k < n) ⊎ (k ≡ n)
-below_or_at k n h = grind arith
 
 -- of the element k
 pub least_in_one : {A : Type 0} (P : ℕ → A → Refusal → Type 0) (xs : List A) (k : ℕ) (x : A) (o : Option Refusal)

@@ -7,7 +7,7 @@ use Rattle.fp_graph.specs.declared.stretch.Stretch.{Stretch}
 use Rattle.fp_graph.specs.Graph.{Edge}
 use Rattle.fp_graph.specs.Chains.{IsOnCycle, Chain, alone, longer, IsSorted, AreFlags}
 use Rattle.fp_graph.specs.Depths.{depth_in, IsInStretch, IsDeepest, IsDepth, AreDepths}
-use Rattle.fp_graph.proofs.Places.{same_or_other, before_or_not}
+use Rattle.fp_base.proofs.Spots.{same_or_other, before_or_not}
 
 module _ (stretches : List Stretch) (targets : List ℕ) where
   line_off : {v n : ℕ} → Chain (length stretches) (Edge stretches targets) v n → IsOnCycle (Edge stretches targets) v → ⊥

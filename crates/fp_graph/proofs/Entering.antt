@@ -9,7 +9,7 @@ use Rattle.fp_graph.specs.declared.visit.Frame.{Frame}
 use Rattle.fp_graph.specs.Graph.{Edge}
 use Rattle.fp_graph.specs.Chains.{LeadsThrough}
 use Rattle.fp_graph.specs.Visits.{Among, places, State, Waits, IsDone, IsMet, TargetIs, IsFrame, Stage, entered}
-use Rattle.fp_graph.proofs.Places.{get_set_same, get_set_other, same_or_other, get_push}
+use Rattle.fp_base.proofs.Spots.{get_set_same, get_set_other, same_or_other, get_push}
 use Rattle.fp_graph.proofs.Stages.{place_within, head_within}
 
 module _ (stretches : List Stretch) (targets : List ℕ) (s : State) (v : ℕ) (stretch : Stretch) (stage : Stage stretches targets (Some v) s)

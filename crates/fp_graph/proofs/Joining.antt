@@ -7,7 +7,7 @@ use Rattle.fp_graph.specs.Graph.{Edge}
 use Rattle.fp_graph.specs.Chains.{LeadsThrough}
 use Rattle.fp_graph.specs.Visits.{Among, Falls, places, State, Waits, IsMet, TargetIs, Stage, under, with_heads}
 use Rattle.fp_graph.proofs.Reaching.{Reaches, leads_reaches, reaches_edge}
-use Rattle.fp_graph.proofs.Places.{same_or_other}
+use Rattle.fp_base.proofs.Spots.{same_or_other}
 use Rattle.fp_graph.proofs.Stages.{downs, top_frame, top_edge, head_below_top, top_most}
 
 module _ (stretches : List Stretch) (targets : List ℕ) where

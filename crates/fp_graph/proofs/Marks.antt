@@ -4,7 +4,7 @@ use Rattle.std.proofs.lemmas.Option.{slice_get_within}
 use Rattle.fp_graph.specs.declared.visit.Mark.{Mark}
 use Rattle.fp_graph.specs.declared.visit.Mark.TheVariants.{Done}
 use Rattle.fp_graph.specs.Visits.{Among, marked}
-use Rattle.fp_graph.proofs.Places.{get_set_same, get_set_other, same_or_other}
+use Rattle.fp_base.proofs.Spots.{get_set_same, get_set_other, same_or_other}
 
 pub among_map : {A B : Type 0} (f : A → B) (xs : List A) (y : B) → Among (map f xs) y → (x : A) × Among xs x × (f x ≡ y)
 among_map f [] y h = absurd h

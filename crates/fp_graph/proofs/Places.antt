@@ -1,39 +1,6 @@
 -- Lists by their places.
-use Rattle.std.proofs.Common.{◌≡◌, ◌≢◌, ℕ, zero, suc, ◌+◌, ◌<◌, ◌≤◌, ◌⊎◌, List, [], ◌∷◌, ◌++◌, length, set, take, drop, reverse, Some, slice_get, refl, ap, ◌∙◌, subst, inl, inr, arith}
+use Rattle.std.proofs.Common.{◌≡◌, ℕ, zero, suc, ◌+◌, ◌<◌, ◌≤◌, ◌⊎◌, List, [], ◌∷◌, ◌++◌, length, take, drop, reverse, Some, slice_get, refl, ap, ◌∙◌, subst, inl, inr, arith}
 use Rattle.std.proofs.lemmas.List.{reverse-append}
-
-pub get_set_same : {A : Type 0} (xs : List A) (i : ℕ) (v : A) → i < length xs → slice_get (set xs i v) i ≡ Some v
-get_set_same [] i v h = absurd (omega arith)
-get_set_same (x ∷ xs) zero v h = refl
-get_set_same (x ∷ xs) (suc i) v h = get_set_same xs i v (omega arith)
-
-pub get_set_other : {A : Type 0} (xs : List A) (i j : ℕ) (v : A) → j ≢ i → slice_get (set xs i v) j ≡ slice_get xs j
-get_set_other [] i j v h = refl
-get_set_other (x ∷ xs) zero zero v h = absurd (h refl)
-get_set_other (x ∷ xs) zero (suc j) v h = refl
-get_set_other (x ∷ xs) (suc i) zero v h = refl
-get_set_other (x ∷ xs) (suc i) (suc j) v h = get_set_other xs i j v (omega arith)
-
-pub same_or_other : (i j : ℕ) → (i ≡ j) ⊎ (i ≢ j)
-same_or_other i j = grind arith
-
-pub before_or_not : (i j : ℕ) → (i < j) ⊎ (j ≤ i)
-before_or_not i j = grind arith
-
-pub item_below : {A : Type 0} (xs : List A) (i : ℕ) → i < length xs → (x : A) × (slice_get xs i ≡ Some x)
-item_below [] i h = absurd (omega arith)
-item_below (x ∷ xs) zero h = (x, refl)
-item_below (x ∷ xs) (suc i) h = item_below xs i (omega arith)
-
-pub get_push : {A : Type 0} (xs : List A) (x y : A) (k : ℕ) → slice_get (xs ++ x ∷ []) k ≡ Some y → (slice_get xs k ≡ Some y) ⊎ ((k ≡ length xs) × (x ≡ y))
-get_push [] x y zero e = inr (refl, cc)
-get_push [] x y (suc k) e = cc
-get_push (z ∷ xs) x y zero e = inl e
-get_push (z ∷ xs) x y (suc k) e = go (get_push xs x y k e)
-  where
-    go : (slice_get xs k ≡ Some y) ⊎ ((k ≡ length xs) × (x ≡ y)) → (slice_get xs k ≡ Some y) ⊎ ((suc k ≡ suc (length xs)) × (x ≡ y))
-    go (inl h) = inl h
-    go (inr t) = inr (omega arith, t.1)
 
 pub get_right : {A : Type 0} (xs ys : List A) (y : A) (j k : ℕ) → j ≡ length xs + k → slice_get ys k ≡ Some y → slice_get (xs ++ ys) j ≡ Some y
 get_right [] ys y j k s e = let same : k ≡ j = omega arith in subst (λ (i : ℕ). slice_get ys i ≡ Some y) same e

@@ -10,7 +10,8 @@ use Rattle.fp_graph.specs.Graph.{Edge}
 use Rattle.fp_graph.specs.Chains.{IsOnCycle, one}
 use Rattle.fp_graph.specs.Visits.{Among, places, State, Waits, IsDone, IsMet, IsFrame, Stage, under, with_heads, settled, marked, IsRing}
 use Rattle.fp_graph.proofs.Reaching.{Reaches, leads_reaches, first_edge, kept_or_same}
-use Rattle.fp_graph.proofs.Places.{item_below, get_drop, get_take, take_below, get_right, get_joined, same_or_other, before_or_not}
+use Rattle.fp_base.proofs.Spots.{item_below, same_or_other, before_or_not}
+use Rattle.fp_graph.proofs.Places.{get_drop, get_take, take_below, get_right, get_joined}
 use Rattle.fp_graph.proofs.Marks.{marked_length, marked_other, marked_same}
 use Rattle.fp_graph.proofs.Stages.{downs, ups, top_frame}
 use Rattle.fp_graph.proofs.Joining.{no_wait}

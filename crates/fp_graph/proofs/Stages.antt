@@ -7,7 +7,7 @@ use Rattle.fp_graph.specs.declared.visit.Frame.{Frame}
 use Rattle.fp_graph.specs.Graph.{Edge}
 use Rattle.fp_graph.specs.Visits.{Among, Falls, places, State, Waits, IsDone, IsMet, TargetIs, IsFrame, Stage, under, moved}
 use Rattle.fp_graph.proofs.Reaching.{Reaches, reaches_leads, leads_reaches}
-use Rattle.fp_graph.proofs.Places.{item_below, same_or_other}
+use Rattle.fp_base.proofs.Spots.{item_below, same_or_other}
 use Rattle.fp_graph.proofs.Marks.{among_map}
 
 pub top_most : (x : ℕ) (xs : List ℕ) → Falls (x ∷ xs) → (y : ℕ) → Among (x ∷ xs) y → y ≤ x

@@ -11,7 +11,8 @@ use Rattle.fp_graph.specs.Graph.{Edge}
 use Rattle.fp_graph.specs.Chains.{LeadsThrough, IsOnCycle, IsSorted}
 use Rattle.fp_graph.specs.Visits.{Among, Falls, places, State, IsDone, Stage, Seen, Progress, under, moved, entered, with_heads, settled, marked, IsRing, IsStep, IsResting, begun, is_cyclic, waiting}
 use Rattle.fp_graph.proofs.Reaching.{reaches_edge}
-use Rattle.fp_graph.proofs.Places.{get_set_same, get_set_other, same_or_other, item_below, reverse_push_as}
+use Rattle.fp_base.proofs.Spots.{get_set_same, get_set_other, same_or_other, item_below}
+use Rattle.fp_graph.proofs.Places.{reverse_push_as}
 use Rattle.fp_graph.proofs.Stages.{ups, top_edge, top_frame, head_below_top, moved_on, met_then, any_pending}
 use Rattle.fp_graph.proofs.Entering.{entered_stage}
 use Rattle.fp_graph.proofs.Joining.{joined_stage, all_heads, left_stage}

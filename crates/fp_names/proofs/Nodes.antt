@@ -5,21 +5,10 @@ use Rattle.std.specs.Str.{bytes_eq}
 use Rattle.std.proofs.lemmas.Option.{slice_get_read}
 use Rattle.std.proofs.lemmas.List.{length-set, length-append}
 use Rattle.std.proofs.lemmas.Slice.Eq.{bytes_eq-Decides}
+use Rattle.fp_base.proofs.Spots.{get_set_same, get_set_other}
 use Rattle.fp_names.specs.declared.tree.Node.{Node}
 use Rattle.fp_names.specs.Tree.{next_of, meaning_of, step, meaning_at, IsLeaf, LeadsOn, Grows}
 use Rattle.fp_names.proofs.Lists.{nat_or_not}
-
-pub get_set_same : {A : Type 0} (xs : List A) (i : ℕ) (v : A) → i < length xs → slice_get (set xs i v) i ≡ Some v
-get_set_same [] i v h = absurd (omega arith)
-get_set_same (x ∷ xs) zero v h = refl
-get_set_same (x ∷ xs) (suc i) v h = get_set_same xs i v (omega arith)
-
-pub get_set_other : {A : Type 0} (xs : List A) (i j : ℕ) (v : A) → (j ≡ i → ⊥) → slice_get (set xs i v) j ≡ slice_get xs j
-get_set_other [] i j v h = refl
-get_set_other (x ∷ xs) zero zero v h = absurd (h refl)
-get_set_other (x ∷ xs) zero (suc j) v h = refl
-get_set_other (x ∷ xs) (suc i) zero v h = refl
-get_set_other (x ∷ xs) (suc i) (suc j) v h = get_set_other xs i j v (λ e. h (ap suc e))
 
 -- a leaf at the end changes nothing
 pub leaf_steps : (nodes : List Node) (leaf : Node) (k : ℕ) (name : List ℕ) → IsLeaf leaf → step (nodes ++ leaf ∷ []) k name ≡ step nodes k name

@@ -7,7 +7,7 @@ use Rattle.std.specs.Ordering.{int_eq}
 use Rattle.std.proofs.lemmas.Bool.Decides.{nat_tests}
 use Rattle.std.proofs.lemmas.Option.{slice_get-get_or, slice_get_within}
 use Rattle.fp_base.specs.declared.refusal.Refusal.{Refusal}
-use Rattle.fp_base.proofs.Bools.{join, not_true}
+use Rattle.fp_base.proofs.Bools.{join, not_true, or_cases, or_left, or_right}
 use Rattle.fp_base.proofs.Options.{same_some}
 use Rattle.fp_numbering.specs.declared.tips.Tip.{Tip}
 use Rattle.fp_numbering.specs.declared.origins.Origin.{Origin}
@@ -21,7 +21,7 @@ use Rattle.fp_numbering.specs.Keys.{linked, is_of_key}
 use Rattle.fp_numbering.specs.Origins.{no_tip, no_origin, IsOrigin, AreOrigins, AreLanes}
 use Rattle.fp_numbering.specs.Looks.{is_lone, look_of, AreLooks, key_of, is_in, is_lone_in, heads_in, first_from, said_in, noted, said_part, first_part, AreFound}
 use Rattle.fp_numbering.proofs.Unique.{both_left, both_right}
-use Rattle.fp_numbering.proofs.Joining.{Member, or_cases, or_left, or_right, covered}
+use Rattle.fp_numbering.proofs.Joining.{Member, covered}
 use Rattle.fp_numbering.proofs.Keying.{same_number, number_same, alike_is, alike_from, alike_through, of_contains, to_places, to_flat, to_pairs_at, linked_through, all_related, all_of_key, one_key, one, IsMatched}
 use Rattle.fp_numbering.proofs.Partnering.{contained}
 use Rattle.fp_numbering.proofs.Setwise.{same_truth, written_from, to_written, gives, gives_back, same_option_of, no_members, members_none}

@@ -4,14 +4,14 @@ use Rattle.std.specs.Prelude.{flat_map, filter, ◌==◌, ◌↔◌}
 use Rattle.std.specs.List.{list_any, list_all, Contains}
 use Rattle.std.proofs.lemmas.Bool.Decides.{nat_tests}
 use Rattle.fp_tables.specs.Lists.{some_and}
-use Rattle.fp_base.proofs.Bools.{join, not_true}
+use Rattle.fp_base.proofs.Bools.{join, not_true, or_cases, or_left, or_right}
 use Rattle.fp_numbering.specs.declared.tips.Tip.{Tip}
 use Rattle.fp_numbering.specs.Ends.{at_one_port}
 use Rattle.fp_numbering.specs.Numbers.{is_at_port_of}
 use Rattle.fp_numbering.specs.Pairs.{has, places_from, are_alike, is_at, matches_at, paired_by, pairs_at, pairs, alike_at, is_whole_by, is_whole}
 use Rattle.fp_numbering.specs.Keys.{linked, is_of_key, IsWholeClass}
 use Rattle.fp_numbering.proofs.Unique.{both_left, both_right}
-use Rattle.fp_numbering.proofs.Joining.{Member, or_cases, or_left, or_right, of_filter, to_filter, joined_related, closed}
+use Rattle.fp_numbering.proofs.Joining.{Member, of_filter, to_filter, joined_related, closed}
 
 -- ---- lists
 

@@ -7,13 +7,12 @@ use Rattle.fp_base.specs.declared.refusal.Refusal.{Refusal}
 use Rattle.fp_base.specs.declared.rule.Rule.TheVariants.{MatchPairMissing, MatchPairRepeated}
 use Rattle.fp_base.specs.Least.{IsLeast, broken_at}
 use Rattle.fp_base.proofs.Calculus.{least_if, least_along, least_same}
-use Rattle.fp_base.proofs.Bools.{join, not_true}
+use Rattle.fp_base.proofs.Bools.{join, not_true, or_cases, or_left, or_right}
 use Rattle.fp_numbering.specs.declared.tips.Tip.{Tip}
 use Rattle.fp_numbering.specs.Pairs.{is_at, are_alike, alike_at}
 use Rattle.fp_numbering.specs.Broken.{IsMissing, IsRepeated}
 use Rattle.fp_numbering.specs.Partners.{is_seen, lacks, is_alone, is_one_more}
 use Rattle.fp_numbering.proofs.Unique.{both_left, both_right}
-use Rattle.fp_numbering.proofs.Joining.{or_cases, or_left, or_right}
 use Rattle.fp_numbering.proofs.Keying.{alike_is, alike_back}
 use Rattle.fp_numbering.proofs.Beginning.{any_at, found_any}
 

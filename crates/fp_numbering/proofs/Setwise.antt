@@ -8,12 +8,12 @@ use Rattle.std.proofs.lemmas.Cmp.{int_eq_equiv}
 use Rattle.std.proofs.lemmas.Bool.Decides.{nat_tests}
 use Rattle.std.proofs.lemmas.Int.{ints}
 use Rattle.fp_tables.specs.Lists.{some_and}
-use Rattle.fp_base.proofs.Bools.{join}
+use Rattle.fp_base.proofs.Bools.{join, or_cases, or_left, or_right}
 use Rattle.fp_numbering.specs.declared.tips.Tip.{Tip}
 use Rattle.fp_numbering.specs.Ends.{written_number, at_one_port}
 use Rattle.fp_numbering.specs.Pairs.{has, places_from, is_at_first, matches_at, is_whole_by, is_whole, written_in, given_by, given, is_unwritten, first_of}
 use Rattle.fp_numbering.specs.Numbers.{is_at_port_of}
-use Rattle.fp_numbering.proofs.Joining.{Member, or_cases, or_left, or_right}
+use Rattle.fp_numbering.proofs.Joining.{Member}
 use Rattle.fp_numbering.proofs.Unique.{both_left, both_right}
 
 same_number : (m n : ℕ) → (m == n) ≡ true → m ≡ n

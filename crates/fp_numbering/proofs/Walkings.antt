@@ -5,7 +5,7 @@ use Rattle.std.specs.Option.{option_map}
 use Rattle.fp_tables.specs.declared.topology.Written.{Written}
 use Rattle.std.proofs.lemmas.Bool.Decides.{nat_tests}
 use Rattle.std.proofs.lemmas.Option.{slice_get-get_or, slice_get_within}
-use Rattle.fp_base.proofs.Bools.{join}
+use Rattle.fp_base.proofs.Bools.{join, or_cases, or_left, or_right}
 use Rattle.fp_numbering.specs.declared.tips.Tip.{Tip}
 use Rattle.fp_numbering.specs.declared.origins.Origin.{Origin}
 use Rattle.fp_numbering.specs.Ends.{number_below, at_one_port}
@@ -16,7 +16,7 @@ use Rattle.fp_numbering.specs.Keys.{linked}
 use Rattle.fp_numbering.specs.Walks.{source_by, plain_source, AreAllGiven}
 use Rattle.fp_numbering.specs.Origins.{no_tip, no_origin, IsOrigin, AreOrigins, put, is_first, lane_tip, as_integer, settled, port_tip, AreMade, AreLanes}
 use Rattle.fp_numbering.proofs.Unique.{both_left, both_right}
-use Rattle.fp_numbering.proofs.Joining.{Member, or_cases, or_left, or_right}
+use Rattle.fp_numbering.proofs.Joining.{Member}
 use Rattle.fp_numbering.proofs.Keying.{same_number, number_same, alike_is, ports_to, one_key}
 use Rattle.fp_numbering.proofs.Giving.{least_same}
 use Rattle.fp_numbering.proofs.Plain.{plain, numbered}

@@ -7,7 +7,7 @@ use Rattle.fp_tables.specs.Lists.{all_from, if_some, some_and}
 use Rattle.fp_tables.specs.Positions.{is_state, is_inside, stands_in_order, are_in_preorder}
 use Rattle.fp_sound_machines.specs.Behind.{join_spans, span, span_is_inside}
 use Rattle.fp_tables.specs.declared.machine.Vertex.{Vertex}
-use Rattle.fp_base.proofs.Bools.{both}
+use Rattle.fp_base.proofs.Bools.{both, or_cases}
 use Rattle.fp_sound_machines.proofs.Nesting.{parent}
 
 all_at : {A : Type 0} (f : ℕ → A → Bool) (n k p : ℕ) (xs : List A) (x : A) → p ≡ n + k → all_from f n xs ≡ true → slice_get xs k ≡ Some x → f p x ≡ true
@@ -26,10 +26,6 @@ data Stands (vs : List Vertex) : ℕ → ℕ → Type 0 where
 through : (vs : List Vertex) (v q p : ℕ) → Stands vs v q → Stands vs q p → Stands vs v p
 through vs _ _ p (once v q e) h = again v q p e h
 through vs _ _ p (again v r q e s) h = again v r p e (through vs r q p s h)
-
-or_cases : (a b : Bool) → (a || b) ≡ true → (a ≡ true) ⊎ (b ≡ true)
-or_cases true b h = inl refl
-or_cases false b h = inr h
 
 module _ (vs : List Vertex) where
   from_inside : (n v p : ℕ) → is_inside vs n v p ≡ true → Stands vs v p

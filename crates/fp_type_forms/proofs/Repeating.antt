@@ -4,6 +4,7 @@ use Rattle.std.specs.BTreeSet.{contains_by}
 use Rattle.std.specs.Ordering.{int_cmp}
 use Rattle.std.proofs.lemmas.Bool.Decides.{Decides-int_eq}
 use Rattle.std.proofs.lemmas.List.{take_all}
+use Rattle.fp_base.proofs.Bools.{or_cases, or_left, or_right}
 use Rattle.fp_base.proofs.Calculus.{least_none, least_only, least_along}
 use Rattle.fp_base.proofs.Elements.{least_first_none, least_first_next, least_in_one}
 use Rattle.fp_base.proofs.Options.{same_some}
@@ -55,18 +56,6 @@ module _ (source : Source) (scope : Path) (d : Enum) where
       → IsLeast (IsRepeated source scope d k c) (repeat_of c.name.at.first seen o)
   least_repeat k c None seen only has = least_none (λ f t. no_some (only.only t.1 t.2))
   least_repeat k c (Some n) seen only has = repeat_tested k c n seen only has (contains_by (int_cmp n) seen) refl
-
-  or_cases : (a b : Bool) → (a || b) ≡ true → (a ≡ true) ⊎ (b ≡ true)
-  or_cases true b h = inl refl
-  or_cases false b h = inr h
-
-  or_left : (a b : Bool) → a ≡ true → (a || b) ≡ true
-  or_left true b h = refl
-  or_left false b h = not_both h refl
-
-  or_right : (a b : Bool) → b ≡ true → (a || b) ≡ true
-  or_right true b h = refl
-  or_right false b h = h
 
   number_seen : (o : Option ℤ) (q : ℤ) → is_number q o ≡ true → o ≡ Some q
   number_seen None q h = not_both h refl

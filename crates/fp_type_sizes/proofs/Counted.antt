@@ -19,7 +19,8 @@ use Rattle.fp_type_sizes.specs.Sizes.{IsPlain, HasForm, IsAlias, IsInteger, Ends
 use Rattle.fp_type_sizes.specs.Found.{IsTypeOrder, IsSize, IsExtent, AreExtents}
 use Rattle.fp_type_sizes.specs.Sized.{joined, leaf, kind_extent, is_integer_kind, ends_in_integer, times, beside, within, with_end, size_in, member_size, AreSoundExtents, MissesNone, MissesNoUse, FindsSize, FindsExtent, SizedFirst}
 use Rattle.fp_type_sizes.proofs.OneSize.{one_form}
-use Rattle.fp_type_sizes.proofs.Places.{get_set_same, get_set_other, same_or_other, before_or_not, no_some}
+use Rattle.fp_base.proofs.Spots.{get_set_same, get_set_other, same_or_other, before_or_not}
+use Rattle.fp_type_sizes.proofs.Places.{no_some}
 
 -- ---- numbers that stop
 

@@ -18,7 +18,8 @@ use Rattle.fp_type_sizes.specs.Found.{UsesType, IsTypeOrder}
 use Rattle.fp_type_sizes.specs.Found as found
 use Rattle.fp_type_sizes.specs.Earlier.{is_not_later, form_uses_earlier, uses_earlier, AreNumbers}
 use Rattle.fp_type_sizes.proofs.NoCycle.{no_cycle}
-use Rattle.fp_type_sizes.proofs.Places.{get_below, get_push, before_or_not, no_some}
+use Rattle.fp_base.proofs.Spots.{item_below, get_push, before_or_not}
+use Rattle.fp_type_sizes.proofs.Places.{no_some}
 
 -- ---- numbers
 
@@ -73,7 +74,7 @@ module _ (ws : List WrittenType) (earlier : uses_earlier ws ≡ true) (order : L
 
   stands : (v : ℕ) → v < length ws → slice_get order v ≡ Some v
   stands v lt =
-      let p = get_below order v (let e = are.each in omega arith) in
+      let p = item_below order v (let e = are.each in omega arith) in
       p.1 ∙ ap (λ (x : ℕ). Some x) (are.at v p.0 p.1)
 
   pub ordered_as_they_stand : IsTypeOrder ws order

@@ -19,7 +19,8 @@ use Rattle.fp_type_sizes.specs.Found.{UsesType, IsSize, AreExtents}
 use Rattle.fp_type_sizes.specs.Sized.{kind_extent, is_few, is_few_if, AreSoundExtents, MissesNone}
 use Rattle.fp_type_sizes.proofs.OneSize.{one_form, one_size}
 use Rattle.fp_type_sizes.proofs.Counted.{kind_holds, kind_only, formed}
-use Rattle.fp_type_sizes.proofs.Places.{get_below, no_some}
+use Rattle.fp_base.proofs.Spots.{item_below}
+use Rattle.fp_type_sizes.proofs.Places.{no_some}
 
 -- ---- at least one level
 
@@ -90,7 +91,7 @@ module _ (ws : List WrittenType) where
     misses_none ks n j a b e m =
         let f = formed ws j a b m in
         let lt : j < length table = subst (λ (x : ℕ). j < x) (sym are.each) (slice_get_within ws j f.1.written f.1.here) in
-        let o = get_below table j lt in
+        let o = item_below table j lt in
         let x = (are.at j o.0 o.1).only a b m in
         (x.0, o.1 ∙ ap (λ (y : Option TypeExtent). Some y) x.1)
 

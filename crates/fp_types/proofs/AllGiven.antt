@@ -18,7 +18,8 @@ use Rattle.fp_type_sizes.specs.Found.{UsesType, LeadsTo}
 use Rattle.fp_type_sizes.specs.Found as found
 use Rattle.fp_type_sizes.proofs.OneSize.{one_form}
 use Rattle.fp_type_sizes.proofs.NoCycle.{no_cycle}
-use Rattle.fp_type_sizes.proofs.Places.{get_below, no_some}
+use Rattle.fp_base.proofs.Spots.{item_below}
+use Rattle.fp_type_sizes.proofs.Places.{no_some}
 use Rattle.fp_types.specs.Converting.{DefaultIs}
 use Rattle.fp_types.specs.WellWritten.{AllGiven}
 use Rattle.fp_types.proofs.Passed.{default_of_size}
@@ -60,7 +61,7 @@ module _ (ws : List WrittenType) (types : List TypeDef) (are : AllGiven ws types
   pub type_there : (i : ℕ) (f : Form) → HasForm ws i f → (d : TypeDef) × (slice_get types i ≡ Some d) × (d.form ≡ f)
   type_there i f h =
       let long : i < length types = subst (λ (n : ℕ). i < n) (sym are.each ∙ length-map types (λ (x : TypeDef). Some x)) (slice_get_within ws i h.written h.here) in
-      let p = get_below types i long in
+      let p = item_below types i long in
       (p.0, p.1, one_form (given_at i p.0 p.1).0 h)
 
   pub form_in : (i : ℕ) (f : Form) → HasForm ws i f → form_at types i ≡ Some f

@@ -1,5 +1,4 @@
 mod OneResult
-mod Firsts
 mod Inverting
 mod Made
 mod Loops

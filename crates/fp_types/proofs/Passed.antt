@@ -33,7 +33,8 @@ use Rattle.fp_types.proofs.OneResult.{one_result, one_default, one_own}
 use Rattle.fp_type_sizes.proofs.Counted.{formed}
 use Rattle.fp_type_sizes.proofs.Limits.{HasSize, used_sized, sized_is, form_measured, of_struct, of_alias}
 use Rattle.fp_types.proofs.Opening.{each_full, result_of_size}
-use Rattle.fp_type_sizes.proofs.Places.{get_set_same, get_set_other, same_or_other, get_below, get_push, no_some}
+use Rattle.fp_base.proofs.Spots.{get_set_same, get_set_other, same_or_other, item_below, get_push}
+use Rattle.fp_type_sizes.proofs.Places.{no_some}
 
 -- ---- what leads to what
 
@@ -260,7 +261,7 @@ has_default ws table are i w d =
     let s = default_of_size ws i w d in
     let f = formed ws i s.0 s.1 s.2 in
     let lt : i < length table = subst (λ (x : ℕ). i < x) (sym are.each) (slice_get_within ws i f.1.written f.1.here) in
-    let o = get_below table i lt in
+    let o = item_below table i lt in
     o.1 ∙ ap (λ (y : Option Value). Some y) ((are.at i o.0 o.1).only w d)
 
 pub converts_if : (ws : List WrittenType) (table : List (Option Value)) → AreDefaults ws table → (v : Value) (k : Kind) (o : Option Value)

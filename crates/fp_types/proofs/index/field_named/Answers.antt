@@ -1,7 +1,7 @@
 use Rattle.std.proofs.Common.{sym, ◌∙◌}
 use Rattle.std.specs.Str.{bytes_eq}
 use Rattle.fp_tables.specs.declared.kind.Field.{Field}
-use Rattle.fp_types.proofs.Firsts.{found_some, found_none}
+use Rattle.fp_tables.proofs.Firsts.{found_some, found_none}
 use Rattle.fp_types.proofs.index.field_named.Goals as goal
 
 pub returns-in-None : goal.returns-in-None

@@ -4,7 +4,8 @@ use Rattle.std.proofs.lemmas.Slice.Eq.{bytes_eq-Decides}
 use Rattle.std.specs.String.{string_bytes}
 use Rattle.std.specs.Str.{bytes_eq}
 use Rattle.std.specs.BTreeMap.{get_by_text}
-use Rattle.fp_types.proofs.Firsts.{position_at, filled, kept, none_of}
+use Rattle.fp_base.proofs.Options.{none_of}
+use Rattle.fp_tables.proofs.Firsts.{position_at, filled, kept}
 use Rattle.fp_base.specs.declared.value.Part.{Part}
 use Rattle.fp_types.proofs.index.places_of_parts.Goals as goal
 use Rattle.fp_types.proofs.index.places_of_parts.Goals.{then-not-contains_key+in_ok-from_str+in_ok-insert, else-not-contains_key}
