@@ -70,3 +70,13 @@ pub fn copy_optional_str(alloc: Global, literal: &Option<Str>) -> Result<Option<
         None => Ok(None),
     }
 }
+
+/// A copy of a qualified name, where there is one.
+pub fn copy_optional_qualified(alloc: Global, name: &Option<Qual>) -> Result<Option<Qual>, NoMemory>
+    ensures { IfOk result (λ copy. copy ≡ name.now) }
+{
+    match name {
+        Some(name) => Ok(Some(name.copy(alloc)?)),
+        None => Ok(None),
+    }
+}
