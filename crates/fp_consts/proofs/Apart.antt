@@ -1,16 +1,9 @@
 -- A name or an expression that stands beside the values of definitions belongs to a definition that has no value.
 use Rattle.std.proofs.Common.{◌≡◌, ℕ, suc, ◌+◌, ◌-◌, List, [], ◌∷◌, ◌++◌, length, map, flat_map, slice_get, Option, Some, None, refl, sym, ap, subst, ◌∙◌, arith, length-append, append_assoc}
 use Rattle.std.proofs.lemmas.List.{append-nil}
-use Rattle.std.proofs.lemmas.List.Folds.{flat_map-map}
 use Rattle.std.proofs.lemmas.Grind.{flat_map-append}
 use Rattle.fp_base.proofs.Lists.{get_front, get_last}
 use Rattle.fp_tree.specs.declared.source.Source.{Source}
-use Rattle.fp_tree.specs.declared.member.Unit.{Unit as File}
-use Rattle.fp_tree.specs.declared.member.Member.{Member, Member-F}
-use Rattle.fp_tree.specs.declared.member.Member.TheFolds.{fold-Member, fold-Module, fold-roll-Member, fold-roll-Module, ind-Member, map-Member, map-Module}
-use Rattle.fp_tree.specs.declared.member.Member.TheOpen as open_member
-use Rattle.fp_tree.specs.declared.member.Member.TheViews.{roll-Member, roll-Module}
-use Rattle.fp_tree.specs.declared.member.Module.{Module, Module-F}
 use Rattle.fp_tree.specs.declared.definition.Def.{Def}
 use Rattle.fp_tree.specs.declared.definition.Def.TheVariants as def
 use Rattle.fp_tree.specs.declared.definition.Enum.{Enum}
@@ -24,7 +17,8 @@ use Rattle.fp_tree.specs.declared.part.Formal.{Formal}
 use Rattle.fp_meaning.specs.declared.item.Item.{Item}
 use Rattle.fp_meaning.specs.declared.item.Item.TheVariants as item
 use Rattle.fp_meaning.specs.Sites.{Path, in_optional}
-use Rattle.fp_meaning.specs.Layout.{expression_items, type_form_items, type_items, field_items, formal_items, constant_items, enum_items, items_in, member_step, module_step, in_member, in_members, items}
+use Rattle.fp_meaning.specs.Layout.{expression_items, type_form_items, type_items, field_items, formal_items, constant_items, enum_items, items_in, items}
+use Rattle.fp_meaning.proofs.Throughout.{all_items}
 use Rattle.fp_meaning.specs.Origins.{Origin, NoValue, origins_of}
 
 -- of items behind definitions with these origins
@@ -182,63 +176,6 @@ def_apart before scope (def.Port d) =
 
 -- ---- in a whole source
 
-abbrev in_module : Path → Module → List Item
-in_module scope m = fold-Module (Path → List Item) (Path → List Item) member_step module_step m scope
-
-abbrev MemberApart : Member → Type 0
-MemberApart m = (scope : Path) (before : List Origin) → AreApart before (in_member scope m)
-
-abbrev ModuleApart : Module → Type 0
-ModuleApart m = (scope : Path) (before : List Origin) → AreApart before (in_module scope m)
-
-inner_apart : (ms : List ((m : Member) × MemberApart m)) (scope : Path) (before : List Origin) → AreApart before (in_members scope (map (λ e. e.0) ms))
-inner_apart [] scope before = tt
-inner_apart (e ∷ ms) scope before = apart_both before (in_member scope e.0) (in_members scope (map (λ x. x.0) ms)) (e.1 scope before) (inner_apart ms scope _)
-
-module_rolled : (m : Module) (scope : Path) → in_member scope (roll-Member (open_member.Module m)) ≡ in_module scope m
-module_rolled m scope =
-    ap (λ (h : Path → List Item). h scope) (fold-roll-Member (Path → List Item) (Path → List Item) member_step module_step (open_member.Module m))
-
-members_rolled : (x : Module-F Member Module) (scope : Path) → in_module scope (roll-Module x) ≡ in_members (scope ++ x.name.text ∷ []) x.members
-members_rolled x scope =
-    ap (λ (h : Path → List Item). h scope) (fold-roll-Module (Path → List Item) (Path → List Item) member_step module_step x)
-    ∙ flat_map-map (λ (inner : Path → List Item). inner (scope ++ x.name.text ∷ []))
-    (fold-Member (Path → List Item) (Path → List Item) member_step module_step) x.members
-
-other_rolled : (x : Member-F Member Module) (scope : Path)
-    → in_member scope (roll-Member x) ≡ member_step (map-Member _ _ _ _ (fold-Member (Path → List Item) (Path → List Item) member_step module_step) (fold-Module (Path → List Item) (Path → List Item) member_step module_step) x) scope
-other_rolled x scope = ap (λ (h : Path → List Item). h scope) (fold-roll-Member (Path → List Item) (Path → List Item) member_step module_step x)
-
-by_module : (y : Module-F ((m : Member) × MemberApart m) ((m : Module) × ModuleApart m)) → ModuleApart (roll-Module (map-Module _ _ _ _ (λ e. e.0) (λ e. e.0) y))
-by_module y scope before =
-    let x : Module-F Member Module = map-Module _ _ _ _ (λ e. e.0) (λ e. e.0) y in
-    subst (λ (is : List Item). AreApart before is) (sym (members_rolled x scope)) (inner_apart y.members (scope ++ x.name.text ∷ []) before)
-
-by_member : (y : Member-F ((m : Member) × MemberApart m) ((m : Module) × ModuleApart m)) → MemberApart (roll-Member (map-Member _ _ _ _ (λ e. e.0) (λ e. e.0) y))
-by_member (open_member.Module e) scope before = subst (λ (is : List Item). AreApart before is) (sym (module_rolled e.0 scope)) (e.1 scope before)
-by_member (open_member.Def d) scope before = subst (λ (is : List Item). AreApart before is) (sym (other_rolled (open_member.Def d) scope)) (def_apart before scope d)
-by_member (open_member.Include i) scope before = subst (λ (is : List Item). AreApart before is) (sym (other_rolled (open_member.Include i) scope)) tt
-by_member (open_member.Locate l) scope before = subst (λ (is : List Item). AreApart before is) (sym (other_rolled (open_member.Locate l) scope)) tt
-
-member_layer : (x : Member-F Member Module) (y : Member-F ((m : Member) × MemberApart m) ((m : Module) × ModuleApart m)) → map-Member _ _ _ _ (λ e. e.0) (λ e. e.0) y ≡ x
-    → MemberApart (roll-Member x)
-member_layer x y is = subst (λ (z : Member-F Member Module). MemberApart (roll-Member z)) is (by_member y)
-
-module_layer : (x : Module-F Member Module) (y : Module-F ((m : Member) × MemberApart m) ((m : Module) × ModuleApart m)) → map-Module _ _ _ _ (λ e. e.0) (λ e. e.0) y ≡ x
-    → ModuleApart (roll-Module x)
-module_layer x y is = subst (λ (z : Module-F Member Module). ModuleApart (roll-Module z)) is (by_module y)
-
-member_apart : (m : Member) → MemberApart m
-member_apart = ind-Member MemberApart ModuleApart member_layer module_layer
-
-members_apart : (ms : List Member) (scope : Path) (before : List Origin) → AreApart before (in_members scope ms)
-members_apart [] scope before = tt
-members_apart (m ∷ ms) scope before = apart_both before (in_member scope m) (in_members scope ms) (member_apart m scope before) (members_apart ms scope _)
-
-files_apart : (us : List File) (before : List Origin) → AreApart before (flat_map (λ (u : File). in_members [] u.members) us)
-files_apart [] before = tt
-files_apart (u ∷ us) before =
-    apart_both before (in_members [] u.members) (flat_map (λ (x : File). in_members [] x.members) us) (members_apart u.members [] before) (files_apart us _)
-
 pub source_apart : (source : Source) → AreApart [] (items source)
-source_apart source = files_apart source.units []
+source_apart source =
+    all_items (λ is. (before : List Origin) → AreApart before is) (λ before. tt) (λ xs ys h k before. apart_both before xs ys (h before) (k _)) (λ scope d before. def_apart before scope d) source []

@@ -14,7 +14,7 @@ use Rattle.fp_meaning.specs.Names.{definitions, mentions, uses_of}
 use Rattle.fp_meaning.specs.Origins.{Placed, expressions, expressions_of}
 use Rattle.fp_meaning.specs.Uses.{BrokenByChains}
 use Rattle.fp_base.proofs.Calculus.{least_either}
-use Rattle.fp_graph.proofs.Places.{item_below}
+use Rattle.fp_base.proofs.Spots.{item_below}
 use Rattle.fp_consts.specs.declared.marking.Marking.{Marking}
 use Rattle.fp_consts.specs.declared.measured.Measured.{Measured}
 use Rattle.fp_consts.specs.Examined.{AreGiven}

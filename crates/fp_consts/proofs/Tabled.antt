@@ -20,7 +20,8 @@ use Rattle.fp_consts.specs.Settled.{Settles}
 use Rattle.fp_consts.specs.Tabled.{IsLaidOut, IsDefined, AreExact, AreExactFirst}
 use Rattle.fp_consts.proofs.Grounded.{none_on_cycle}
 use Rattle.fp_consts.proofs.Measures.{none_measured}
-use Rattle.fp_graph.proofs.Places.{get_right, item_below, get_set_same, get_set_other, same_or_other, before_or_not}
+use Rattle.fp_base.proofs.Spots.{item_below, get_set_same, get_set_other, same_or_other, before_or_not}
+use Rattle.fp_graph.proofs.Places.{get_right}
 use Rattle.fp_consts.proofs.Valued.{settled_exact}
 
 -- what an element gives stands in what all give

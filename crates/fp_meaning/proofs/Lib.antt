@@ -1,4 +1,5 @@
 pub mod Walks
+pub mod Throughout
 pub mod Meanings
 pub mod OneValue
 pub mod OneOrigin

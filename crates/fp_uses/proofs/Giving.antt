@@ -4,7 +4,7 @@ use Rattle.std.proofs.lemmas.Bool.{ne_eqb}
 use Rattle.std.proofs.lemmas.Bool.Decides.{eqb_tells}
 use Rattle.std.proofs.lemmas.List.{append-nil, drop_all}
 use Rattle.std.proofs.lemmas.Option.{slice_get_within, get_or_from_slice_get}
-use Rattle.fp_graph.proofs.Places.{item_below, get_push, before_or_not, same_or_other}
+use Rattle.fp_base.proofs.Spots.{item_below, get_push, before_or_not, same_or_other}
 use Rattle.fp_uses.specs.Given.{AreNumbersFrom, AreBegun, given_to, Got, GotOne}
 
 pub nat_eq_true : (u v : ℕ) → u ≡ v → nat_eq u v ≡ true

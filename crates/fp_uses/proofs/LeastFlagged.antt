@@ -8,7 +8,7 @@ use Rattle.fp_base.specs.Least.{broken_at, lesser_of, Either, InOne, InSome, IsL
 use Rattle.fp_base.proofs.Calculus.{least_along, least_either, least_if, least_none, least_same}
 use Rattle.fp_base.proofs.Elements.{least_in_one}
 use Rattle.fp_graph.specs.Chains.{AreFlags, IsOnCycle, Chain}
-use Rattle.fp_graph.proofs.Places.{item_below}
+use Rattle.fp_base.proofs.Spots.{item_below}
 use Rattle.fp_meaning.specs.declared.item.Item.{Item}
 use Rattle.fp_meaning.specs.declared.names.Definition.{Definition}
 use Rattle.fp_meaning.specs.Names.{definitions_of}

@@ -4,7 +4,8 @@ use Rattle.std.proofs.lemmas.Option.{slice_get_within}
 use Rattle.std.proofs.lemmas.Bool.Decides.{eqb_tells}
 use Rattle.fp_base.proofs.Lists.{get_front}
 use Rattle.fp_graph.specs.Rows.{IsListed}
-use Rattle.fp_graph.proofs.Places.{item_below, get_right, get_joined}
+use Rattle.fp_base.proofs.Spots.{item_below}
+use Rattle.fp_graph.proofs.Places.{get_right, get_joined}
 use Rattle.fp_meaning.specs.declared.item.Item.{Item}
 use Rattle.fp_meaning.specs.declared.names.Mention.{Mention}
 use Rattle.fp_meaning.specs.Meaning.{AreMeanings}
