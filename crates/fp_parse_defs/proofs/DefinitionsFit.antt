@@ -6,8 +6,12 @@ use Rattle.fp_grammar.proofs.Sealed.{sealed_good}
 use Rattle.fp_grammar.proofs.Throughout.{fits_whole}
 use Rattle.fp_parse_pieces.specs.Kinds.{kind}
 use Rattle.fp_parse_pieces.proofs.WordsFit.{each_kind}
+use Rattle.fp_parse_defs.specs.Language.{expr}
 use Rattle.fp_parse_defs.specs.Definitions.{type_begins, expr_goes_on, k_size, type_body, type_name, definition}
 use Rattle.fp_parse_defs.proofs.Levels.{kept}
+
+pub expression_good : (depth : ℕ) → RefsGood kind (expr depth)
+expression_good depth = (kept depth).exprs
 
 pub type_body_fits : (depth : ℕ) → FitsThroughout kind (type_body depth)
 type_body_fits depth = let e = (kept depth).exprs in record { predictive = refl; each = refl; refs = assumption (each_kind, e) }

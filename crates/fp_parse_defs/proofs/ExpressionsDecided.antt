@@ -76,3 +76,6 @@ decided (suc depth) = decided_above depth (decided depth)
 
 pub type_decided : (depth : ℕ) → RefsDecided kind (type_name depth)
 type_decided depth = λ tokens from. sealed_answer (type_body depth) type_begins (k_size ∷ expr_goes_on) tokens from (answer_of (type_body depth) (type_body_fits depth).predictive (type_body_fits depth).refs ((tt, (tt, tt)), ((refl, tt, (refl, tt, (decided depth).exprs)), (refl, tt, (refl, tt, tt)))) tokens from)
+
+pub expr_decided : (depth : ℕ) → RefsDecided kind (expr depth)
+expr_decided depth = (decided depth).exprs

@@ -302,3 +302,13 @@ port depth = map made_port (seq (at k_port) (seq name (seq (formals_part depth) 
 -- Def = Constant | Abstract | Alias | Array | Struct | Enum | Port
 abbrev pub definition : ℕ → Grammar Token Def
 definition depth = alt (constant depth) (alt (abstract_or_alias depth) (alt (array depth) (alt (structure depth) (alt (enumeration depth) (port depth)))))
+
+-- a definition with this annotation
+abbrev pub noted_definition : Def → List ℕ → Def
+noted_definition (def.Constant d) note = def.Constant (record { name = d.name; value = d.value; at = d.at; note = note })
+noted_definition (def.Abstract d) note = def.Abstract (record { name = d.name; at = d.at; note = note })
+noted_definition (def.Alias d) note = def.Alias (record { name = d.name; target = d.target; at = d.at; note = note })
+noted_definition (def.Array d) note = def.Array (record { name = d.name; size = d.size; element = d.element; default = d.default; format = d.format; at = d.at; note = note })
+noted_definition (def.Struct d) note = def.Struct (record { name = d.name; fields = d.fields; default = d.default; at = d.at; note = note })
+noted_definition (def.Enum d) note = def.Enum (record { name = d.name; repr = d.repr; constants = d.constants; default = d.default; at = d.at; note = note })
+noted_definition (def.Port d) note = def.Port (record { name = d.name; formals = d.formals; result = d.result; at = d.at; note = note })

@@ -21,6 +21,7 @@ use fp_tree::{
 };
 use std::alloc::Global;
 
+/// A constant.
 pub struct OneConstant;
 
 impl Make for OneConstant {
@@ -53,6 +54,7 @@ impl Piece for OneConstant {
     }
 }
 
+/// An abstract type, or an alias.
 pub struct OneTypeDef;
 
 impl Make for OneTypeDef {
@@ -94,6 +96,7 @@ impl Piece for OneTypeDef {
     }
 }
 
+/// An array type.
 pub struct OneArray;
 
 impl Make for OneArray {
@@ -148,6 +151,7 @@ impl Piece for OneArray {
     }
 }
 
+/// A struct type.
 pub struct OneStruct;
 
 impl Make for OneStruct {
@@ -191,6 +195,7 @@ impl Piece for OneStruct {
     }
 }
 
+/// An enumeration type.
 pub struct OneEnum;
 
 impl Make for OneEnum {
@@ -247,19 +252,13 @@ impl Piece for OneEnum {
     }
 }
 
+/// Formal parameters in parentheses, and where these end; or none.
+pub type FormalsPart = Maybe<Behind<OPEN, Seq<Listed<OneFormal, COMMA>, AtMark<CLOSE>>>>;
+
 pub struct OnePort;
 
 impl Make for OnePort {
-    type Parts = Seq<
-        AtWord<PORT>,
-        Seq<
-            OneName,
-            Seq<
-                Maybe<Behind<OPEN, Seq<Listed<OneFormal, COMMA>, AtMark<CLOSE>>>>,
-                Maybe<Behind<ARROW, OneType>>,
-            >,
-        >,
-    >;
+    type Parts = Seq<AtWord<PORT>, Seq<OneName, Seq<FormalsPart, Maybe<Behind<ARROW, OneType>>>>>;
 
     type Node = Def;
 

@@ -158,6 +158,8 @@ fn type_name(alloc: Global, tokens: &[Token], from: usize, depth: u32) -> Parsed
     TypeBody::read(alloc, tokens, from, depth)
 }
 
+/// What a value is where none is given, if it is said.
 pub type DefaultPart = Maybe<After<DEFAULT, Value>>;
 
+/// A format, if there is one.
 pub type FormatPart = Maybe<After<FORMAT, OneText>>;

@@ -9,8 +9,6 @@ use Rattle.fp_lexer.specs.declared.token.Token.{Token}
 use Rattle.fp_tree.specs.declared.name.Name.{Name}
 use Rattle.fp_tree.specs.declared.name.Qual.{Qual}
 use Rattle.fp_tree.specs.declared.name.Str.{Str}
-use Rattle.fp_tree.specs.declared.definition.Def.{Def}
-use Rattle.fp_tree.specs.declared.definition.Def.TheVariants as def
 use Rattle.fp_tree.specs.declared.member.Member.{Member}
 use Rattle.fp_tree.specs.declared.member.Member.TheVariants as node
 use Rattle.fp_parse_parts.specs.declared.bare.BareMember.{BareMember}
@@ -22,6 +20,7 @@ use Rattle.fp_parse_pieces.specs.Kinds.{kind, k_mark, k_reserved, k_newline, k_o
 use Rattle.fp_parse_pieces.specs.Words.{between, at, name, qual}
 use Rattle.fp_parse_pieces.specs.Lists.{joined, some_of, or_none}
 use Rattle.fp_parse_pieces.specs.Words.{literal_string}
+pub use Rattle.fp_parse_defs.specs.Definitions.{noted_definition}
 use Rattle.fp_parse_defs.specs.Definitions.{definition, expr_goes_on, k_array, k_arrow, k_constant, k_default, k_enum, k_format, k_port, k_size, k_struct, k_type}
 
 abbrev pub k_semicolon : ℕ
@@ -92,16 +91,6 @@ made_locate (at, (of, (before_file, file))) = bare.Locate of file (between at fi
 -- Locate = 'locate' (reserved word)+ Qual 'at' Str
 abbrev pub locate : Grammar Token BareMember
 locate = map made_locate (seq locate_words (seq qual (seq (at k_at) literal_string)))
-
--- a definition with this annotation
-abbrev pub noted_definition : Def → List ℕ → Def
-noted_definition (def.Constant d) note = def.Constant (record { name = d.name; value = d.value; at = d.at; note = note })
-noted_definition (def.Abstract d) note = def.Abstract (record { name = d.name; at = d.at; note = note })
-noted_definition (def.Alias d) note = def.Alias (record { name = d.name; target = d.target; at = d.at; note = note })
-noted_definition (def.Array d) note = def.Array (record { name = d.name; size = d.size; element = d.element; default = d.default; format = d.format; at = d.at; note = note })
-noted_definition (def.Struct d) note = def.Struct (record { name = d.name; fields = d.fields; default = d.default; at = d.at; note = note })
-noted_definition (def.Enum d) note = def.Enum (record { name = d.name; repr = d.repr; constants = d.constants; default = d.default; at = d.at; note = note })
-noted_definition (def.Port d) note = def.Port (record { name = d.name; formals = d.formals; result = d.result; at = d.at; note = note })
 
 -- a member with this annotation
 abbrev pub noted_member : BareMember → List ℕ → Member

@@ -27,7 +27,7 @@ module _ (depth : ℕ) where
   out w b (u, r, es, e, c, k, f) =
       subst (λ l. Spells kind (rest_of_body depth nothing_read) l b) (sym e) (elements_from depth es read.Opening (opened_begins depth) (opened_closes depth) [] 0 [] [] u r [] b k c (refl, f))
 
-  rest_good : RefsGood kind (rest depth)
+  pub rest_good : RefsGood kind (rest depth)
   rest_good =
       let g = from_good (driven depth) nothing_read in
       record {

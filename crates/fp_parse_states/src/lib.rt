@@ -10,5 +10,6 @@ mod partial;
 mod pieces;
 mod transitions;
 
+pub use bodies::RestOfBody;
 pub use laws::{machine_or_break, one_machine, same_bodies, worked_rows};
-pub use machines::parse_machine;
+pub use machines::{machine_of, parse_machine};

@@ -21,6 +21,20 @@ fn closing_or(span: Span, behavior: &Option<Behavior>) -> Span
     }
 }
 
+/// A machine of what was read of it, its first word standing there.
+pub fn machine_of(alloc: Global, word: Span, name: Name, behavior: Option<Behavior>) -> Machine
+    ensures { result ≡ N.made_machine (word, (name, behavior)) }
+{
+    let at = between(word, closing_or(name.at, &behavior));
+    let note = Text::new(alloc);
+    Machine {
+        name,
+        behavior,
+        at,
+        note,
+    }
+}
+
 /// A state machine.
 struct OneMachine;
 
@@ -36,14 +50,7 @@ impl Make for OneMachine {
 
     fn make(alloc: Global, parts: (Span, (Name, Option<Behavior>))) -> Result<Machine, NoMemory> {
         let (word, (name, behavior)) = parts;
-        let at = between(word, closing_or(name.at, &behavior));
-        let note = Text::new(alloc);
-        Ok(Machine {
-            name,
-            behavior,
-            at,
-            note,
-        })
+        Ok(machine_of(alloc, word, name, behavior))
     }
 }
 
