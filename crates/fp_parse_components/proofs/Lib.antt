@@ -1,0 +1,2 @@
+mod StatedSame
+pub mod PartsFit
