@@ -1,0 +1,2 @@
+pub mod TopologiesFit
+pub mod TopologiesDecided
