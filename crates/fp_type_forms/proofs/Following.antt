@@ -2,15 +2,8 @@
 use Rattle.std.proofs.Common.{◌≡◌, ℕ, zero, suc, List, [], ◌∷◌, ◌++◌, drop, flat_map, map, slice_get, Option, Some, None, sym, ap, ◌∙◌, subst, append_assoc}
 use Rattle.std.specs.List.{AllByRecursion}
 use Rattle.std.proofs.lemmas.List.{append-nil}
-use Rattle.std.proofs.lemmas.List.Folds.{flat_map-map}
 use Rattle.fp_base.proofs.Lists.{each_append, each_flat, each_of_any, of_item}
 use Rattle.fp_tree.specs.declared.source.Source.{Source}
-use Rattle.fp_tree.specs.declared.member.Unit.{Unit as File}
-use Rattle.fp_tree.specs.declared.member.Member.{Member, Member-F}
-use Rattle.fp_tree.specs.declared.member.Member.TheFolds.{fold-Member, fold-Module, fold-roll-Member, fold-roll-Module, ind-Member, map-Member, map-Module}
-use Rattle.fp_tree.specs.declared.member.Member.TheOpen as open_member
-use Rattle.fp_tree.specs.declared.member.Member.TheViews.{roll-Member, roll-Module}
-use Rattle.fp_tree.specs.declared.member.Module.{Module, Module-F}
 use Rattle.fp_tree.specs.declared.definition.Def.{Def}
 use Rattle.fp_tree.specs.declared.definition.Def.TheVariants as def
 use Rattle.fp_tree.specs.declared.definition.Enum.{Enum}
@@ -24,7 +17,8 @@ use Rattle.fp_tree.specs.declared.part.Formal.{Formal}
 use Rattle.fp_meaning.specs.declared.item.Item.{Item}
 use Rattle.fp_meaning.specs.declared.item.Item.TheVariants as item
 use Rattle.fp_meaning.specs.Sites.{Path, Site, in_optional}
-use Rattle.fp_meaning.specs.Layout.{expression_items, type_form_items, type_items, field_items, formal_items, constant_items, part_items, items_in, member_step, module_step, in_member, in_members, items}
+use Rattle.fp_meaning.specs.Layout.{expression_items, type_form_items, type_items, field_items, formal_items, constant_items, part_items, items_in, items}
+use Rattle.fp_meaning.proofs.Throughout.{all_items}
 
 -- ---- no definition stands among the parts of one
 
@@ -99,52 +93,5 @@ whole_definition scope d zero s at =
     ([], sym (append-nil (part_items scope d)) ∙ ap (λ (t : Site). part_items t.scope t.definition ++ []) (same_site at))
 whole_definition scope d (suc k) s at = absurd (of_item IsPart (part_items scope d) k (item.Defined s) (are_parts scope d) at)
 
-abbrev in_module : Path → Module → List Item
-in_module scope m = fold-Module (Path → List Item) (Path → List Item) member_step module_step m scope
-
-abbrev Keeps : Member → Type 0
-Keeps m = (scope : Path) → AreWhole (in_member scope m)
-
-abbrev Keep : Module → Type 0
-Keep m = (scope : Path) → AreWhole (in_module scope m)
-
-member_rolled : (x : Member-F Member Module) (scope : Path) → in_member scope (roll-Member x) ≡ member_step (map-Member _ _ _ _ (fold-Member (Path → List Item) (Path → List Item) member_step module_step) (fold-Module (Path → List Item) (Path → List Item) member_step module_step) x) scope
-member_rolled x scope = ap (λ (h : Path → List Item). h scope) (fold-roll-Member (Path → List Item) (Path → List Item) member_step module_step x)
-
-members_rolled : (x : Module-F Member Module) (scope : Path) → in_module scope (roll-Module x) ≡ in_members (scope ++ x.name.text ∷ []) x.members
-members_rolled x scope =
-    ap (λ (h : Path → List Item). h scope) (fold-roll-Module (Path → List Item) (Path → List Item) member_step module_step x)
-    ∙ flat_map-map (λ (inner : Path → List Item). inner (scope ++ x.name.text ∷ []))
-    (fold-Member (Path → List Item) (Path → List Item) member_step module_step) x.members
-
-whole_members : (ms : List ((m : Member) × Keeps m)) (scope : Path) → AreWhole (in_members scope (map (λ e. e.0) ms))
-whole_members [] scope = whole_nothing
-whole_members (e ∷ ms) scope = whole_joined (in_member scope e.0) (in_members scope (map (λ x. x.0) ms)) (e.1 scope) (whole_members ms scope)
-
-by_module : (y : Module-F ((m : Member) × Keeps m) ((m : Module) × Keep m)) → Keep (roll-Module (map-Module _ _ _ _ (λ e. e.0) (λ e. e.0) y))
-by_module y scope =
-    let x : Module-F Member Module = map-Module _ _ _ _ (λ e. e.0) (λ e. e.0) y in
-    subst AreWhole (sym (members_rolled x scope)) (whole_members y.members (scope ++ x.name.text ∷ []))
-
-by_member : (y : Member-F ((m : Member) × Keeps m) ((m : Module) × Keep m)) → Keeps (roll-Member (map-Member _ _ _ _ (λ e. e.0) (λ e. e.0) y))
-by_member (open_member.Module e) scope = subst AreWhole (sym (member_rolled (open_member.Module e.0) scope)) (e.1 scope)
-by_member (open_member.Def d) scope = subst AreWhole (sym (member_rolled (open_member.Def d) scope)) (whole_definition scope d)
-by_member (open_member.Include i) scope = subst AreWhole (sym (member_rolled (open_member.Include i) scope)) whole_nothing
-by_member (open_member.Locate l) scope = subst AreWhole (sym (member_rolled (open_member.Locate l) scope)) whole_nothing
-
-member_layer : (x : Member-F Member Module) (y : Member-F ((m : Member) × Keeps m) ((m : Module) × Keep m)) → map-Member _ _ _ _ (λ e. e.0) (λ e. e.0) y ≡ x → Keeps (roll-Member x)
-member_layer x y is = subst (λ (z : Member-F Member Module). Keeps (roll-Member z)) is (by_member y)
-
-module_layer : (x : Module-F Member Module) (y : Module-F ((m : Member) × Keeps m) ((m : Module) × Keep m)) → map-Module _ _ _ _ (λ e. e.0) (λ e. e.0) y ≡ x → Keep (roll-Module x)
-module_layer x y is = subst (λ (z : Module-F Member Module). Keep (roll-Module z)) is (by_module y)
-
-member_keeps : (m : Member) → Keeps m
-member_keeps = ind-Member Keeps Keep member_layer module_layer
-
-flat_whole : {A : Type 0} (f : A → List Item) → ((x : A) → AreWhole (f x)) → (xs : List A) → AreWhole (flat_map f xs)
-flat_whole f h [] = whole_nothing
-flat_whole f h (x ∷ xs) = whole_joined (f x) (flat_map f xs) (h x) (flat_whole f h xs)
-
 pub items_whole : (source : Source) → AreWhole (items source)
-items_whole source =
-    flat_whole (λ (u : File). in_members [] u.members) (λ u. flat_whole (in_member []) (λ m. member_keeps m []) u.members) source.units
+items_whole source = all_items AreWhole whole_nothing whole_joined whole_definition source

@@ -7,3 +7,7 @@ pub mod Ready
 pub mod Adding
 pub mod Breaking
 pub mod Repeating
+mod Noting
+mod Parted
+mod Represented
+mod Uniting

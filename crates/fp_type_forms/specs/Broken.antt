@@ -1,6 +1,6 @@
 -- The rules that what is written of types breaks, and where each is broken. A rule that needs a value or a form isn't broken where there is
 -- none. FPP Language Specification, "Type Names", "Array Definitions", "Struct Definitions", "Enum Definitions", "Struct Expressions".
-use Rattle.std.specs.Prelude.{◌≡◌, ℕ, ◌<◌, cond, is_none, Bool, true, ◌⊎◌, false, ◌&&◌, ℤ, pos, int_le, List, map, Option, Some, None, slice_get}
+use Rattle.std.specs.Prelude.{◌≡◌, ℕ, ◌<◌, cond, is_none, Bool, true, ◌⊎◌, false, ◌&&◌, ℤ, pos, int_le, List, Option, Some, None, slice_get}
 use Rattle.std.specs.BTreeSet.{BTreeSet, contains_by}
 use Rattle.std.specs.Ordering.{int_cmp, int_eq}
 use Rattle.fp_base.specs.declared.place.Place.{Place}
@@ -10,6 +10,7 @@ use Rattle.fp_base.specs.declared.rule.Rule.TheVariants.{FloatUsed, BadConversio
 use Rattle.fp_base.specs.declared.value.Value.{Value}
 use Rattle.fp_base.specs.Least.{broken_at, Either, InSome, IsLeast}
 use Rattle.fp_tree.specs.declared.source.Source.{Source}
+use Rattle.fp_tree.specs.declared.name.Name.{Name}
 use Rattle.fp_tree.specs.declared.definition.Def.{Def}
 use Rattle.fp_tree.specs.declared.definition.Def.TheVariants as def
 use Rattle.fp_tree.specs.declared.definition.Enum.{Enum}
@@ -23,7 +24,6 @@ use Rattle.fp_tree.specs.declared.part.EnumConst.{EnumConst}
 use Rattle.fp_tree.specs.declared.part.Field.{Field as Member}
 use Rattle.fp_tree.specs.declared.part.Formal.{Formal}
 use Rattle.fp_tables.specs.declared.kind.Kind.{Kind}
-use Rattle.fp_tables.specs.declared.kind.Kind.TheVariants as kind
 use Rattle.fp_meaning.specs.declared.item.Item.{Item}
 use Rattle.fp_meaning.specs.declared.item.Item.TheVariants as item
 use Rattle.fp_meaning.specs.ConstantFaults.{parts_of}
@@ -35,7 +35,7 @@ use Rattle.fp_type_sizes.specs.declared.written.WrittenType.{WrittenType}
 use Rattle.fp_type_sizes.specs.Sizes.{IsInteger, Measures}
 use Rattle.fp_type_forms.specs.declared.resolving.Resolution.{Resolution}
 use Rattle.fp_type_forms.specs.Resolved.{AreResolved}
-use Rattle.fp_type_forms.specs.Written.{TypeHere, types, NumberIs, KindIs, ConstantIs}
+use Rattle.fp_type_forms.specs.Written.{TypeHere, types, NumberIs, KindIs, ReprIs, ConstantIs}
 
 -- from 1 to the most
 abbrev pub is_size : ℕ → ℤ → Bool
@@ -133,14 +133,15 @@ LeastOfAll P marks rs is first = (source : Source) → is ≡ items source → A
 
 -- ---- names that are repeated
 
--- a name stands among the first so many
-abbrev pub IsAmong : List (List ℕ) → ℕ → List ℕ → Type 0
-IsAmong names j name = (i : ℕ) × (i < j) × (slice_get names i ≡ Some name)
+-- at the name of an element, where an earlier one has it
+abbrev pub RepeatsName : {A : Type 0} → (A → Name) → List A → ℕ → A → Refusal → Type 0
+RepeatsName {A = A} name_of xs j x f =
+    (f ≡ broken_at BadMember (name_of x).at.first) × (i : ℕ) × (y : A) × (i < j) × (slice_get xs i ≡ Some y) × ((name_of y).text ≡ (name_of x).text)
 
--- at a name that the struct expression has before, whether anything converts it or not
+-- at a name that the struct expression has before, or one within it, whether anything converts it or not
 pub data RepeatsIn : Expr → Refusal → Type 0 where
-  itself : {e : Expr} {members : List Assignment} {m : Assignment} (j : ℕ) → opened e ≡ opening.Struct members → slice_get members j ≡ Some m
-      → IsAmong (map (λ (x : Assignment). x.name.text) members) j m.name.text → RepeatsIn e (broken_at BadMember m.name.at.first)
+  itself : {e : Expr} {members : List Assignment} {f : Refusal} → opened e ≡ opening.Struct members
+      → InSome (RepeatsName (λ (x : Assignment). x.name) members) members f → RepeatsIn e f
   within : {e part : Expr} {f : Refusal} (k : ℕ) → slice_get (parts_of (opened e)) k ≡ Some part → RepeatsIn part f → RepeatsIn e f
 
 abbrev pub BrokenByRepeats : Source → Refusal → Type 0
@@ -148,9 +149,8 @@ BrokenByRepeats source = InSome (λ k (p : Placed). RepeatsIn p.expression) (exp
 
 -- at a member of a struct whose name an earlier member has
 abbrev pub RepeatsMember : Def → Refusal → Type 0
-RepeatsMember (def.Struct d) f =
-    (j : ℕ) × (x : Member) × (slice_get d.fields j ≡ Some x) × (f ≡ broken_at BadMember x.name.at.first) × IsAmong (map (λ (y : Member). y.name.text) d.fields) j x.name.text
-RepeatsMember _ f = ⊥
+RepeatsMember (def.Struct d) = InSome (RepeatsName (λ (x : Member). x.name) d.fields) d.fields
+RepeatsMember _ = λ f. ⊥
 
 -- ---- rules of enumerations
 
@@ -160,12 +160,13 @@ IsFloat type.F32 = Unit {0}
 IsFloat type.F64 = Unit {0}
 IsFloat _ = ⊥
 
+abbrev pub written_place : Place → Option Expr → Place
+written_place place None = place
+written_place place (Some e) = e.at.first
+
+-- where the number of a constant stands: at its value, or at its name where none is written
 abbrev pub constant_place : EnumConst → Place
-constant_place c = place_of c.value
-  where
-    place_of : Option Expr → Place
-    place_of None = c.name.at.first
-    place_of (Some e) = e.at.first
+constant_place c = written_place c.name.at.first c.value
 
 module _ (source : Source) (scope : Path) where
   -- at the name of a constant with the number of an earlier one
@@ -189,11 +190,7 @@ module _ (source : Source) (scope : Path) where
 
     -- the numbers that the representation has
     abbrev pub HasRange : Enum → ℤ → ℤ → Type 0
-    HasRange d low high = range d.repr
-      where
-        range : Option TypeName → Type 0
-        range None = IsInteger ws kind.I32 low high
-        range (Some t) = (k : Kind) × KindIs source scope t.form k × IsInteger ws k low high
+    HasRange d low high = (k : Kind) × ReprIs source scope d.repr k × IsInteger ws k low high
 
     -- at the value of a constant that the representation lacks, or at the name where the value is implied
     abbrev pub IsOutside : Enum → ℕ → EnumConst → Refusal → Type 0
@@ -202,9 +199,8 @@ module _ (source : Source) (scope : Path) where
         × ((int_le low n && int_le n high) ≡ false)
 
     abbrev pub BrokenByEnum : Def → Refusal → Type 0
-    BrokenByEnum (def.Enum d) f =
-        Either (IsBadRepr d) (InSome (IsOutside d) d.constants) f
-    BrokenByEnum _ f = ⊥
+    BrokenByEnum (def.Enum d) = Either (IsBadRepr d) (InSome (IsOutside d) d.constants)
+    BrokenByEnum _ = λ f. ⊥
 
 abbrev pub RepeatsByItem : Source → Item → Refusal → Type 0
 RepeatsByItem source (item.Defined s) = RepeatsByDefinition source s.scope s.definition

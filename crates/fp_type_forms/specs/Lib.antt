@@ -1,3 +1,4 @@
 pub mod Written
 pub mod Resolved
 pub mod Broken
+pub mod Tested

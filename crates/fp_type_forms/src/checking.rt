@@ -5,18 +5,64 @@ ghost use Rattle.fp_meaning.specs.Meaning.{AreMeanings};
 ghost use Rattle.fp_meaning.specs.Names.{definitions, mentions};
 ghost use Rattle.fp_meaning.specs.Origins.{expressions};
 ghost use Rattle.fp_tree.specs.declared.source.Source.{Source as Files};
-ghost use Rattle.fp_type_forms.specs.Broken.{BrokenByItem, LeastOfAll, LeastOfBoth, NumbersRepeated, TypePartsBroken};
+ghost use Rattle.fp_type_forms.specs.Broken.{BrokenByItem, FormsBroken, LeastOfAll, LeastOfBoth, NumbersRepeated, TypePartsBroken};
 ghost use Rattle.fp_type_forms.specs.Resolved.{AreResolved, parts_of_item};
+ghost use Rattle.fp_type_forms.specs.Tested.{LeastOfForms};
+ghost use Rattle.fp_type_sizes.specs.Found.{AreExtents};
 
 use crate::faults::fault_in;
 use crate::ranking::ranks_of;
+use crate::repeated::repeated_names;
 use crate::repeats::repeats_among;
+use crate::representations::representation_faults;
 use crate::resolving::{Resolution, resolutions};
 use fp_base::{NoMemory, Refusal, Value, lesser};
 use fp_layout::lay_out;
 use fp_meaning::Item;
 use fp_tree::{Source, Uses};
+use fp_type_sizes::{TypeExtent, WrittenType};
 use std::alloc::Global;
+
+/// The least rule that what is written of types breaks: of the parts of types and ports each by itself, and of enumerations; names that a
+/// struct type or any struct expression of the source has twice; representations that are no integer types, and numbers outside them.
+/// `types` is what is written of the types and `extents` how large they are. None exactly where none is broken.
+pub fn form_faults(
+    alloc: Global,
+    source: &Source,
+    uses: &Uses,
+    marks: &[Option<Value>],
+    types: &[WrittenType],
+    extents: &[Option<TypeExtent>],
+) -> Result<Option<Refusal>, NoMemory>
+    requires meanings { AreMeanings (definitions source.now) (mentions source.now) uses.now.meanings }
+    requires values { AreValues source.now (expressions source.now) marks.now }
+    requires sizes { AreExtents types.now extents.now }
+    ensures { IfOk result (IsLeast (FormsBroken source.now types.now)) }
+{
+    let _types = types;
+    let layout = lay_out(alloc, source)?;
+    let items = layout.items();
+    let ranks = ranks_of(alloc, items)?;
+    let meanings = uses.meanings.as_slice();
+    let resolved = resolutions(alloc, items, meanings, ranks.as_slice(), marks.len())?;
+    forms_of(alloc, items, extents, resolved.as_slice(), marks)
+}
+
+fn forms_of(
+    alloc: Global,
+    items: &[Item],
+    extents: &[Option<TypeExtent>],
+    resolutions: &[Resolution],
+    marks: &[Option<Value>],
+) -> Result<Option<Refusal>, NoMemory>
+    ensures { IfOk result (LeastOfForms extents.now marks.now resolutions.now items.now) }
+{
+    let parts = faults_of(alloc, items, resolutions, marks)?;
+    let names = repeated_names(alloc, items)?;
+    let numbers = representation_faults(items, extents, resolutions, marks);
+    let others = lesser(names, numbers);
+    Ok(lesser(parts, others))
+}
 
 /// The least rule that the parts of types and ports break, each by itself: floats, sizes, numbers that are none, and enumerations in which
 /// values are written for some constants only or a number stands twice. None exactly where none is broken.

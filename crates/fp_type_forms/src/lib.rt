@@ -3,17 +3,22 @@
 
 mod checking;
 mod constants;
+mod expressions;
 mod faults;
 mod fields;
 mod kinds;
 mod laws;
+mod names;
+mod ranges;
 mod ranking;
 mod reading;
+mod repeated;
 mod repeats;
+mod representations;
 mod resolving;
 mod wholes;
 mod writing;
 
-pub use checking::part_faults;
+pub use checking::{form_faults, part_faults};
 pub use laws::{one_form, one_written};
 pub use writing::types_written;
