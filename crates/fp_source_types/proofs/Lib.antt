@@ -1,0 +1,5 @@
+mod Named
+mod Placed
+mod Resulting
+mod Serving
+mod WellMade

@@ -1,0 +1,4 @@
+pub mod Broken
+pub mod Places
+pub mod Typed
+pub mod Used
