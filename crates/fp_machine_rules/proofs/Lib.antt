@@ -1,0 +1,12 @@
+pub mod Choices
+pub mod Deciding
+pub mod Depths
+pub mod Giving
+pub mod Joined
+pub mod Laid
+pub mod Outward
+pub mod Places
+pub mod Repeats
+pub mod Sorting
+pub mod Steps
+pub mod Visited

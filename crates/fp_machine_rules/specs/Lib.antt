@@ -1,0 +1,16 @@
+pub mod Branching
+pub mod Broken
+pub mod Forms
+pub mod Gathered
+pub mod Giving
+pub mod Inherited
+pub mod Leaving
+pub mod Members
+pub mod Nested
+pub mod Reached
+pub mod Reaching
+pub mod Repeated
+pub mod Through
+pub mod Undefined
+pub mod Values
+pub mod Visits

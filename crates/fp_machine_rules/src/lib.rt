@@ -1,0 +1,22 @@
+//! Which rules state machines break, over machines that are laid out flat.
+#![tactic(auto)]
+
+mod counts;
+mod faults;
+mod gathering;
+mod item;
+mod joining;
+mod keys;
+mod laying;
+mod leaving;
+mod nesting;
+mod placing;
+mod reached;
+mod reaching;
+mod repeating;
+mod rings;
+mod values;
+
+pub use faults::machine_faults;
+pub use item::{Declaration, Form, Item, LaidMachine, Meaning, Target, Use};
+pub use laying::is_laid;
