@@ -1,6 +1,6 @@
 -- The points of sets and saves are set and save commands.
-use Rattle.std.proofs.Common.{◌≡◌, ℕ, true, length, Option, Some, None, option_map, is_some, refl, sym, ap, ◌∙◌, subst, slice_get, nat_lt}
-use Rattle.fp_base.proofs.Options.{mapped_some, then_some, same_some}
+use Rattle.std.proofs.Common.{◌≡◌, ℕ, true, length, Option, Some, None, option_map, is_some, refl, ap, subst, slice_get, nat_lt}
+use Rattle.fp_base.proofs.Options.{then_some}
 use Rattle.fp_base.proofs.Lists.{all_get, get_below}
 use Rattle.fp_base.proofs.Bools.{both}
 use Rattle.fp_tables.specs.Components.{set_parameter, saved_parameter}
@@ -12,21 +12,15 @@ use Rattle.fp_tables.specs.declared.component.Component.{Component}
 use Rattle.fp_tables.specs.declared.component.Param.{Param}
 use Rattle.fp_tables.specs.declared.component.Part.{Part}
 use Rattle.fp_tables.specs.declared.component.Part.TheVariants as part
-use Rattle.fp_tables.specs.declared.component.Port.{Port as PortOf}
-use Rattle.fp_tables.specs.declared.component.Running.{Running}
-use Rattle.fp_tables.specs.declared.component.Role.{Role}
-use Rattle.fp_tables.specs.declared.component.Role.TheVariants as role
-use Rattle.fp_tables.specs.declared.component.Way.{Way}
 use Rattle.fp_tables.specs.declared.component.Way.TheVariants.{Later, Sync, Guarded}
 use Rattle.fp_events.specs.Answers.{suits}
-use Rattle.fp_tables.specs.Specials.{component}
-use Rattle.fp_events.specs.Manners.{Manner, by, sets, saves, manner, input_manner, internal_manner, command_manner}
+use Rattle.fp_events.specs.Manners.{Manner, by, sets, saves, manner}
 use Rattle.fp_events.specs.declared.event.Point.{Point}
-use Rattle.fp_events.specs.declared.event.Point.TheVariants.{Port, Command as OfCommand, Post, Signal}
 use Rattle.fp_events.specs.declared.event.Arrival.{Arrival}
 use Rattle.fp_events.specs.declared.event.What.TheVariants as what
-use Rattle.fp_logtext.specs.Names.{command_at, param_name, set_name, saved_name}
-use Rattle.fp_typing.proofs.Parts.{command_in, commands_lie_at}
+use Rattle.fp_logtext.specs.Names.{param_name, set_name, saved_name}
+use Rattle.fp_typing.proofs.Parts.{commands_lie_at}
+use Rattle.fp_typing.proofs.Commands.{implied, of_set, of_save, sets_part, saves_part}
 
 -- ---- what an entry with an arrival answers
 
@@ -45,54 +39,6 @@ save_manner (Some (by Guarded)) r v h = absurd (cc)
 save_manner (Some (by (Later priority policy))) r v h = absurd (cc)
 save_manner (Some (sets k)) r v h = absurd (cc)
 save_manner (Some (saves k)) r v h = (k, refl)
-
--- ---- which commands are treated so
-
--- a manner that isn't a way
-pub data IsImplied : Manner → Type 0 where
-  of_set : (k : ℕ) → IsImplied (sets k)
-  of_save : (k : ℕ) → IsImplied (saves k)
-
-no_way : (way : Way) (m : Manner) → IsImplied m → by way ≡ m → ⊥
-no_way way (by other) h e = elim h [ ]
-no_way way (sets k) h e = cc
-no_way way (saves k) h e = cc
-
-no_input : (ro : Role) (m : Manner) → IsImplied m → input_manner ro ≡ Some m → ⊥
-no_input (role.Input way) m h e = no_way way m h (same_some e)
-no_input _ m h e = cc
-
-no_internal : (ro : Role) (m : Manner) → IsImplied m → internal_manner ro ≡ Some m → ⊥
-no_internal (role.Internal way) m h e = no_way way m h (same_some e)
-no_internal _ m h e = cc
-
-sets_part : (way : Way) (p : Part) (k : ℕ) → command_manner way p ≡ sets k → p ≡ part.SetParam k
-sets_part way part.Plain k h = absurd (cc)
-sets_part way (part.SetParam j) k h = cc
-sets_part way (part.SaveParam j) k h = absurd (cc)
-
-pub saves_part : (way : Way) (p : Part) (k : ℕ) → command_manner way p ≡ saves k → p ≡ part.SaveParam k
-saves_part way part.Plain k h = absurd (cc)
-saves_part way (part.SetParam j) k h = absurd (cc)
-saves_part way (part.SaveParam j) k h = cc
-
--- a command that sets or saves a parameter
-pub record Implied (t : Described) (i : ℕ) (point : Point) (m : Manner) : Type 0 where
-  pub number : ℕ
-  pub command : Command
-  pub is : point ≡ OfCommand number
-  pub found : command_at t.model i number ≡ Some command
-  pub treated : command_manner command.way command.part ≡ m
-
-pub implied : (t : Described) (i : ℕ) (point : Point) (m : Manner) → IsImplied m → manner t i point ≡ Some m → Implied t i point m
-implied t i (Port n number) m h e = let p = then_some (λ (p : PortOf). input_manner p.role) (slice_get (component t i).ports n) m e in absurd (no_input p.0.role m h p.2)
-implied t i (OfCommand n) m h e =
-    let c = mapped_some (λ (c : Command). command_manner c.way c.part) (slice_get (component t i).commands n) m e in
-    record { number = n; command = c.0; is = refl; found = sym (command_in t i n) ∙ c.1; treated = c.2 }
-implied t i (Post n) m h e = let p = then_some (λ (p : PortOf). internal_manner p.role) (slice_get (component t i).ports n) m e in absurd (no_internal p.0.role m h p.2)
-implied t i (Signal running signal) m h e =
-    let r = mapped_some (λ (r : Running). by r.way) (slice_get (component t i).machines running) m e in
-    absurd (no_way r.0.way m h r.2)
 
 -- ---- their parameters
 

@@ -1,13 +1,6 @@
 pub mod Components
 pub mod Commands
 pub mod Naming
-pub mod Listed
-pub mod Bridge
-pub mod Frames
-pub mod Dues
-pub mod AtHome
-pub mod Kept
 pub mod Runs
 pub mod Numbers
-pub mod Returned
 pub mod WorkedTexts

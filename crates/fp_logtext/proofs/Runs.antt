@@ -1,5 +1,5 @@
 -- What each entry of a run of sound tables and program shows.
-use Rattle.std.proofs.Common.{◌≡◌, ℕ, Bool, true, ◌&&◌, nat_lt, nat_le, List, [], ◌∷◌, ◌++◌, length, Option, Some, None, option_map, is_some, refl, sym, ap, ◌∙◌, slice_get, arith}
+use Rattle.std.proofs.Common.{◌≡◌, ℕ, Bool, true, ◌&&◌, nat_lt, nat_le, List, [], ◌∷◌, ◌++◌, length, Option, Some, None, option_map, is_some, refl, sym, ap, ◌∙◌, subst, slice_get, arith}
 use Rattle.std.proofs.lemmas.Bool.Decides.{nat_tests}
 use Rattle.std.specs.List.{list_all}
 use Rattle.fp_base.proofs.Options.{then_some, same_some}
@@ -29,11 +29,11 @@ use Rattle.fp_tables.specs.Acts.{is_placed}
 use Rattle.fp_events.specs.Instance.{InstanceState}
 use Rattle.fp_tables.specs.Specials.{component}
 use Rattle.fp_events.specs.Manners.{saves, manner}
+use Rattle.fp_events.specs.Run.{by as by_actor}
 use Rattle.fp_events.specs.Step.{core}
 use Rattle.fp_events.specs.declared.event.Point.{Point}
 use Rattle.fp_events.specs.declared.event.Arrival.{Arrival}
 use Rattle.fp_events.specs.declared.event.Ask.{Ask}
-use Rattle.fp_events.specs.declared.event.Ask.TheVariants as ask
 use Rattle.fp_events.specs.declared.event.Entry.{Entry}
 use Rattle.fp_events.specs.declared.event.What.{What}
 use Rattle.fp_events.specs.declared.event.What.TheVariants as what
@@ -41,16 +41,20 @@ use Rattle.fp_events.proofs.Fitting.{run_fits}
 use Rattle.fp_events.proofs.StepLaws.{taken, core_laws, answered_arrival}
 use Rattle.fp_logtext.specs.Names.{instance_name}
 use Rattle.fp_logtext.specs.Named.{what_is_named, entry_is_named, sets_or_saves}
-use Rattle.fp_logtext.specs.Fitting.{is_empty, note_fits, notes_fit, saves_alone, suit_point, values_fit}
+use Rattle.fp_logtext.specs.Fitting.{is_empty, notes_fit, saves_alone, suit_point, values_fit}
+use Rattle.fp_typing.specs.Notes.{note_fits}
+use Rattle.fp_typing.specs.Suits.{AllSuit, results_by, results_from, returns_fit}
 use Rattle.fp_typing.proofs.Lists.{all_of_each, some_mapped}
 use Rattle.fp_typing.proofs.Parts.{command_in, values_taken_at, member_at}
-use Rattle.fp_logtext.proofs.Commands.{set_manner, save_manner, implied, of_save, saves_part, set_is_named, save_is_named}
+use Rattle.fp_typing.proofs.Commands.{implied, of_save, saves_part}
+use Rattle.fp_typing.proofs.Told.{opening_suits, step_keeps, step_returns, noted}
+use Rattle.fp_logtext.proofs.Commands.{set_manner, save_manner, set_is_named, save_is_named}
 use Rattle.fp_logtext.proofs.Naming.{fit_named, fit_values}
-use Rattle.fp_logtext.proofs.Frames.{frames_are_good}
-use Rattle.fp_logtext.proofs.Dues.{due_notes}
-use Rattle.fp_logtext.proofs.AtHome.{due_advance}
-use Rattle.fp_logtext.proofs.Kept.{IsPlaced, follows_good, opening_good}
 use Rattle.fp_tables.proofs.Optional.{some_and_of}
+
+results_from-more : (t : Described) (ks : List (Option Kind)) (es : List Entry) (e : Entry) → results_from t ks (es ++ e ∷ []) ≡ results_by t e.instance (results_from t ks es) e.what
+results_from-more t ks [] e = refl
+results_from-more t ks (x ∷ es) e = results_from-more t (results_by t x.instance ks x.what) es e
 
 module _ (t : Described) (program : Program) (sound : IsSoundFor t.model (Some t.topology)) (good : IsSoundProgram t program) where
   -- ---- by what an entry fits alone
@@ -112,57 +116,47 @@ module _ (t : Described) (program : Program) (sound : IsSoundFor t.model (Some t
       saved_alone i r.point m.0 r.with m.1 (both (suit_point t program i r.point r.with) _ fit).0
   answers_alone i _ q h fit = refl
 
-  answers_placed : (a i : ℕ) (x : ActorState) (w : What) (q : Ask) → answers t i w q ≡ true → due t program a x.thread ≡ Some (i, q) → IsPlaced t program sound.0 good i x.thread.frames w
-  unfolding answers
-  answers_placed a i x (what.Start running actions leaf) (ask.Advance r s v) h is = due_advance t program a x.thread i r s v is
-  answers_placed a i x (what.Start running actions leaf) _ h is = absurd (cc)
-  answers_placed a i x (what.Move running signal actions leaf) (ask.Advance r s v) h is = due_advance t program a x.thread i r s v is
-  answers_placed a i x (what.Move running signal actions leaf) _ h is = absurd (cc)
-  answers_placed a i x _ q h is = tt
-
-  answers_notes : (a i : ℕ) (x : ActorState) (w : What) (q : Ask) → answers t i w q ≡ true → due t program a x.thread ≡ Some (i, q) → frames_are_good t x.thread.frames ≡ true → notes_fit t.model w ≡ true
-  answers_notes a i x w q h is frames = go (arrival_in w) refl
+  answers_notes : (ks : List (Option Kind)) (a i : ℕ) (x : ActorState) (w : What) (q : Ask) → answers t i w q ≡ true → due t program a x.thread ≡ Some (i, q) → AllSuit t program ks a x.thread.frames → notes_fit t.model w ≡ true
+  answers_notes ks a i x w q h is suits = go (arrival_in w) refl
     where
       go : (o : Option Arrival) → arrival_in w ≡ o → if_some (λ (r : Arrival). note_fits t.model r.origin) o ≡ true
       go None e = refl
       go (Some r) e =
           let r_asked = (answered_arrival t program i w q r e h).0 in
-          due_notes t program a x.thread i r frames (is ∙ ap (λ (q : Ask). Some (i, q)) r_asked)
+          noted t program sound good ks a x.thread i r suits (is ∙ ap (λ (q : Ask). Some (i, q)) r_asked)
 
   -- ---- in a run
 
-  pub record Shows (e : Entry) : Type 0 where
+  -- what an entry shows behind those of its actor
+  pub record Shows (es : List Entry) (e : Entry) : Type 0 where
     pub commands : sets_or_saves t.model e.instance e.what ≡ true
     pub alone : saves_alone e.what ≡ true
     pub notes : notes_fit t.model e.what ≡ true
+    pub returned : returns_fit t (results_from t [] es) e.what ≡ true
 
   pub run_shows : (es : List Entry) (v : World InstanceState ActorState) → Run (core t program) (opening (core t program)) es v
-      → (before : List Entry) (e : Entry) (rest : List Entry) → es ≡ before ++ e ∷ rest → Shows e
+      → (before : List Entry) (e : Entry) (rest : List Entry) → es ≡ before ++ e ∷ rest → Shows (by_actor e.actor before) e
   run_shows =
-      actor_law (core t program) (core_laws t program) (λ a es x. frames_are_good t x.thread.frames ≡ true) (λ es e. Shows e)
-      (λ a. opening_good t program sound.0 good a)
-      (λ a es x z e holds step. more a x z e holds step)
-      (λ a es x z e holds step. shown a x z e holds step)
+      actor_law (core t program) (core_laws t program) (λ a es x. AllSuit t program (results_from t [] es) a x.thread.frames) (λ es e. Shows es e)
+      (λ a. opening_suits t program sound good a)
+      (λ a es x z e holds step.
+      subst (λ (l : List (Option Kind)). AllSuit t program l a z.thread.frames) (sym (results_from-more t [] es e))
+      (step_keeps t program sound good (results_from t [] es) a x z e holds (taken t program a x z e step.part)))
+      (λ a es x z e holds step. shown a es x z e holds step)
     where
-      more : (a : ℕ) (x z : ActorState) (e : Entry) → frames_are_good t x.thread.frames ≡ true → ActorStep (core t program) a x e z → frames_are_good t z.thread.frames ≡ true
-      more a x z e holds step =
-          let k = taken t program a x z e step.part in
-          let fit = fits_what a k.asked.0 e.what k.fit in
-          ap (λ y. frames_are_good t y.frames) k.thread
-          ∙ follows_good t program sound.0 good k.asked.0 x.thread e.what fit (answers_placed a k.asked.0 x e.what k.asked.1 k.answer k.due) holds
-
-      shown : (a : ℕ) (x z : ActorState) (e : Entry) → frames_are_good t x.thread.frames ≡ true → ActorStep (core t program) a x e z → Shows e
-      shown a x z e holds step =
+      shown : (a : ℕ) (es : List Entry) (x z : ActorState) (e : Entry) → AllSuit t program (results_from t [] es) a x.thread.frames → ActorStep (core t program) a x e z → Shows es e
+      shown a es x z e holds step =
           let k = taken t program a x z e step.part in
           let fit = fits_what a k.asked.0 e.what k.fit in
           record {
             commands = ap (λ n. sets_or_saves t.model n e.what) k.instance ∙ answers_commands k.asked.0 e.what k.asked.1 k.answer;
             alone = answers_alone k.asked.0 e.what k.asked.1 k.answer (fit_values t program k.asked.0 e.what fit);
-            notes = answers_notes a k.asked.0 x e.what k.asked.1 k.answer k.due holds;
+            notes = answers_notes (results_from t [] es) a k.asked.0 x e.what k.asked.1 k.answer k.due holds;
+            returned = step_returns t program sound good (results_from t [] es) a x z e holds k;
           }
 
   -- a test that each entry of a run passes
   pub all_pass : (p : Entry → Bool) (es : List Entry) (v : World InstanceState ActorState) → Run (core t program) (opening (core t program)) es v
-      → ((e : Entry) → fits t program e.actor e.instance e.what ≡ true → Shows e → p e ≡ true) → list_all p es ≡ true
+      → ((before : List Entry) (e : Entry) → fits t program e.actor e.instance e.what ≡ true → Shows before e → p e ≡ true) → list_all p es ≡ true
   all_pass p es v h f =
-      all_of_each p es (λ before rest e is. f e (run_fits t program es v h before e rest is) (run_shows es v h before e rest is))
+      all_of_each p es (λ before rest e is. f (by_actor e.actor before) e (run_fits t program es v h before e rest is) (run_shows es v h before e rest is))

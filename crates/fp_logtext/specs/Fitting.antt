@@ -1,20 +1,14 @@
 -- When a list of entries is fitting: what its text alone can show of a run.
 -- The form of the log is this profile's own.
-use Rattle.std.specs.Prelude.{◌≡◌, ℕ, Bool, true, false, not, ◌&&◌, ◌^◌, nat_lt, List, [], ◌∷◌, ◌++◌, Option, Some, None, option_map, slice_get}
+use Rattle.std.specs.Prelude.{◌≡◌, ℕ, Bool, true, false, ◌&&◌, ◌^◌, nat_lt, List, [], ◌∷◌, ◌++◌, Option, Some, None, option_map, slice_get}
 use Rattle.std.specs.List.{list_all}
 use Rattle.fp_base.specs.declared.value.Value.{Value}
 use Rattle.fp_tables.specs.Lists.{if_some, some_and}
 use Rattle.fp_tables.specs.Lookup.{Described}
-use Rattle.fp_base.specs.Names.{is_name}
-use Rattle.fp_tables.specs.Positions.{port_of}
 use Rattle.fp_tables.specs.Types.{has_kind, have_kinds}
 use Rattle.fp_tables.specs.declared.kind.Kind.{Kind}
 use Rattle.fp_tables.specs.declared.component.Channel.{Channel}
 use Rattle.fp_tables.specs.declared.component.Param.{Param}
-use Rattle.fp_tables.specs.declared.component.Port.{Port as PortOf}
-use Rattle.fp_tables.specs.declared.component.Role.{Role}
-use Rattle.fp_tables.specs.declared.component.Role.TheVariants as role
-use Rattle.fp_tables.specs.declared.topology.End.{End}
 use Rattle.fp_tables.specs.declared.program.Program.{Program}
 use Rattle.fp_tables.specs.declared.model.Model.{Model}
 use Rattle.fp_events.specs.Answers.{arrival_in}
@@ -23,30 +17,15 @@ use Rattle.fp_tables.specs.Specials.{component}
 use Rattle.fp_events.specs.Manners.{manner}
 use Rattle.fp_events.specs.Run.{by}
 use Rattle.fp_events.specs.declared.event.Point.{Point}
-use Rattle.fp_events.specs.declared.event.Origin.{Origin}
-use Rattle.fp_events.specs.declared.event.Origin.TheVariants.{Caller, Own, Wire}
 use Rattle.fp_events.specs.declared.event.Arrival.{Arrival}
 use Rattle.fp_events.specs.declared.event.What.{What}
 use Rattle.fp_events.specs.declared.event.What.TheVariants as what
 use Rattle.fp_events.specs.declared.event.Entry.{Entry}
+use Rattle.fp_typing.specs.Notes.{note_fits}
 use Rattle.fp_typing.specs.Suits.{results_from, returns_fit}
 use Rattle.fp_logtext.specs.Named.{are_named, set_and_save_commands}
 
 -- ---- notes
-
-abbrev pub is_special_role : Role → Bool
-is_special_role (role.Special s) = true
-is_special_role _ = false
-
-abbrev pub is_special_end : Model → End → Bool
-is_special_end m e = some_and (λ (p : PortOf). is_special_role p.role) (port_of m e.instance e.port)
-
--- a note exactly where the origin is a wire end at a special port, and a name
-abbrev pub note_fits : Model → Origin → Bool
-note_fits m Caller = true
-note_fits m Own = true
-note_fits m (Wire e None) = not (is_special_end m e)
-note_fits m (Wire e (Some name)) = is_special_end m e && is_name name
 
 abbrev pub notes_fit : Model → What → Bool
 notes_fit m w = if_some (λ (r : Arrival). note_fits m r.origin) (arrival_in w)

@@ -43,12 +43,15 @@ use Rattle.fp_events.specs.declared.event.Point.TheVariants.{Port, Command as Of
 use Rattle.fp_events.specs.declared.event.Origin.{Origin}
 use Rattle.fp_events.specs.declared.event.Origin.TheVariants.{Caller, Own, Wire}
 use Rattle.fp_base.proofs.Options.{same_some, some_of}
+use Rattle.fp_base.specs.Names.{is_name}
+use Rattle.fp_typing.specs.Notes.{is_special_end, ask_note_fits}
 use Rattle.fp_typing.specs.Suits.{BoundSuits, result_of_point, source, ActionSuits, after, ActionsSuit, MayReturn, DoingsSuit, Returns}
 use Rattle.fp_typing.proofs.Parts.{event_in, channel_in, param_in}
 use Rattle.fp_typing.proofs.Scopes.{arguments_kinds, one_value}
 use Rattle.fp_typing.proofs.Wires.{joins, is_general, one_kinds}
 use Rattle.fp_typing.proofs.Results.{wire_results}
 use Rattle.fp_typing.proofs.Responding.{special_wired}
+use Rattle.fp_typing.proofs.Notes.{special_end, general_end, bind_is_name}
 use Rattle.fp_typing.proofs.Places.{port_fits, post_fits, command_fits, signal_fits, wire_fits, sent_fits}
 use Rattle.fp_tables.proofs.Optional.{some_and_of}
 
@@ -115,6 +118,7 @@ module _ (t : Described) (program : Program) where
   pub record AskSuits (o : Opened) (i : ℕ) (result : Option Kind) (x : Action) (d : ℕ × Ask) : Type 0 where
     pub placed : is_placed t d.0 ≡ true
     pub fits : ask_fits t program d.0 d.1 ≡ true
+    pub noted : ask_note_fits t.model d.1 ≡ true
     pub binds : Binds o i result x d.0 d.1
 
   -- there is an ask, and it suits
@@ -135,12 +139,12 @@ module _ (t : Described) (program : Program) (sound : IsSoundFor t.model (Some t
   abbrev pub IsQuiet : Action → Type 0
   IsQuiet x = ((bound : Bindings) → name_for (Some (x, bound)) ≡ None) × ((scope : Scope) → after t program x scope ≡ scope)
 
-  pub send_suits : (o : Opened) (i : ℕ) (result : Option Kind) (x : Action) (s : Special) (note : List ℕ) → IsQuiet x → is_some (special_wire t i s) ≡ true → DueSuits t program o i result x (sent_from t program (special_wire t i s) note)
-  send_suits o i result x s note quiet h =
+  pub send_suits : (o : Opened) (i : ℕ) (result : Option Kind) (x : Action) (s : Special) (note : List ℕ) → IsQuiet x → is_some (special_wire t i s) ≡ true → is_name note ≡ true → DueSuits t program o i result x (sent_from t program (special_wire t i s) note)
+  send_suits o i result x s note quiet h named =
       let w = some_of (special_wire t i s) h in
       let f = sent_fits t program sound i s w.0 note w.1 in
       subst (λ (o' : Option (End × End)). DueSuits t program o i result x (sent_from t program o' note)) (sym w.1)
-      (record { placed = f.placed; fits = arrival_fits_by w.0.1.instance (Port w.0.1.port w.0.1.number) (Wire w.0.0 (Some note)) _ f.point f.origin; binds = λ bound scope. quiet.1 scope ∙ ap (λ (n : Option (List ℕ)). bound_to n (result_of_point t w.0.1.instance (Port w.0.1.port w.0.1.number)) scope) (sym (quiet.0 bound)) })
+      (record { placed = f.placed; fits = arrival_fits_by w.0.1.instance (Port w.0.1.port w.0.1.number) (Wire w.0.0 (Some note)) _ f.point f.origin; noted = join (is_special_end t.model w.0.0) (is_name note) (special_end t i s w.0 w.1) named; binds = λ bound scope. quiet.1 scope ∙ ap (λ (n : Option (List ℕ)). bound_to n (result_of_point t w.0.1.instance (Port w.0.1.port w.0.1.number)) scope) (sym (quiet.0 bound)) })
 
   module _ (scope : Scope) (bound : Bindings) (suits : BoundSuits t.model.types scope bound) where
     pub caller_suits : (i : ℕ) (result : Option Kind) (v : Verb) (subject : End) (name : ℕ) (with : List Arg) (given : Option (List ℕ))
@@ -158,6 +162,7 @@ module _ (t : Described) (program : Program) (sound : IsSoundFor t.model (Some t
               (port_fits t program subject.instance subject.port subject.number p.0 (values bound with) p.1 y.0 y.1
               (arguments_kinds t.model.types sound.0.types.no_type_uses_itself scope bound (kinds_of p.0.formals) with suits x.1))
               refl;
+          noted = refl;
           binds = λ bound scope. refl;
         }
     caller_suits i result verb.Command subject name with given h =
@@ -170,6 +175,7 @@ module _ (t : Described) (program : Program) (sound : IsSoundFor t.model (Some t
               (command_fits t program subject.instance name c.0 (values bound with) c.1
               (arguments_kinds t.model.types sound.0.types.no_type_uses_itself scope bound (kinds_of c.0.formals) with suits c.2))
               refl;
+          noted = refl;
           binds = λ bound scope. untyped given scope;
         }
     caller_suits i result verb.Emit subject name with given h = absurd (never (both (is_placed t subject.instance) false h).1)
@@ -221,13 +227,14 @@ module _ (t : Described) (program : Program) (sound : IsSoundFor t.model (Some t
         → programs.returns t place scope (record { verb = verb.Return; subject = subject; name = 0; with = with; bind = None }) ≡ true
         → DueSuits t program o subject.instance result x (ends_with t program o subject.instance (Some (first_value (values bound with))))
     return_suits own subject result place with x here may inside h = absurd (inside refl)
-    return_suits taken subject result place with x here may inside h = record { placed = here; fits = (fits_plain subject.instance None).1; binds = refl }
+    return_suits taken subject result place with x here may inside h = record { placed = here; fits = (fits_plain subject.instance None).1; noted = refl; binds = refl }
     return_suits (arrived default name) subject result place with x here may inside h =
         let k = some_and_of (λ k. arguments_suit t.model.types scope (k ∷ []) with) (returned_at t subject.instance place) h in
         let value = one_value t.model.types sound.0.types.no_type_uses_itself scope bound k.0 with suits k.2 in
         record {
           placed = here;
           fits = (fits_plain subject.instance (Some (first_value (values bound with)))).0;
+          noted = refl;
           binds = (default, name, refl, subst (λ (r : Option Kind). Returns t program r (Some (first_value (values bound with)))) (sym (may k.0 k.1)) value);
         }
 
@@ -258,6 +265,7 @@ module _ (t : Described) (program : Program) (sound : IsSoundFor t.model (Some t
               (ap (λ (p : PortOf). nat_lt e.0.number p.size) into ∙ j.to_below)
               (ap (λ (ks : List Kind). have_kinds t.model.types ks (values bound with)) (sym same) ∙ values_fit))
               (wire_fits t program subject None j.output j.from_placed j.from_port j.from_below);
+          noted = general_end t subject (ap (some_and (λ (p : PortOf). is_general_output p.role)) p.1 ∙ x.0);
           binds = λ bound scope. ap (λ (k : Option Kind). bound_to given k scope) (wire_results t sound program subject e.0 e.1);
         })
     inside_suits o result place verb.Command subject name with given inside here may h =
@@ -273,6 +281,7 @@ module _ (t : Described) (program : Program) (sound : IsSoundFor t.model (Some t
               (command_fits t program e.0.instance name c.0 (values bound with) c.1
               (arguments_kinds t.model.types sound.0.types.no_type_uses_itself scope bound (kinds_of c.0.formals) with suits c.2))
               (wire_fits t program subject None j.output j.from_placed j.from_port j.from_below);
+          noted = general_end t subject (both _ _ (both _ _ b.0).0).0;
           binds = λ bound scope. untyped given scope;
         })
     inside_suits o result place verb.Respond subject name with given inside here may h =
@@ -282,7 +291,7 @@ module _ (t : Described) (program : Program) (sound : IsSoundFor t.model (Some t
         let d = both (programs.is_command place) (has_role t (is_special special.CmdResp) subject) c.0 in
         send_suits o subject.instance result (act (record { verb = verb.Respond; subject = subject; name = name; with = with; bind = given })) special.CmdResp (unwrap_or given [])
         (λ bound. refl, λ scope. untyped given scope)
-        (special_wired t sound special.CmdResp subject d.1 (zero_below subject.number c.1) b.1)
+        (special_wired t sound special.CmdResp subject d.1 (zero_below subject.number c.1) b.1) (bind_is_name given a.1)
     inside_suits o result place verb.Post subject name with given inside here may h =
         let p = some_and_of (λ (p : PortOf). is_internal p.role && arguments_suit t.model.types scope (kinds_of p.formals) with) (port_of t.model subject.instance subject.port) h in
         let x = both (is_internal p.0.role) (arguments_suit t.model.types scope (kinds_of p.0.formals) with) p.2 in
@@ -292,6 +301,7 @@ module _ (t : Described) (program : Program) (sound : IsSoundFor t.model (Some t
               (post_fits t program subject.instance subject.port p.0 (values bound with) p.1 x.0
               (arguments_kinds t.model.types sound.0.types.no_type_uses_itself scope bound (kinds_of p.0.formals) with suits x.1))
               refl;
+          noted = refl;
           binds = λ bound scope. untyped given scope;
         }
     inside_suits o result place verb.Signal subject name with given inside here may h =
@@ -303,6 +313,7 @@ module _ (t : Described) (program : Program) (sound : IsSoundFor t.model (Some t
               (signal_fits t program subject.instance subject.port name m.0 s.0 (values bound with) m.1 s.1
               (arguments_kinds t.model.types sound.0.types.no_type_uses_itself scope bound (option_to_list s.0.kind) with suits s.2))
               refl;
+          noted = refl;
           binds = λ bound scope. untyped given scope;
         }
     inside_suits o result place verb.Emit subject name with given inside here may h =
@@ -312,6 +323,7 @@ module _ (t : Described) (program : Program) (sound : IsSoundFor t.model (Some t
           placed = here;
           fits = fits_emit subject.instance name (values bound with) e.0 (event_in t subject.instance name ∙ ap (option_and_then (λ (c : Component). slice_get c.events name)) c.1 ∙ e.1)
               (arguments_kinds t.model.types sound.0.types.no_type_uses_itself scope bound (kinds_of e.0.formals) with suits e.2);
+          noted = refl;
           binds = (inside, refl, λ scope. untyped given scope);
         }
     inside_suits o result place verb.Write subject name with given inside here may h =
@@ -321,6 +333,7 @@ module _ (t : Described) (program : Program) (sound : IsSoundFor t.model (Some t
           placed = here;
           fits = fits_write subject.instance name (first_value (values bound with)) e.0 (channel_in t subject.instance name ∙ ap (option_and_then (λ (c : Component). slice_get c.channels name)) c.1 ∙ e.1)
               (one_value t.model.types sound.0.types.no_type_uses_itself scope bound e.0.kind with suits e.2);
+          noted = refl;
           binds = (inside, refl, λ scope. untyped given scope);
         }
     inside_suits o result place verb.Read subject name with given inside here may h =
@@ -333,6 +346,7 @@ module _ (t : Described) (program : Program) (sound : IsSoundFor t.model (Some t
         record {
           placed = here;
           fits = fits_read subject.instance name e.0 found;
+          noted = refl;
           binds = record {
             here = refl;
             name = n.0;
@@ -343,6 +357,6 @@ module _ (t : Described) (program : Program) (sound : IsSoundFor t.model (Some t
           };
         }
     inside_suits o result place verb.Dispatch subject name with given inside here may h =
-        record { placed = here; fits = (fits_plain subject.instance None).2; binds = (inside, refl, λ scope. untyped given scope) }
+        record { placed = here; fits = (fits_plain subject.instance None).2; noted = refl; binds = (inside, refl, λ scope. untyped given scope) }
     inside_suits o result place verb.Return subject name with given inside here may h =
         return_suits o subject result place with (act (record { verb = verb.Return; subject = subject; name = name; with = with; bind = given })) here may inside h

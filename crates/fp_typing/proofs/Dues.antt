@@ -23,6 +23,7 @@ use Rattle.fp_events.specs.Lookup.{is_active, actives, callers, home}
 use Rattle.fp_tables.specs.Lists.{is_in}
 use Rattle.fp_events.specs.declared.event.Ask.{Ask}
 use Rattle.fp_events.specs.declared.event.Ask.TheVariants as ask
+use Rattle.fp_typing.specs.Notes.{ask_note_fits}
 use Rattle.fp_typing.specs.Suits.{BoundSuits, at, AdvanceSuits, ActionSuits, MayReturn, DoingsSuit, Returns, Stands, AllSuit}
 use Rattle.fp_typing.proofs.Asks.{FirstSuits, first_suits, Binds, DueSuits, send_suits, caller_suits, inside_suits}
 
@@ -62,8 +63,8 @@ module _ (t : Described) (program : Program) (sound : IsSoundFor t.model (Some t
       (inside_suits t program sound scope b suits o result place x.verb x.subject x.name x.with x.bind inside
       (ap (is_placed t) e ∙ here)
       (subst (λ (n : ℕ). MayReturn t program o n result place) (sym e) may) s.1)
-  inside_due o i result (send s name) b place scope inside here may h suits = send_suits t program sound o i result (send s name) s name (λ bound. refl, λ scope. refl) h
-  inside_due o i result (advance running signal v) b place scope inside here may h suits = record { placed = here; fits = fits_advance i running signal v h; binds = (inside, refl, refl) }
+  inside_due o i result (send s name) b place scope inside here may h suits = send_suits t program sound o i result (send s name) s name (λ bound. refl, λ scope. refl) h.0 h.1
+  inside_due o i result (advance running signal v) b place scope inside here may h suits = record { placed = here; fits = fits_advance i running signal v h; noted = refl; binds = (inside, refl, refl) }
 
   asked_is : (o : Opened) (i : ℕ) (ds : List Doing) (x : Action) (b : Bindings) → (o ≡ own → ⊥) → asked o i x b ≡ due_in t program (record { instance = i; doing = ds; opened = o }) (Some (x, b))
   unfolding asked
@@ -96,16 +97,16 @@ module _ (t : Described) (program : Program) (sound : IsSoundFor t.model (Some t
   -- ---- the ask that is due
 
   abbrev IsFine : ℕ × Ask → Type 0
-  IsFine d = (is_placed t d.0 ≡ true) × (ask_fits t program d.0 d.1 ≡ true)
+  IsFine d = (is_placed t d.0 ≡ true) × (ask_fits t program d.0 d.1 ≡ true) × (ask_note_fits t.model d.1 ≡ true)
 
   fine_at : (o : Opened) (i : ℕ) (result : Option Kind) (x : Action) (q : Option (ℕ × Ask)) (d : ℕ × Ask) → DueSuits t program o i result x q → q ≡ Some d → IsFine d
   fine_at o i result x None d h e = absurd h
-  fine_at o i result x (Some p) d h e = subst IsFine (same_some e) (h.placed, h.fits)
+  fine_at o i result x (Some p) d h e = subst IsFine (same_some e) (h.placed, h.fits, h.noted)
 
   through_fine : (ks : List (Option Kind)) (a : ℕ) (o : Opened) (i : ℕ) (fs : List Frame) (rest : List (Option Kind) → Type 0) (result : Option Kind) (d : ℕ × Ask) → Stands t program ks a o i result fs rest → through t program o i ≡ Some d → IsFine d
   through_fine ks a own i fs rest result d stands e = absurd (no_some d e)
-  through_fine ks a (arrived default name) i fs rest result d stands e = subst IsFine (same_some e) (stands.0, (fits_end i default).0)
-  through_fine ks a taken i fs rest result d stands e = subst IsFine (same_some e) (stands.0, (fits_end i None).1)
+  through_fine ks a (arrived default name) i fs rest result d stands e = subst IsFine (same_some e) (stands.0, (fits_end i default).0, refl)
+  through_fine ks a taken i fs rest result d stands e = subst IsFine (same_some e) (stands.0, (fits_end i None).1, refl)
 
   -- the instances of dispatchers are of the topology
   of_filter : (p : ℕ → Bool) (xs : List ℕ) (k i : ℕ) → slice_get (filter p xs) k ≡ Some i → is_in i xs ≡ true
@@ -131,7 +132,7 @@ module _ (t : Described) (program : Program) (sound : IsSoundFor t.model (Some t
   pub due_fine : (ks : List (Option Kind)) (a : ℕ) (fs : List Frame) (d : ℕ × Ask) → AllSuit t program ks a fs → due_of t program a fs ≡ Some d → IsFine d
   due_fine ks a [] d h e =
       let i = mapped_some {B = ℕ × Ask} (λ i. (i, ask.Take)) (home t program a) d e in
-      subst IsFine i.2 (home_placed a i.0 i.1, (fits_end i.0 None).2)
+      subst IsFine i.2 (home_placed a i.0 i.1, (fits_end i.0 None).2, refl)
   due_fine ks a (f ∷ fs) d h e = go (first_action f.doing) refl e
     where
       go : (first : Option (Action × Bindings)) → first_action f.doing ≡ first → due_in t program f first ≡ Some d → IsFine d

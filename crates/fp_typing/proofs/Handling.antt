@@ -37,6 +37,8 @@ use Rattle.fp_typing.proofs.Lists.{find_passes}
 use Rattle.fp_typing.proofs.Parts.{port_in, command_in}
 use Rattle.fp_typing.proofs.Scopes.{nothing_suits, one_more_suits, formals_suit}
 use Rattle.fp_typing.proofs.Places.{machine_here}
+use Rattle.fp_base.specs.Names.{is_name}
+use Rattle.fp_typing.proofs.Notes.{AreNamed}
 use Rattle.fp_typing.proofs.Asks.{never}
 use Rattle.fp_tables.proofs.Aliases.{one_kind}
 use Rattle.fp_tables.proofs.Spots.{spot_equal}
@@ -228,17 +230,17 @@ module _ (t : Described) (program : Program) where
 
     -- ---- sends
 
-    send_list : (i : ℕ) (place : Spot) (scope : Scope) (s : Special) (note : List ℕ) (rest : List Action) → ActionsSuit t program (at i place) scope rest
+    send_list : (i : ℕ) (place : Spot) (scope : Scope) (s : Special) (note : List ℕ) (rest : List Action) → is_name note ≡ true → ActionsSuit t program (at i place) scope rest
         → ActionsSuit t program (at i place) scope (cond (is_some (special_wire t i s)) (send s note ∷ []) [] ++ rest)
-    send_list i place scope s note rest h = go (is_some (special_wire t i s)) refl
+    send_list i place scope s note rest named h = go (is_some (special_wire t i s)) refl
       where
         go : (b : Bool) → is_some (special_wire t i s) ≡ b → ActionsSuit t program (at i place) scope (cond b (send s note ∷ []) [] ++ rest)
-        go true e = (e, h)
+        go true e = ((e, named), h)
         go false e = h
 
-    sends_at : (i : ℕ) (place : Spot) (scope : Scope) (ports : List (Special × List ℕ)) → ActionsSuit t program (at i place) scope (sends t program i ports).actions
-    sends_at i place scope [] = tt
-    sends_at i place scope (p ∷ ps) = send_list i place scope p.0 p.1 (sends t program i ps).actions (sends_at i place scope ps)
+    sends_at : (i : ℕ) (place : Spot) (scope : Scope) (ports : List (Special × List ℕ)) → AreNamed ports → ActionsSuit t program (at i place) scope (sends t program i ports).actions
+    sends_at i place scope [] named = tt
+    sends_at i place scope (p ∷ ps) named = send_list i place scope p.0 p.1 (sends t program i ps).actions named.0 (sends_at i place scope ps named.1)
 
     -- nothing returns from a machine's action
     silent : (o : Opened) (i : ℕ) (result : Option Kind) (running k : ℕ) → MayReturn t program o i result (spot.Action running k)
@@ -246,12 +248,12 @@ module _ (t : Described) (program : Program) where
     silent taken i result running k = tt
     silent (arrived default name) i result running k = λ j h. absurd (cc)
 
-    pub sends_suit : (o : Opened) (i : ℕ) (result : Option Kind) (ports : List (Special × List ℕ)) → ((p : Spot) → source o i p ≡ at i p) → DoingSuits t program o i result (λ scope. scope) (sends t program i ports)
-    sends_suit o i result ports inside = record {
+    pub sends_suit : (o : Opened) (i : ℕ) (result : Option Kind) (ports : List (Special × List ℕ)) → AreNamed ports → ((p : Spot) → source o i p ≡ at i p) → DoingSuits t program o i result (λ scope. scope) (sends t program i ports)
+    sends_suit o i result ports named inside = record {
       place = spot.Action 0 0;
       scope = nothing_bound;
       returns = silent o i result 0 0;
-      actions = subst (λ (q : Source). ActionsSuit t program q nothing_bound (sends t program i ports).actions) (sym (inside (spot.Action 0 0))) (sends_at i (spot.Action 0 0) nothing_bound ports);
+      actions = subst (λ (q : Source). ActionsSuit t program q nothing_bound (sends t program i ports).actions) (sym (inside (spot.Action 0 0))) (sends_at i (spot.Action 0 0) nothing_bound ports named);
       bound = nothing_suits t.model.types [];
     }
 

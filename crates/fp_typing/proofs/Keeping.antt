@@ -45,6 +45,10 @@ use Rattle.fp_events.specs.declared.event.What.{What}
 use Rattle.fp_events.specs.declared.event.What.TheVariants as what
 use Rattle.fp_events.proofs.SameArrival.{value_option_same}
 use Rattle.fp_typing.specs.Suits.{result_of_point, results_by, returns_fit, Source, at, source, AdvanceSuits, ActionSuits, MayReturn, DoingSuits, DoingsSuit, Returns, awaited, Stands, FramesSuit, AllSuit}
+use Rattle.fp_base.specs.Names.{is_name}
+use Rattle.fp_tables.specs.declared.component.Channel.{Channel}
+use Rattle.fp_events.proofs.Fitting.{kind_there}
+use Rattle.fp_typing.proofs.Notes.{AreNamed, event_named, channel_named, saved_named}
 use Rattle.fp_typing.proofs.Asks.{untyped, FirstSuits, first_suits}
 use Rattle.fp_typing.proofs.Dues.{no_some, IsEnd, BindsFirst, first_binds}
 use Rattle.fp_typing.proofs.Handling.{spot_of, handling_suits, hooking_suits, sends_suit, Has, has_value, performed_suit}
@@ -229,12 +233,12 @@ module _ (t : Described) (program : Program) (sound : IsSoundFor t.model (Some t
       open_suits ks a i fs q r (handling t program i r.point r.with) (returned t program i r.point) h due is here (default_returns i r.point)
       (λ name. handling_suits t program good (arrived (returned t program i r.point) name) i (result_of_point t i r.point) r.point r.with (λ p. refl) (may_return i r.point (returned t program i r.point) name out) fit)
 
-  sending : (ks : List (Option Kind)) (a i : ℕ) (fs : List Frame) (q : Ask) (r : Arrival) (ports : List (Special × List ℕ)) → AllSuit t program ks a fs → due_of t program a fs ≡ Some (i, q) → q ≡ ask.Arrive r → is_placed t i ≡ true
+  sending : (ks : List (Option Kind)) (a i : ℕ) (fs : List Frame) (q : Ask) (r : Arrival) (ports : List (Special × List ℕ)) → AreNamed ports → AllSuit t program ks a fs → due_of t program a fs ≡ Some (i, q) → q ≡ ask.Arrive r → is_placed t i ≡ true
       → result_of_point t i r.point ≡ None → AllSuit t program (None ∷ ks) a (opened t program i (sends t program i ports) None fs)
-  sending ks a i fs q r ports h due is here none =
+  sending ks a i fs q r ports named h due is here none =
       subst (λ (k : Option Kind). AllSuit t program (k ∷ ks) a (opened t program i (sends t program i ports) None fs)) none
       (open_suits ks a i fs q r (sends t program i ports) None h due is here (subst (λ (k : Option Kind). Returns t program k None) (sym none) tt)
-      (λ name. sends_suit t program good (arrived None name) i (result_of_point t i r.point) ports (λ p. refl)))
+      (λ name. sends_suit t program good (arrived None name) i (result_of_point t i r.point) ports named (λ p. refl)))
 
   hooked : (ks : List (Option Kind)) (a i : ℕ) (fs : List Frame) (q : Ask) (r : Arrival) → AllSuit t program ks a fs → due_of t program a fs ≡ Some (i, q) → q ≡ ask.Arrive r → is_placed t i ≡ true
       → suits (manner t i r.point) (what.Hooked r) ≡ true → point_fits t program i r.point r.with ≡ true → AllSuit t program (None ∷ ks) a (opened t program i (hooking t program i r.point r.with) None fs)
@@ -276,16 +280,16 @@ module _ (t : Described) (program : Program) (sound : IsSoundFor t.model (Some t
   inner_at o k result i (ask.Advance running signal v) None p b = absurd b
   inner_at o k result i _ first p b = absurd p
 
-  sent_suits : (ks : List (Option Kind)) (a i : ℕ) (became : Fate) (s : Special) (name : List ℕ) (fs : List Frame) (q : Ask) → AllSuit t program ks a fs → due_of t program a fs ≡ Some (i, q) → IsPlain q → IsInner q → AllSuit t program ks a (sent_as t program i became s name fs)
-  sent_suits ks a i Held s name fs q h due p inner = quietly_removed t program ks a fs h (plain_answer ks a i fs q h due p)
-  sent_suits ks a i Same s name fs q h due p inner = quietly_removed t program ks a fs h (plain_answer ks a i fs q h due p)
-  sent_suits ks a i Unwired s name fs q h due p inner = quietly_removed t program ks a fs h (plain_answer ks a i fs q h due p)
-  sent_suits ks a i Sent s name [] q h due p inner = h
-  sent_suits ks a i Sent s name (f ∷ fs) q h due p inner =
+  sent_suits : (ks : List (Option Kind)) (a i : ℕ) (became : Fate) (s : Special) (name : List ℕ) (fs : List Frame) (q : Ask) → is_name name ≡ true → AllSuit t program ks a fs → due_of t program a fs ≡ Some (i, q) → IsPlain q → IsInner q → AllSuit t program ks a (sent_as t program i became s name fs)
+  sent_suits ks a i Held s name fs q named h due p inner = quietly_removed t program ks a fs h (plain_answer ks a i fs q h due p)
+  sent_suits ks a i Same s name fs q named h due p inner = quietly_removed t program ks a fs h (plain_answer ks a i fs q h due p)
+  sent_suits ks a i Unwired s name fs q named h due p inner = quietly_removed t program ks a fs h (plain_answer ks a i fs q h due p)
+  sent_suits ks a i Sent s name [] q named h due p inner = h
+  sent_suits ks a i Sent s name (f ∷ fs) q named h due p inner =
       let n = inner_at f.opened f.instance h.0 i q (first_action f.doing) inner (first_binds t program sound ks a f fs (i, q) h due) in
       let new : DoingSuits t program f.opened f.instance h.0 (λ scope. scope) (sends t program i ((s, name) ∷ [])) =
       subst (λ (k : ℕ). DoingSuits t program f.opened f.instance h.0 (λ scope. scope) (sends t program k ((s, name) ∷ []))) (sym n.1)
-      (sends_suit t program good f.opened f.instance h.0 ((s, name) ∷ []) (inside_source f.opened f.instance n.0)) in (
+      (sends_suit t program good f.opened f.instance h.0 ((s, name) ∷ []) (named, tt) (inside_source f.opened f.instance n.0)) in (
         h.0,
         (
           new,
@@ -473,10 +477,11 @@ module _ (t : Described) (program : Program) (sound : IsSoundFor t.model (Some t
       handled ks a i x.frames q r h due s.0 here (outside i Guarded r.point refl (guard_manner (manner t i r.point) r s.1)) (point_of i r fit)
   keeps ks a i x q (what.Set r) h due answer here fit =
       let s = answered_arrival t program i (what.Set r) q r refl answer in
-      sending ks a i x.frames q r ((special.CmdResp, ok_note) ∷ []) h due s.0 here (implied_returns_nothing t i r.point (what.Set r) tt s.1)
+      sending ks a i x.frames q r ((special.CmdResp, ok_note) ∷ []) (refl, tt) h due s.0 here (implied_returns_nothing t i r.point (what.Set r) tt s.1)
   keeps ks a i x q (what.Save r v) h due answer here fit =
       let s = answered_arrival t program i (what.Save r v) q r refl answer in
-      sending ks a i x.frames q r ((special.PrmSet, parameter_name t program i r.point) ∷ (special.CmdResp, ok_note) ∷ []) h due s.0 here (implied_returns_nothing t i r.point (what.Save r v) tt s.1)
+      sending ks a i x.frames q r ((special.PrmSet, parameter_name t program i r.point) ∷ (special.CmdResp, ok_note) ∷ [])
+      (saved_named t program sound.0 i r.point v (both (arrival_fits t program i r) _ fit).1, (refl, tt)) h due s.0 here (implied_returns_nothing t i r.point (what.Save r v) tt s.1)
   keeps ks a i x q (what.Put number r) h due answer here fit =
       let s = answered_arrival t program i (what.Put number r) q r refl answer in
       waiting ks a i x.frames q r (what.Put number r) h due s.0 tt s.1
@@ -497,9 +502,10 @@ module _ (t : Described) (program : Program) (sound : IsSoundFor t.model (Some t
   keeps ks a i x _ (what.Take number point vs) h due answer here fit = absurd (cc)
   keeps ks a i x ask.Dispatch what.Empty h due answer here fit = quietly_removed t program ks a x.frames h (plain_answer ks a i x.frames ask.Dispatch h due tt)
   keeps ks a i x _ what.Empty h due answer here fit = absurd (cc)
-  keeps ks a i x (ask.Emit e vs) (what.Emit event became text) h due answer here fit = sent_suits ks a i became special.Event _ x.frames (ask.Emit e vs) h due tt tt
+  keeps ks a i x (ask.Emit e vs) (what.Emit event became text) h due answer here fit = sent_suits ks a i became special.Event _ x.frames (ask.Emit e vs) (event_named t program sound.0 i event fit) h due tt tt
   keeps ks a i x _ (what.Emit event became text) h due answer here fit = absurd (cc)
-  keeps ks a i x (ask.Write c u) (what.Write channel became v) h due answer here fit = sent_suits ks a i became special.Tlm _ x.frames (ask.Write c u) h due tt tt
+  keeps ks a i x (ask.Write c u) (what.Write channel became v) h due answer here fit = sent_suits ks a i became special.Tlm _ x.frames (ask.Write c u)
+      (channel_named t program sound.0 i channel (kind_there t program (λ (c : Channel). c.kind) (slice_get (component t i).channels channel) v fit)) h due tt tt
   keeps ks a i x _ (what.Write channel became v) h due answer here fit = absurd (cc)
   keeps ks a i x (ask.Read k) (what.Read param v) h due answer here fit =
       reading ks a i param v x.frames h (at_ask a i x.frames (ask.Read k) (ask.Read param) due (ap ask.Read (sym (nat_same.equal param k answer)))) fit

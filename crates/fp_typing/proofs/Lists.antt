@@ -1,5 +1,5 @@
 -- What holds of all items of a list.
-use Rattle.std.proofs.Common.{◌≡◌, ℕ, zero, suc, Bool, true, false, cond, ◌||◌, ◌==◌, List, [], ◌∷◌, ◌++◌, get_or, Option, Some, None, option_map, is_some, unwrap_or, find, refl, sym, ap, ◌∙◌, slice_get, arith}
+use Rattle.std.proofs.Common.{◌≡◌, ℕ, Bool, true, false, cond, ◌||◌, ◌==◌, List, [], ◌∷◌, ◌++◌, Option, Some, None, option_map, is_some, unwrap_or, find, refl, sym, ap, ◌∙◌, arith}
 use Rattle.std.specs.List.{list_all}
 use Rattle.std.proofs.lemmas.Bool.Decides.{nat_tests}
 use Rattle.fp_base.proofs.Bools.{both, join}
@@ -19,11 +19,6 @@ find_passes {X} p q (y ∷ xs) x h e = go (p y) refl e (λ found. find_passes p 
     go : (b : Bool) → p y ≡ b → cond b (Some y) (find p xs) ≡ Some x → (find p xs ≡ Some x → (p x ≡ true) × (q x ≡ true)) → (p x ≡ true) × (q x ≡ true)
     go true is found rest = let s : y ≡ x = cc in (ap p (sym s) ∙ is, ap q (sym s) ∙ (both (q y) (list_all q xs) h).0)
     go false is found rest = rest found
-
-pub slice_get-get_or : {X : Type 0} (xs : List X) (k : ℕ) (x : X) → slice_get xs k ≡ Some x → get_or xs k x ≡ x
-slice_get-get_or [] k x h = absurd (cc)
-slice_get-get_or (y ∷ xs) zero x h = cc
-slice_get-get_or (y ∷ xs) (suc k) x h = slice_get-get_or xs k x h
 
 pub all_in : (p : ℕ → Bool) (k : ℕ) (xs : List ℕ) → list_all p xs ≡ true → is_in k xs ≡ true → p k ≡ true
 all_in p k [] h e = absurd (cc)

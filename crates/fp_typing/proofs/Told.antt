@@ -22,12 +22,14 @@ use Rattle.fp_tables.specs.Acts.{is_placed}
 use Rattle.fp_events.specs.Follows.{follows}
 use Rattle.fp_events.specs.Lookup.{callers, actives, home}
 use Rattle.fp_events.specs.Step.{core}
+use Rattle.fp_events.specs.declared.event.Arrival.{Arrival}
 use Rattle.fp_events.specs.declared.event.Ask.{Ask}
 use Rattle.fp_events.specs.declared.event.Ask.TheVariants as ask
 use Rattle.fp_events.specs.declared.event.Entry.{Entry}
 use Rattle.fp_events.specs.declared.event.What.{What}
 use Rattle.fp_events.specs.declared.event.What.TheVariants as what
 use Rattle.fp_events.proofs.StepLaws.{Taken, taken}
+use Rattle.fp_typing.specs.Notes.{note_fits}
 use Rattle.fp_typing.specs.Suits.{AllSuit, results_by, results_from, returns_fit, asserted_last, ends_asserted}
 use Rattle.fp_typing.proofs.Scopes.{nothing_suits}
 use Rattle.fp_typing.proofs.Asks.{never}
@@ -163,6 +165,18 @@ module _ (t : Described) (program : Program) (sound : IsSoundFor t.model (Some t
       go : (b : Bool) → cond b None (due_of t program a x.thread.frames) ≡ Some (i, q) → a < actor_count t program → (a < actor_count t program) × (is_placed t i ≡ true) × (ask_fits t program i q ≡ true)
       go true e r = absurd (no_some {X = ℕ × Ask} (i, q) e)
       go false e r = let f = due_fine t program sound (results_from t [] es) a x.thread.frames (i, q) (told_suits a es x told) e in (r, f.0, f.1)
+
+  -- the note of an arrival that is due fits
+  pub noted : (ks : List (Option Kind)) (a : ℕ) (x : Thread) (i : ℕ) (r : Arrival) → AllSuit t program ks a x.frames → due t program a x ≡ Some (i, ask.Arrive r) → note_fits t.model r.origin ≡ true
+  unfolding due
+  noted ks a x i r h is = go x.halted is
+    where
+      go : (b : Bool) → cond b None (due_of t program a x.frames) ≡ Some (i, ask.Arrive r) → note_fits t.model r.origin ≡ true
+      go true e = absurd (no_some {X = ℕ × Ask} (i, ask.Arrive r) e)
+      go false e = (due_fine t program sound ks a x.frames (i, ask.Arrive r) h e).2
+
+  pub told_notes : (a : ℕ) (es : List Entry) (x : ActorState) → Told (core t program) a es x → (i : ℕ) (r : Arrival) → due t program a x.thread ≡ Some (i, ask.Arrive r) → note_fits t.model r.origin ≡ true
+  told_notes a es x told i r h = noted (results_from t [] es) a x.thread i r (told_suits a es x told) h
 
   -- ---- where nothing is due
 

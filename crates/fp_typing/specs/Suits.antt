@@ -1,6 +1,7 @@
 -- When the frames of an actor suit: what is left of each list of actions suits what is bound, and what a frame returns is of the type that is awaited.
 use Rattle.std.specs.Prelude.{◌≡◌, ℕ, Bool, true, false, cond, nat_lt, List, [], ◌∷◌, drop, Option, Some, None, option_to_list, is_some}
 use Rattle.fp_tables.specs.Specials.{special_wire}
+use Rattle.fp_base.specs.Names.{is_name}
 use Rattle.fp_base.specs.declared.value.Value.{Value}
 use Rattle.fp_tables.specs.Acts.{bound_to, binds, result_at, is_placed}
 use Rattle.fp_tables.specs.Arguments.{Scope}
@@ -80,12 +81,12 @@ module _ (t : Described) (program : Program) where
     pub there : signal_at t program i running signal ≡ Some named
     pub value : have_kinds t.model.types (signal_kinds t program named.kind) (option_to_list v) ≡ true
 
-  -- an action of a program as a sound program's, a send from a port that has a wire, and an advance on a signal that is there
+  -- an action of a program as a sound program's, a send from a port that has a wire, with a name for its note, and an advance on a signal that is there
   abbrev pub ActionSuits : Source → Scope → Action → Type 0
   ActionSuits caller scope (act x) = caller_act_suits t scope x ≡ true
   ActionSuits caller scope _ = ⊥
   ActionSuits (at i place) scope (act x) = act_suits t i place scope x ≡ true
-  ActionSuits (at i place) scope (send s note) = is_some (special_wire t i s) ≡ true
+  ActionSuits (at i place) scope (send s note) = (is_some (special_wire t i s) ≡ true) × (is_name note ≡ true)
   ActionSuits (at i place) scope (advance running signal v) = AdvanceSuits i running signal v
 
   -- what is bound after an action
