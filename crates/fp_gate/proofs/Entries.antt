@@ -1,12 +1,12 @@
--- The entries of one pass, in a history that has got more.
-use Rattle.std.proofs.Common.{◌≡◌, ◌≢◌, ℕ, Bool, true, false, List, [], ◌∷◌, ◌++◌, sym, refl, ap, ◌∙◌, eqb, eq-eqb, cond, ne_eqb, append-nil}
+-- The entries of one pass, in a history that has got more, and in one that is made of other items.
+use Rattle.std.proofs.Common.{◌≡◌, ◌≢◌, ℕ, Bool, true, false, List, [], ◌∷◌, ◌++◌, map, filter, sym, refl, ap, ◌∙◌, eqb, eq-eqb, cond, ne_eqb, append-nil}
 use Rattle.fp_gate.specs.declared.booked.Entry.{Entry}
 use Rattle.fp_gate.specs.Entries.{entries_of}
 
 module _ {I : Type 0} where
-  pub entries-append : (k : ℕ) (a b : List (Entry I)) → entries_of k (a ++ b) ≡ entries_of k a ++ entries_of k b
-  entries-append k [] b = refl
-  entries-append k (e ∷ es) b = go (entries-append k es b) (eqb e.by k)
+  pub entries_of-append : (k : ℕ) (a b : List (Entry I)) → entries_of k (a ++ b) ≡ entries_of k a ++ entries_of k b
+  entries_of-append k [] b = refl
+  entries_of-append k (e ∷ es) b = go (entries_of-append k es b) (eqb e.by k)
     where
       go : entries_of k (es ++ b) ≡ entries_of k es ++ entries_of k b → (t : Bool) → cond t (e ∷ entries_of k (es ++ b)) (entries_of k (es ++ b)) ≡ cond t (e ∷ entries_of k es) (entries_of k es) ++ entries_of k b
       go same true = ap (λ (z : List (Entry I)). e ∷ z) same
@@ -27,4 +27,14 @@ module _ {I : Type 0} where
 
   -- the entries of another pass stay
   pub same_entries : (p k : ℕ) (a b : List (Entry I)) → AllBy p b → k ≢ p → entries_of k (a ++ b) ≡ entries_of k a
-  same_entries p k a b by ne = entries-append k a b ∙ (ap (λ (z : List (Entry I)). entries_of k a ++ z) (by k ne) ∙ append-nil (entries_of k a))
+  same_entries p k a b by ne = entries_of-append k a b ∙ (ap (λ (z : List (Entry I)). entries_of k a ++ z) (by k ne) ∙ append-nil (entries_of k a))
+
+-- of a history made item by item the entries of a pass are made of the items whose entries are the pass's
+pub entries_of-map : {I X : Type 0} (k : ℕ) (f : X → Entry I) (xs : List X) → entries_of k (map f xs) ≡ map f (filter (λ x. eqb (f x).by k) xs)
+entries_of-map k f [] = refl
+entries_of-map {I} {X} k f (x ∷ xs) = go (eqb (f x).by k) refl (entries_of-map k f xs)
+  where
+    go : (t : Bool) → eqb (f x).by k ≡ t → entries_of k (map f xs) ≡ map f (filter (λ x. eqb (f x).by k) xs)
+        → entries_of k (map f (x ∷ xs)) ≡ map f (filter (λ x. eqb (f x).by k) (x ∷ xs))
+    go true is same = rw is (ap (λ (l : List (Entry I)). f x ∷ l) same)
+    go false is same = rw is same

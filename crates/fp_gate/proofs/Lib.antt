@@ -1,4 +1,4 @@
-mod Entries
+pub mod Entries
 mod Views
 mod Working
 mod Steps

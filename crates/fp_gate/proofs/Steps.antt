@@ -17,7 +17,7 @@ use Rattle.fp_gate.specs.Views.{spent, has_ticket}
 use Rattle.fp_gate.specs.Rule.{Ruled}
 use Rattle.fp_gate.specs.Steps.{Known, drew, looked, begun, HasTurn, ended, advanced}
 use Rattle.fp_gate.specs.Passes.{MayLeave, Ends}
-use Rattle.fp_gate.proofs.Entries.{entries-append, AllBy, none_by, one_by, own_one, same_entries}
+use Rattle.fp_gate.proofs.Entries.{entries_of-append, AllBy, none_by, one_by, own_one, same_entries}
 use Rattle.fp_gate.proofs.Views.{at_less, waiting-set, waiting-le, lives, is_named, still_spent, each_set, apart_set, turn_set, kept_set, only_set}
 use Rattle.fp_gate.proofs.Working.{ViewOk, Placed, Working, named_as, allows}
 
@@ -247,7 +247,7 @@ module _ {T N I : Type 0} (name : T → N) (history : T → List (Entry I)) wher
   pub after_leave : (v : View N I) (slots found : ℕ) (me me' : Known T N I) (x : T) → me ≡ (v, (0, Some x) ∷ []) → MayLeave v (history x) → advanced history (step slots 1 1 0 none) me found me' → Ends v (history x) me'.0
   after_leave v slots found me me' x is may told =
       let t = tail_of v (history x) may in let did = subst (λ (m : Known T N I). advanced history (step slots 1 1 0 none) m found me') is told x refl in let now = did.0 in
-      let all : entries_of v.number (history x) ≡ v.left ++ t.0 = ap (entries_of v.number) t.1 ∙ (entries-append v.number v.base t.0 ∙ (λ i. did.1 i ++ t.3 i)) in (
+      let all : entries_of v.number (history x) ≡ v.left ++ t.0 = ap (entries_of v.number) t.1 ∙ (entries_of-append v.number v.base t.0 ∙ (λ i. did.1 i ++ t.3 i)) in (
         ap (λ (m : Known T N I). m.0.turns) now,
         ap (λ (m : Known T N I). m.0.base) now,
         (λ es longer. ap (λ (m : Known T N I). m.0.left) now ∙ (all ∙ ap (λ (z : List (Entry I)). v.left ++ z) (append_cancel_left v.base t.0 es (sym t.1 ∙ longer)))),

@@ -44,10 +44,10 @@ pub struct Unclosed<T: Booked + Drop> {
 }
 
 impl<T: Booked> Pass<T> {
-    ghost use Rattle.fp_gate.specs.Passes.{view};
+    ghost use Rattle.fp_gate.specs.Locks.{view_of};
 
     pub fn number(&self) -> u32
-        ensures { result ≡ (view self.now.seat).number }
+        ensures { result ≡ (view_of self.now).number }
     {
         self.number
     }
@@ -56,13 +56,14 @@ impl<T: Booked> Pass<T> {
 impl<T: Booked + Drop> TicketLock<T> {
     ghost use Rattle.fp_gate.specs.Views.{new_view};
     ghost use Rattle.fp_gate.specs.Steps.{Meets, Waits, HasTurn, made_one, newcomer};
-    ghost use Rattle.fp_gate.specs.Passes.{view, IsSamePass, IsIdle, HasEntered, Begins, MayLeave, Ends, EachAt, IsPass, IsNew, Closes};
+    ghost use Rattle.fp_gate.specs.Passes.{Begins, MayLeave, Ends, EachAt};
+    ghost use Rattle.fp_gate.specs.Locks.{id_of, seats_of, lock_of, view_of, IsPass, IsIdle, HasEntered, IsSamePass, IsNew, Closes};
 
     // The lock, with its first pass.
     fn lay(alloc: Global, value: T, seats: u32) -> Result<(TicketLock<T>, Pass<T>), NoMemory>
         requires seats { 0 < seats }
         requires bare { T.history value ≡ [] }
-        ensures { IfOk result (λ r. (r.0.seats ≡ seats) × (r.1.seat.table_id ≡ r.0.board.shared.table_id) × (r.1.seat.me ≡ (new_view (Some (T.name value)) 0 1, []))) }
+        ensures { IfOk result (λ r. (seats_of r.0 ≡ seats) × (lock_of r.1 ≡ id_of r.0) × (r.1.seat.me ≡ (new_view (Some (T.name value)) 0 1, []))) }
     {
         let about = Snapshot::of(&value);
         let mut slots = Vec::new(alloc);
@@ -75,11 +76,11 @@ impl<T: Booked + Drop> TicketLock<T> {
 
     // One more pass.
     fn cut(&self, first: &mut Pass<T>, number: u32) -> Pass<T>
-        requires gave { first.old.seat.table_id ≡ self.now.board.shared.table_id }
-        requires number { number ≡ (view first.old.seat).made }
-        requires room { (0 < (view first.old.seat).made) × ((view first.old.seat).made + 1 < 2 ^ 32) }
-        ensures first { (first.new.seat.table_id ≡ first.old.seat.table_id) × (first.new.seat.me ≡ (made_one (view first.old.seat), first.old.seat.me.1)) }
-        ensures pass { (result.seat.table_id ≡ first.old.seat.table_id) × (result.seat.me ≡ (newcomer (view first.old.seat), [])) }
+        requires gave { lock_of first.old ≡ id_of self.now }
+        requires number { number ≡ (view_of first.old).made }
+        requires room { (0 < (view_of first.old).made) × ((view_of first.old).made + 1 < 2 ^ 32) }
+        ensures first { (lock_of first.new ≡ lock_of first.old) × (first.new.seat.me ≡ (made_one (view_of first.old), first.old.seat.me.1)) }
+        ensures pass { (lock_of result ≡ lock_of first.old) × (result.seat.me ≡ (newcomer (view_of first.old), [])) }
     {
         Pass {
             seat: self.board.shared.split_seat::<Cut>(&mut first.seat),
@@ -95,8 +96,8 @@ impl<T: Booked + Drop> TicketLock<T> {
     ) -> Result<(TicketLock<T>, Row<Pass<T>>), NoMemory>
         requires seats { 0 < seats }
         requires bare { T.history value ≡ [] }
-        ensures seats { IfOk result (λ r. (r.0.seats ≡ seats) × (length r.1 ≡ seats)) }
-        ensures passes { IfOk result (λ r. EachAt (λ i p. IsPass r.0.board.shared.table_id seats i p.seat × IsIdle p.seat × IsNew (T.name value) p.seat) r.1) }
+        ensures seats { IfOk result (λ r. (seats_of r.0 ≡ seats) × (length r.1 ≡ seats)) }
+        ensures passes { IfOk result (λ r. EachAt (λ i p. IsPass (id_of r.0) seats i p × IsIdle p × IsNew (T.name value) p) r.1) }
     {
         let mut passes = Vec::with_capacity(alloc, seats as usize)?;
         let (lock, mut first) = TicketLock::lay(alloc, value, seats)?;
@@ -109,9 +110,9 @@ impl<T: Booked + Drop> TicketLock<T> {
 
     // Looks once, or a few times where this pass is the next, and says whether its turn has begun.
     fn is_served(&self, pass: &mut Pass<T>, ticket: u64) -> bool
-        requires gave { pass.old.seat.table_id ≡ self.now.board.shared.table_id }
+        requires gave { lock_of pass.old ≡ id_of self.now }
         requires waits { Waits ticket pass.old.seat.me }
-        ensures table { pass.new.seat.table_id ≡ pass.old.seat.table_id }
+        ensures table { lock_of pass.new ≡ lock_of pass.old }
         ensures turn { MatchBool result (HasTurn T.name T.history pass.old.seat.me pass.new.seat.me) (pass.new.seat.me ≡ pass.old.seat.me) }
     {
         for _ in 0..LOOKS {
@@ -129,12 +130,12 @@ impl<T: Booked + Drop> TicketLock<T> {
 
     /// Waits for this pass's turn, and gives the value. It takes no memory.
     pub fn enter<R: Wait>(&self, rt: &R, pass: &mut Pass<T>) -> T
-        requires gave { pass.old.seat.table_id ≡ self.now.board.shared.table_id }
-        requires idle { IsIdle pass.old.seat }
-        ensures same { IsSamePass pass.old.seat pass.new.seat }
-        ensures entered { HasEntered pass.new.seat }
-        ensures value { Meets T.name T.history (view pass.old.seat) result }
-        ensures turn { Begins T.history (view pass.old.seat) result (view pass.new.seat) }
+        requires gave { lock_of pass.old ≡ id_of self.now }
+        requires idle { IsIdle pass.old }
+        ensures same { IsSamePass pass.old pass.new }
+        ensures entered { HasEntered pass.new }
+        ensures value { Meets T.name T.history (view_of pass.old) result }
+        ensures turn { Begins T.history (view_of pass.old) result (view_of pass.new) }
     {
         let shared = &self.board.shared;
         let ticket = shared.fetch_add::<Draw>(&mut pass.seat, TICKET, 1);
@@ -149,13 +150,13 @@ impl<T: Booked + Drop> TicketLock<T> {
 
     /// Hands the value back, and ends the turn. It takes no memory.
     pub fn leave(&self, pass: &mut Pass<T>, value: T)
-        requires gave { pass.old.seat.table_id ≡ self.now.board.shared.table_id }
-        requires entered { HasEntered pass.old.seat }
-        requires name { (view pass.old.seat).name ≡ Some (T.name value) }
-        requires history { MayLeave (view pass.old.seat) (T.history value) }
-        ensures same { IsSamePass pass.old.seat pass.new.seat }
-        ensures idle { IsIdle pass.new.seat }
-        ensures left { Ends (view pass.old.seat) (T.history value) (view pass.new.seat) }
+        requires gave { lock_of pass.old ≡ id_of self.now }
+        requires entered { HasEntered pass.old }
+        requires name { (view_of pass.old).name ≡ Some (T.name value) }
+        requires history { MayLeave (view_of pass.old) (T.history value) }
+        ensures same { IsSamePass pass.old pass.new }
+        ensures idle { IsIdle pass.new }
+        ensures left { Ends (view_of pass.old) (T.history value) (view_of pass.new) }
     {
         let shared = &self.board.shared;
         let lent = shared.exchange(&mut pass.seat, 0, Some(value));
@@ -165,10 +166,10 @@ impl<T: Booked + Drop> TicketLock<T> {
 
     /// Takes all passes back, in the order in which `open` gave them, and gives the value. It takes no memory, so it isn't refused.
     pub fn close(self, passes: Row<Pass<T>>) -> Result<T, Unclosed<T>>
-        requires seats { length passes ≡ self.seats }
-        requires passes { EachAt (λ i p. IsPass self.board.shared.table_id self.seats i p.seat × IsIdle p.seat) passes }
+        requires seats { length passes ≡ seats_of self }
+        requires passes { EachAt (λ i p. IsPass (id_of self) (seats_of self) i p × IsIdle p) passes }
         ensures closed { IsOk result }
-        ensures value { IfOk result (λ x. EachAt (λ i p. Closes T.name T.history x i p.seat) passes) }
+        ensures value { IfOk result (λ x. EachAt (λ i p. Closes T.name T.history x i p) passes) }
         ensures untouched { IfErr result (λ back. (back.lock ≡ self) × (back.passes ≡ passes)) }
     {
         let mut passes = passes;

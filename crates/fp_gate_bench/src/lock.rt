@@ -1,5 +1,5 @@
 ghost use Rattle.std.specs.Prelude.{◌≡◌, ◌<◌, All};
-ghost use Rattle.fp_gate.specs.Passes.{IsIdle, IsSamePass};
+ghost use Rattle.fp_gate.specs.Locks.{id_of, lock_of, IsIdle, IsSamePass};
 
 use crate::blank::Blank;
 use crate::start::Start;
@@ -37,7 +37,7 @@ fn run<R: Threads + Wait + Sync>(
     start: &Start,
     turns: u32,
 )
-    requires { All (λ p. (p.seat.table_id ≡ lock.now.board.shared.table_id) × IsIdle p.seat) passes.old }
+    requires { All (λ p. (lock_of p ≡ id_of lock.now) × IsIdle p) passes.old }
 {
     thread::for_each_mut(
         rt,
@@ -54,9 +54,9 @@ fn cross<R: Wait>(
     start: &Start,
     turns: u32,
 )
-    requires gave { pass.old.seat.table_id ≡ lock.now.board.shared.table_id }
-    requires idle { IsIdle pass.old.seat }
-    ensures { IsSamePass pass.old.seat pass.new.seat × IsIdle pass.new.seat }
+    requires gave { lock_of pass.old ≡ id_of lock.now }
+    requires idle { IsIdle pass.old }
+    ensures { IsSamePass pass.old pass.new × IsIdle pass.new }
 {
     start.wait();
     for _ in 0..turns {

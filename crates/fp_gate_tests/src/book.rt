@@ -1,5 +1,5 @@
 ghost use Rattle.std.specs.Prelude.{◌≡◌, ◌+◌, [], ◌∷◌, ◌++◌, if◌then◌else◌};
-ghost use Rattle.fp_gate.specs.Passes.{view, IsIdle, IsSamePass};
+ghost use Rattle.fp_gate.specs.Locks.{id_of, lock_of, view_of, IsIdle, IsSamePass};
 
 use fp_gate::{Booked, Entry, Pass, TicketLock};
 use std::alloc::Global;
@@ -55,11 +55,11 @@ impl Book {
 
 /// One turn, in which the pass leaves the item, and says whether there was memory for it.
 pub fn note<R: Wait>(rt: &R, lock: &TicketLock<Book>, pass: &mut Pass<Book>, item: u64) -> bool
-    requires gave { pass.old.seat.table_id ≡ lock.now.board.shared.table_id }
-    requires idle { IsIdle pass.old.seat }
-    ensures same { IsSamePass pass.old.seat pass.new.seat × IsIdle pass.new.seat }
-    ensures turn { (view pass.new.seat).turns ≡ (view pass.old.seat).turns + 1 }
-    ensures left { (view pass.new.seat).left ≡ (view pass.old.seat).left ++ (if result then record { item = item; by = (view pass.old.seat).number; seen = 0 } ∷ [] else []) }
+    requires gave { lock_of pass.old ≡ id_of lock.now }
+    requires idle { IsIdle pass.old }
+    ensures same { IsSamePass pass.old pass.new × IsIdle pass.new }
+    ensures turn { (view_of pass.new).turns ≡ (view_of pass.old).turns + 1 }
+    ensures left { (view_of pass.new).left ≡ (view_of pass.old).left ++ (if result then record { item = item; by = (view_of pass.old).number; seen = 0 } ∷ [] else []) }
 {
     let mut book = lock.enter(rt, pass);
     let added = book.add(item, pass.number());

@@ -1,5 +1,5 @@
 ghost use Rattle.std.specs.Prelude.{◌≡◌, ℕ, ◌<◌, All, length, slice_index_or};
-ghost use Rattle.fp_gate.specs.Passes.{IsIdle, IsSamePass};
+ghost use Rattle.fp_gate.specs.Locks.{id_of, lock_of, IsIdle, IsSamePass};
 
 use crate::book::{Book, note};
 use fp_base::{NoMemory, Row};
@@ -13,9 +13,9 @@ use std::thread::Threads;
 const MOST: usize = 96;
 
 fn note_all<R: Wait>(rt: &R, lock: &TicketLock<Book>, pass: &mut Pass<Book>, turns: u64)
-    requires gave { pass.old.seat.table_id ≡ lock.now.board.shared.table_id }
-    requires idle { IsIdle pass.old.seat }
-    ensures { IsSamePass pass.old.seat pass.new.seat × IsIdle pass.new.seat }
+    requires gave { lock_of pass.old ≡ id_of lock.now }
+    requires idle { IsIdle pass.old }
+    ensures { IsSamePass pass.old pass.new × IsIdle pass.new }
 {
     for item in 0..turns {
         note(rt, lock, pass, item);
@@ -29,8 +29,8 @@ fn run<R: Threads + Wait + Sync>(
     passes: &mut [Pass<Book>],
     turns: u64,
 )
-    requires { All (λ p. (p.seat.table_id ≡ lock.now.board.shared.table_id) × IsIdle p.seat) passes.old }
-    ensures { (i : ℕ) (d : _) → i < length passes.old → IsSamePass (slice_index_or passes.old i d).seat (slice_index_or passes.new i d).seat × IsIdle (slice_index_or passes.new i d).seat }
+    requires { All (λ p. (lock_of p ≡ id_of lock.now) × IsIdle p) passes.old }
+    ensures { (i : ℕ) (d : _) → i < length passes.old → IsSamePass (slice_index_or passes.old i d) (slice_index_or passes.new i d) × IsIdle (slice_index_or passes.new i d) }
 {
     thread::for_each_mut(rt, passes, MOST, &|_, pass| note_all(rt, lock, pass, turns));
 }
