@@ -18,7 +18,7 @@ use Rattle.fp_events.specs.Follows.{follows}
 use Rattle.fp_events.specs.Step.{core, answers_due, taken_by, actor_part}
 use Rattle.fp_actor.specs.declared.level.Level.{Level}
 use Rattle.fp_actor.specs.declared.level.Binding.{Binding}
-use Rattle.fp_actor.specs.Levels.{frames}
+use Rattle.fp_actor.specs.Stacked.{frames}
 use Rattle.fp_actor.specs.Placed.{AreKept, Goes}
 use Rattle.fp_actor.specs.Awaited.{IsAwaited, is_assert}
 use Rattle.fp_actor.proofs.Awaiting.{awaited}

@@ -22,7 +22,9 @@ use Rattle.fp_actor.specs.declared.level.Source.TheVariants as source
 use Rattle.fp_actor.specs.declared.level.Position.{Position}
 use Rattle.fp_actor.specs.declared.lists.Deed.{Deed}
 use Rattle.fp_actor.specs.declared.lists.Deed.TheVariants as deed
-use Rattle.fp_actor.specs.Levels.{lists_of, lists_in, signal_value, signal_in, value_at, entry_of, action_at, action_of, event_name, channel_name}
+use Rattle.fp_actor.specs.Entries.{lists_of, signal_value, signal_in, event_name, channel_name}
+use Rattle.fp_actor.specs.Stacked.{lists_in, value_at, action_at, action_of}
+use Rattle.fp_actor.specs.Levels.{entry_of}
 use Rattle.fp_actor.specs.Awaited.{is_advance}
 
 -- each advance in a list, and in lists, has this value

@@ -19,7 +19,7 @@ use Rattle.fp_events.specs.Actor.{Action, act, send, advance, Bindings, Opened, 
 use Rattle.fp_events.specs.Answers.{answers}
 use Rattle.fp_events.specs.Due.{first_action, values, sent_from, along, asks_out, asks_in, asks, ends_with, through, due_in, due_of}
 use Rattle.fp_events.specs.Follows.{doing}
-use Rattle.fp_actor.specs.Levels.{IsTaking}
+use Rattle.fp_actor.specs.Entries.{IsTaking}
 use Rattle.fp_actor.specs.Awaited.{acts, advances, is_advance, IsAwaited}
 
 -- asks of actions, asks for the advance of a machine instance, and asks for a call

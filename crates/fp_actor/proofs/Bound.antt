@@ -21,7 +21,9 @@ use Rattle.fp_actor.specs.declared.level.Level.{Level}
 use Rattle.fp_actor.specs.declared.level.Binding.{Binding}
 use Rattle.fp_actor.specs.declared.stack.First.{First}
 use Rattle.fp_actor.specs.declared.stack.Bottom.{Bottom}
-use Rattle.fp_actor.specs.Levels.{begun, advanced, raised, value_given, lists_in, with_nothing, given_at, binding, made, bindings_of, left, over, framed, frames, stacked, IsFirst, AreUpTo, IsReading, IsReturning, IsBindable, action_of, called, default_in, opened_in, IsBottom}
+use Rattle.fp_actor.specs.Levels.{begun, advanced, raised, AreUpTo}
+use Rattle.fp_actor.specs.Entries.{value_given, IsReading, IsReturning}
+use Rattle.fp_actor.specs.Stacked.{lists_in, with_nothing, given_at, binding, made, bindings_of, left, over, framed, frames, stacked, IsFirst, IsBindable, action_of, called, default_in, opened_in, IsBottom}
 use Rattle.fp_actor.proofs.Stacking.{snoc}
 
 start_of : {A : Type 0} (xs : List A) (k : ℕ) (y : A) → slice_get xs k ≡ Some y → drop k xs ≡ y ∷ drop (suc k) xs

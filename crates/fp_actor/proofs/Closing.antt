@@ -14,7 +14,8 @@ use Rattle.fp_actor.specs.declared.level.Base.TheVariants as base
 use Rattle.fp_actor.specs.declared.level.Level.{Level}
 use Rattle.fp_actor.specs.declared.level.Binding.{Binding}
 use Rattle.fp_actor.specs.declared.stack.Bottom.{Bottom}
-use Rattle.fp_actor.specs.Levels.{called, call_in, default_in, opened_in, over, frames, IsReturning, IsStarting, IsMoving, IsBottom}
+use Rattle.fp_actor.specs.Stacked.{called, call_in, default_in, opened_in, over, frames, IsBottom}
+use Rattle.fp_actor.specs.Entries.{IsReturning, IsStarting, IsMoving}
 use Rattle.fp_actor.specs.declared.step.Change.{Change}
 use Rattle.fp_actor.specs.declared.step.Change.TheVariants as change
 use Rattle.fp_actor.specs.Awaited.{acts, advances, is_assert, IsChange, IsStaying, IsClosing}

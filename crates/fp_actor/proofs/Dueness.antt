@@ -8,7 +8,8 @@ use Rattle.fp_events.specs.Due.{first_action, asks, asks_in, due_in, due_of}
 use Rattle.fp_events.specs.Follows.{doing}
 use Rattle.fp_actor.specs.declared.level.Position.{Position}
 use Rattle.fp_actor.specs.declared.level.Level.{Level}
-use Rattle.fp_actor.specs.Levels.{settled, opened_in, IsWithin, AreWithin}
+use Rattle.fp_actor.specs.Levels.{settled, IsWithin, AreWithin}
+use Rattle.fp_actor.specs.Stacked.{opened_in}
 use Rattle.fp_actor.specs.declared.level.Source.{Source}
 use Rattle.fp_actor.specs.declared.level.Base.{Base}
 use Rattle.fp_actor.specs.declared.level.Base.TheVariants as base

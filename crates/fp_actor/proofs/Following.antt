@@ -19,7 +19,9 @@ use Rattle.fp_actor.specs.declared.level.Level.{Level}
 use Rattle.fp_actor.specs.declared.level.Binding.{Binding}
 use Rattle.fp_actor.specs.declared.lists.Deed.{Deed}
 use Rattle.fp_actor.specs.declared.stack.First.{First}
-use Rattle.fp_actor.specs.Levels.{begun, advanced, action_of, bindings_of, lists_of, lists_in, value_at, default_of, default_in, instance_of, called, binding, made, left, over, frames, stacked, IsFirst, level_of_entry, IsOpening, IsRemoving, IsTaking, IsSending, IsStarting, IsMoving}
+use Rattle.fp_actor.specs.Levels.{begun, advanced, level_of_entry}
+use Rattle.fp_actor.specs.Stacked.{action_of, bindings_of, lists_in, value_at, default_in, instance_of, called, binding, made, left, over, frames, stacked, IsFirst}
+use Rattle.fp_actor.specs.Entries.{lists_of, default_of, IsOpening, IsRemoving, IsTaking, IsSending, IsStarting, IsMoving}
 use Rattle.fp_actor.proofs.Settling.{begun_nothing}
 use Rattle.fp_actor.proofs.Stacking.{snoc, drop_all}
 

@@ -16,7 +16,9 @@ use Rattle.fp_actor.specs.declared.level.Base.{Base}
 use Rattle.fp_actor.specs.declared.level.Base.TheVariants as base
 use Rattle.fp_actor.specs.declared.level.Level.{Level}
 use Rattle.fp_actor.specs.declared.level.Binding.{Binding}
-use Rattle.fp_actor.specs.Levels.{begun, lists_of, lists_in, signal_value, value_given, value_at, default_of, default_in, instance_of, opened_in, called, action_at, given_at, binding, made, left, over, framed, frames, stacked}
+use Rattle.fp_actor.specs.Levels.{begun}
+use Rattle.fp_actor.specs.Entries.{lists_of, signal_value, value_given, default_of}
+use Rattle.fp_actor.specs.Stacked.{lists_in, value_at, default_in, instance_of, opened_in, called, action_at, given_at, binding, made, left, over, framed, frames, stacked}
 use Rattle.fp_actor.specs.Placed.{IsBefore, IsBaseBefore, AreBefore, AreBoundBefore}
 
 before_end : {A : Type 0} (xs ys : List A) (k : ℕ) → k < length xs → slice_get (xs ++ ys) k ≡ slice_get xs k

@@ -17,7 +17,8 @@ use Rattle.fp_actor.specs.declared.level.Base.TheVariants as base
 use Rattle.fp_actor.specs.declared.level.Level.{Level}
 use Rattle.fp_actor.specs.declared.level.Binding.{Binding}
 use Rattle.fp_actor.specs.declared.stack.First.{First}
-use Rattle.fp_actor.specs.Levels.{opening_of, advanced, raised, settled, entry_of, lists_in, action_of, level_of_entry, AreUpTo, IsFirst, IsBindable}
+use Rattle.fp_actor.specs.Levels.{opening_of, advanced, raised, settled, entry_of, level_of_entry, AreUpTo}
+use Rattle.fp_actor.specs.Stacked.{lists_in, action_of, IsFirst, IsBindable}
 use Rattle.fp_actor.specs.Placed.{IsBefore, IsBaseBefore, AreBefore, IsBeginning, HasList, Stands, AreStanding, AreKept}
 use Rattle.fp_actor.proofs.Dueness.{settled_within}
 use Rattle.fp_actor.proofs.Growing.{lists_grown}

@@ -15,3 +15,4 @@ pub mod Advancing
 pub mod Awaiting
 pub mod Closing
 pub mod Accepting
+pub mod Through

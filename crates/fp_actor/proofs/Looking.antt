@@ -11,7 +11,7 @@ use Rattle.fp_events.specs.Actor.{Bindings, Doing}
 use Rattle.fp_events.specs.Follows.{with_value}
 use Rattle.fp_tables.specs.Lookup.{Described}
 use Rattle.fp_tables.specs.declared.program.Program.{Program}
-use Rattle.fp_actor.specs.Levels.{has_kind_at}
+use Rattle.fp_actor.specs.Entries.{has_kind_at}
 use Rattle.fp_actor.proofs.Names.{find_either}
 
 abbrev pub looked : List ℕ → Bindings → Option Value

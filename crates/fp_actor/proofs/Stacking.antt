@@ -19,7 +19,8 @@ use Rattle.fp_actor.specs.declared.level.Binding.{Binding}
 use Rattle.fp_actor.specs.declared.lists.Deed.{Deed}
 use Rattle.fp_actor.specs.declared.stack.First.{First}
 use Rattle.fp_actor.specs.declared.stack.Bottom.{Bottom}
-use Rattle.fp_actor.specs.Levels.{reached, begun, settled, advanced, lists_in, action_at, action_of, bound_in, binding, made, left, over, stacked, frames, framed, IsFirst, IsBottom}
+use Rattle.fp_actor.specs.Levels.{reached, begun, settled, advanced}
+use Rattle.fp_actor.specs.Stacked.{lists_in, action_at, action_of, bound_in, binding, made, left, over, stacked, frames, framed, IsFirst, IsBottom}
 use Rattle.fp_actor.proofs.Settling.{Settled, settle, spent}
 use Rattle.fp_base.proofs.Lists.{get_last, get_front}
 

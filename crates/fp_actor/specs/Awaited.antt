@@ -5,7 +5,7 @@ use Rattle.fp_events.specs.declared.event.What.TheVariants as what
 use Rattle.fp_events.specs.Actor.{Action, advance, Bindings, Frame}
 use Rattle.fp_events.specs.Due.{first_action}
 use Rattle.fp_events.specs.Follows.{doing}
-use Rattle.fp_actor.specs.Levels.{IsOpening, IsRemoving, IsSending, IsTaking, IsReturning, IsReading, IsStarting, IsMoving}
+use Rattle.fp_actor.specs.Entries.{IsOpening, IsRemoving, IsSending, IsTaking, IsReturning, IsReading, IsStarting, IsMoving}
 use Rattle.fp_actor.specs.declared.step.Change.{Change}
 use Rattle.fp_actor.specs.declared.step.Change.TheVariants as change
 use Rattle.fp_actor.specs.declared.step.Step.{Step}

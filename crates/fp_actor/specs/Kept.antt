@@ -2,7 +2,7 @@
 use Rattle.std.specs.Prelude.{◌≡◌, Bool, true, ◌&&◌, nat_lt, vec_len, vec_capacity}
 use Rattle.fp_tables.specs.Positions.{lists_are_short}
 use Rattle.fp_events.specs.Lookup.{home}
-use Rattle.fp_actor.specs.Levels.{frames}
+use Rattle.fp_actor.specs.Stacked.{frames}
 use Rattle.fp_actor.specs.Placed.{AreKept}
 use Rattle.fp_actor.specs.Acting.{Acting, IsToldOf}
 use Rattle.fp_actor.specs.declared.actor.Actor.TheInside.{Inside}

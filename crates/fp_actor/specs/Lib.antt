@@ -1,7 +1,10 @@
 pub mod Found
 pub mod Levels
+pub mod Entries
+pub mod Stacked
 pub mod Acting
 pub mod Next
 pub mod Kept
 pub mod Placed
+pub mod Seen
 pub mod Awaited

@@ -11,7 +11,8 @@ use Rattle.fp_actor.specs.declared.level.Base.{Base}
 use Rattle.fp_actor.specs.declared.level.Base.TheVariants as base
 use Rattle.fp_actor.specs.declared.level.Level.{Level}
 use Rattle.fp_actor.specs.declared.level.Binding.{Binding}
-use Rattle.fp_actor.specs.Levels.{lists_in, frames, IsWithin, AreUpTo}
+use Rattle.fp_actor.specs.Stacked.{lists_in, frames}
+use Rattle.fp_actor.specs.Levels.{IsWithin, AreUpTo}
 
 abbrev pub IsBefore : ℕ → Source → Type 0
 IsBefore n source.Own = Unit {0}

@@ -1,6 +1,7 @@
 ghost use Rattle.std.specs.Prelude.{◌≡◌, ◌<◌, ◌≤◌, true, false, [], ◌∷◌, ◌++◌, Some, IfOk, OnOk, slice_get};
 ghost use Rattle.fp_tables.specs.Sound.{IsSoundFor};
 ghost use Rattle.fp_events.specs.Actor.{opened_actor};
+ghost use Rattle.fp_events.specs.Ends.{is_through};
 ghost use Rattle.fp_events.specs.Step.{actor_part};
 ghost use Rattle.fp_actor.specs.Acting.{due_of_actor, AnswersDue, IsSameActor, IsToldOf};
 ghost use Rattle.fp_actor.specs.Next.{next_of};
@@ -11,7 +12,7 @@ use crate::home::home_of;
 use crate::level::{Base, Binding, Level, Position, Source};
 use crate::step::is_assert;
 use crate::view::View;
-use fp_base::NoMemory;
+use fp_base::{NoMemory, Row};
 use fp_events::{Ask, Entry};
 use fp_tables::{Program, Tables};
 use std::alloc::Global;
@@ -157,6 +158,36 @@ impl<'a> Actor<'a> {
         ensures told { IsToldOf self.now }
     {
         self.trace.as_slice()
+    }
+
+    /// The trace of a run that is over.
+    pub fn into_trace(self) -> Row<Entry>
+        ensures trace { result ≡ self.entry.trace }
+        ensures told { IsToldOf self.entry }
+    {
+        let Actor { trace, .. } = self;
+        Row::from_vec(trace)
+    }
+
+    /// The stamp of the last entry, 0 before the first.
+    pub fn last(&self) -> u64
+        ensures { result ≡ self.now.state.last }
+    {
+        self.last
+    }
+
+    /// Whether it has no frame but a caller's own list, of which no action is left.
+    pub fn is_through(&self) -> bool
+        ensures { result ≡ is_through self.now.state.thread.frames }
+    {
+        let view = View {
+            tables: self.tables,
+            program: self.program,
+            handlers: &self.handlers,
+            number: self.number,
+            trace: self.trace.as_slice(),
+        };
+        view.is_through(self.levels.as_slice())
     }
 }
 

@@ -9,7 +9,9 @@ ghost use Rattle.fp_events.specs.declared.event.Point.TheVariants as point;
 ghost use Rattle.fp_events.specs.declared.event.Ask.TheVariants as ask;
 ghost use Rattle.fp_events.specs.declared.event.Entry.{Entry};
 ghost use Rattle.fp_actor.specs.declared.level.Source.{Source};
-ghost use Rattle.fp_actor.specs.Levels.{default_of, default_in, instance_of, opened_in};
+ghost use Rattle.fp_actor.specs.Entries.{default_of};
+ghost use Rattle.fp_actor.specs.Stacked.{opened_in};
+ghost use Rattle.fp_actor.specs.Seen.{default_in, instance_of};
 
 use crate::level::{Base, Source};
 use crate::values::bind_of;
@@ -199,7 +201,7 @@ pub fn caller_asks(act: &Act, with: Row<Value>) -> Option<(u32, Ask)>
 
 impl<'v> View<'v> {
     pub fn instance(&self, source: Source) -> u32
-        ensures { result ≡ instance_of self.now.tables.now self.now.program.now self.now.number self.now.trace.now source }
+        ensures { result ≡ instance_of self.now source }
     {
         match source {
             Source::Own => 0,
@@ -212,7 +214,7 @@ impl<'v> View<'v> {
 
     /// What is returned from a frame where no action returns anything.
     pub fn default(&self, alloc: Global, source: Source) -> Result<Option<Value>, NoMemory>
-        ensures { IfOk result (λ v. v ≡ default_in self.now.tables.now self.now.program.now self.now.number self.now.trace.now source) }
+        ensures { IfOk result (λ v. v ≡ default_in self.now source) }
     {
         match source {
             Source::Own => Ok(None),

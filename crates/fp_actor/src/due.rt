@@ -2,7 +2,8 @@ ghost use Rattle.std.specs.Prelude.{◌≡◌, ℕ, List, Some, length, IfOk};
 ghost use Rattle.fp_events.specs.Lookup.{home as home_of};
 ghost use Rattle.fp_events.specs.Actor.{Doing};
 ghost use Rattle.fp_events.specs.Due.{asks, due_in, due_of, through as asks_through};
-ghost use Rattle.fp_actor.specs.Levels.{action_of, opened_in, instance_of, framed, frames, bindings_of, IsWithin, AreWithin};
+ghost use Rattle.fp_actor.specs.Levels.{IsWithin, AreWithin};
+ghost use Rattle.fp_actor.specs.Seen.{action_of, opened_in, instance_of, framed, frames, bindings_of};
 
 use crate::asks::caller_asks;
 use crate::level::{Base, Binding, Level};
@@ -17,7 +18,7 @@ use std::alloc::Global;
 impl<'v> View<'v> {
     /// What a frame asks that has no action left.
     fn through(&self, alloc: Global, bottom: Level) -> Result<Option<(u32, Ask)>, NoMemory>
-        ensures { IfOk result (λ d. d ≡ asks_through self.now.tables.now self.now.program.now (opened_in self.now.tables.now self.now.program.now self.now.number self.now.trace.now bottom.base bottom.next.source) (instance_of self.now.tables.now self.now.program.now self.now.number self.now.trace.now bottom.next.source)) }
+        ensures { IfOk result (λ d. d ≡ asks_through self.now.tables.now self.now.program.now (opened_in self.now bottom.base bottom.next.source) (instance_of self.now bottom.next.source)) }
     {
         let instance = self.instance(bottom.next.source);
         match bottom.base {
@@ -38,7 +39,7 @@ impl<'v> View<'v> {
         act: &Act,
         with: Row<Value>,
     ) -> Result<Option<(u32, Ask)>, NoMemory>
-        ensures { IfOk result (λ d. d ≡ asks self.now.tables.now self.now.program.now (opened_in self.now.tables.now self.now.program.now self.now.number self.now.trace.now bottom.base bottom.next.source) (instance_of self.now.tables.now self.now.program.now self.now.number self.now.trace.now bottom.next.source) act.now with) }
+        ensures { IfOk result (λ d. d ≡ asks self.now.tables.now self.now.program.now (opened_in self.now bottom.base bottom.next.source) (instance_of self.now bottom.next.source) act.now with) }
     {
         match bottom.base {
             Base::Inside => Ok(caller_asks(act, with)),
@@ -59,8 +60,8 @@ impl<'v> View<'v> {
         bindings: &[Binding],
     ) -> Result<Option<(u32, Ask)>, NoMemory>
         requires { IsWithin (length bindings.now) first.level }
-        ensures { (ds : List Doing) → IfOk result (λ d. d ≡ due_in self.now.tables.now self.now.program.now (framed self.now.tables.now self.now.program.now self.now.number self.now.trace.now bottom ds)
-            (Some (action_of self.now.tables.now self.now.program.now self.now.number self.now.trace.now first.entry.deed, bindings_of self.now.tables.now self.now.program.now self.now.number self.now.trace.now bindings.now first.entry.level))) }
+        ensures { (ds : List Doing) → IfOk result (λ d. d ≡ due_in self.now.tables.now self.now.program.now (framed self.now bottom ds)
+            (Some (action_of self.now first.entry.deed, bindings_of self.now bindings.now first.entry.level))) }
     {
         match first.deed {
             Deed::Act(act) => {
@@ -100,7 +101,7 @@ impl<'v> View<'v> {
     ) -> Result<Option<(u32, Ask)>, NoMemory>
         requires home { home ≡ home_of self.now.tables.now self.now.program.now self.now.number }
         requires within { AreWithin (length bindings.now) levels.now }
-        ensures { IfOk result (λ d. d ≡ due_of self.now.tables.now self.now.program.now self.now.number (frames self.now.tables.now self.now.program.now self.now.number self.now.trace.now bindings.now levels.now)) }
+        ensures { IfOk result (λ d. d ≡ due_of self.now.tables.now self.now.program.now self.now.number (frames self.now bindings.now levels.now)) }
     {
         match self.bottom(levels) {
             Some(bottom) => match self.first(levels) {

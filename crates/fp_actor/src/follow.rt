@@ -5,9 +5,10 @@ ghost use Rattle.fp_events.specs.declared.event.Entry.{Entry};
 ghost use Rattle.fp_actor.specs.declared.level.Base.TheVariants as base;
 ghost use Rattle.fp_actor.specs.declared.level.Level.{Level as LevelOf};
 ghost use Rattle.fp_actor.specs.declared.level.Binding.{Binding as BindingOf};
-ghost use Rattle.fp_actor.specs.Levels.{advanced, raised, frames, level_of_entry, called, entry_of, IsReading, IsReturning, IsFirst, IsOpening, IsRemoving, IsSending, IsTaking, IsStarting, IsMoving, IsBottom};
-ghost use Rattle.fp_actor.specs.Placed.{AreKept, Goes};
+ghost use Rattle.fp_actor.specs.Levels.{advanced, raised, level_of_entry, entry_of};
+ghost use Rattle.fp_actor.specs.Entries.{IsReading, IsReturning, IsOpening, IsRemoving, IsSending, IsTaking, IsStarting, IsMoving};
 ghost use Rattle.fp_actor.specs.Awaited.{is_advance};
+ghost use Rattle.fp_actor.specs.Seen.{frames, called, IsFirst, IsBottom, AreKept, Goes};
 
 use crate::level::{Base, Binding, Level, Position, Source};
 use crate::stack::{Bottom, First};
@@ -114,7 +115,7 @@ impl<'v> View<'v> {
         at: usize,
         value: usize,
     )
-        requires first { (bindings : List BindingOf) → IsFirst self.now.tables.now self.now.program.now self.now.number self.now.trace.now bindings levels.old.items first }
+        requires first { (bindings : List BindingOf) → IsFirst self.now bindings levels.old.items first }
         requires room { vec_len levels.old < vec_capacity levels.old }
         ensures { levels.new.items ≡ (take first.entry.below levels.old.items ++ advanced first.entry.level ∷ []) ++ level_of_entry base at value first.entry.level.past ∷ [] }
     {
@@ -124,39 +125,39 @@ impl<'v> View<'v> {
 
     /// What an arrival that opens a frame makes of the levels.
     pub fn open_frame(&self, levels: &mut Vec<Level>, first: First<'v>, at: usize)
-        requires first { (bindings : List BindingOf) → IsFirst self.now.tables.now self.now.program.now self.now.number self.now.trace.now bindings levels.old.items first }
+        requires first { (bindings : List BindingOf) → IsFirst self.now bindings levels.old.items first }
         requires room { vec_len levels.old < vec_capacity levels.old }
         ensures { (bindings : List BindingOf) (entry : Entry) → slice_get self.now.trace.now at ≡ Some entry → IsOpening entry.what
-            → AreKept self.now.tables.now self.now.program.now self.now.number self.now.trace.now bindings levels.old.items → Goes self.now.tables.now self.now.program.now self.now.number self.now.trace.now entry bindings levels.old.items bindings levels.new.items }
+            → AreKept self.now bindings levels.old.items → Goes self.now entry bindings levels.old.items bindings levels.new.items }
     {
         self.replace_first(levels, first, Base::Arrived(Some(first.level.next)), at, at);
     }
 
     /// What an arrival that opens no frame, an empty queue, or an emission or a write that was not sent makes of the levels.
     pub fn remove_first(&self, levels: &mut Vec<Level>, first: First<'v>)
-        requires { (bindings : List BindingOf) → IsFirst self.now.tables.now self.now.program.now self.now.number self.now.trace.now bindings levels.old.items first }
+        requires { (bindings : List BindingOf) → IsFirst self.now bindings levels.old.items first }
         ensures { (bindings : List BindingOf) (entry : Entry) → IsRemoving entry.what
-            → AreKept self.now.tables.now self.now.program.now self.now.number self.now.trace.now bindings levels.old.items → Goes self.now.tables.now self.now.program.now self.now.number self.now.trace.now entry bindings levels.old.items bindings levels.new.items }
+            → AreKept self.now bindings levels.old.items → Goes self.now entry bindings levels.old.items bindings levels.new.items }
     {
         remove(levels, first.below, first.level);
     }
 
     /// What an emission or a write that was sent makes of the levels.
     pub fn send_first(&self, levels: &mut Vec<Level>, first: First<'v>, at: usize)
-        requires first { (bindings : List BindingOf) → IsFirst self.now.tables.now self.now.program.now self.now.number self.now.trace.now bindings levels.old.items first }
+        requires first { (bindings : List BindingOf) → IsFirst self.now bindings levels.old.items first }
         requires room { vec_len levels.old < vec_capacity levels.old }
         ensures { (bindings : List BindingOf) (entry : Entry) → slice_get self.now.trace.now at ≡ Some entry → IsSending entry.what
-            → AreKept self.now.tables.now self.now.program.now self.now.number self.now.trace.now bindings levels.old.items → Goes self.now.tables.now self.now.program.now self.now.number self.now.trace.now entry bindings levels.old.items bindings levels.new.items }
+            → AreKept self.now bindings levels.old.items → Goes self.now entry bindings levels.old.items bindings levels.new.items }
     {
         self.replace_first(levels, first, Base::Inside, at, at);
     }
 
     /// What a take makes of the levels, where a dispatch asked for it.
     pub fn take_from_frame(&self, levels: &mut Vec<Level>, first: First<'v>, at: usize)
-        requires first { (bindings : List BindingOf) → IsFirst self.now.tables.now self.now.program.now self.now.number self.now.trace.now bindings levels.old.items first }
+        requires first { (bindings : List BindingOf) → IsFirst self.now bindings levels.old.items first }
         requires room { vec_len levels.old < vec_capacity levels.old }
         ensures { (bindings : List BindingOf) (entry : Entry) → slice_get self.now.trace.now at ≡ Some entry → IsTaking entry.what
-            → AreKept self.now.tables.now self.now.program.now self.now.number self.now.trace.now bindings levels.old.items → Goes self.now.tables.now self.now.program.now self.now.number self.now.trace.now entry bindings levels.old.items bindings levels.new.items }
+            → AreKept self.now bindings levels.old.items → Goes self.now entry bindings levels.old.items bindings levels.new.items }
     {
         self.replace_first(levels, first, Base::Taken, at, at);
     }
@@ -165,18 +166,18 @@ impl<'v> View<'v> {
     pub fn take_frame(&self, levels: &mut Vec<Level>, at: usize)
         requires { vec_len levels.old < vec_capacity levels.old }
         ensures { (bindings : List BindingOf) (entry : Entry) → slice_get self.now.trace.now at ≡ Some entry → IsTaking entry.what → levels.old.items ≡ []
-            → AreKept self.now.tables.now self.now.program.now self.now.number self.now.trace.now bindings levels.old.items → Goes self.now.tables.now self.now.program.now self.now.number self.now.trace.now entry bindings levels.old.items bindings levels.new.items }
+            → AreKept self.now bindings levels.old.items → Goes self.now entry bindings levels.old.items bindings levels.new.items }
     {
         put(levels, Base::Taken, at, at, 0);
     }
 
     /// What a start makes of the levels: the lists of its actions stand before the advance.
     pub fn start(&self, levels: &mut Vec<Level>, first: First<'v>, at: usize)
-        requires first { (bindings : List BindingOf) → IsFirst self.now.tables.now self.now.program.now self.now.number self.now.trace.now bindings levels.old.items first }
+        requires first { (bindings : List BindingOf) → IsFirst self.now bindings levels.old.items first }
         requires room { vec_len levels.old < vec_capacity levels.old }
         ensures { (bindings : List BindingOf) (entry : Entry) → slice_get self.now.trace.now at ≡ Some entry → IsStarting entry.what
-            → is_advance (first_action (doing (frames self.now.tables.now self.now.program.now self.now.number self.now.trace.now bindings levels.old.items))) ≡ true
-            → AreKept self.now.tables.now self.now.program.now self.now.number self.now.trace.now bindings levels.old.items → Goes self.now.tables.now self.now.program.now self.now.number self.now.trace.now entry bindings levels.old.items bindings levels.new.items }
+            → is_advance (first_action (doing (frames self.now bindings levels.old.items))) ≡ true
+            → AreKept self.now bindings levels.old.items → Goes self.now entry bindings levels.old.items bindings levels.new.items }
     {
         let past = past_of(levels.as_slice());
         put(
@@ -190,11 +191,11 @@ impl<'v> View<'v> {
 
     /// What a move makes of the levels: the lists of its actions stand in place of the advance.
     pub fn move_on(&self, levels: &mut Vec<Level>, first: First<'v>, at: usize)
-        requires first { (bindings : List BindingOf) → IsFirst self.now.tables.now self.now.program.now self.now.number self.now.trace.now bindings levels.old.items first }
+        requires first { (bindings : List BindingOf) → IsFirst self.now bindings levels.old.items first }
         requires room { vec_len levels.old < vec_capacity levels.old }
         ensures { (bindings : List BindingOf) (entry : Entry) → slice_get self.now.trace.now at ≡ Some entry → IsMoving entry.what
-            → is_advance (first_action (doing (frames self.now.tables.now self.now.program.now self.now.number self.now.trace.now bindings levels.old.items))) ≡ true
-            → AreKept self.now.tables.now self.now.program.now self.now.number self.now.trace.now bindings levels.old.items → Goes self.now.tables.now self.now.program.now self.now.number self.now.trace.now entry bindings levels.old.items bindings levels.new.items }
+            → is_advance (first_action (doing (frames self.now bindings levels.old.items))) ≡ true
+            → AreKept self.now bindings levels.old.items → Goes self.now entry bindings levels.old.items bindings levels.new.items }
     {
         self.replace_first(
             levels,
@@ -213,11 +214,11 @@ impl<'v> View<'v> {
         first: First<'v>,
         at: usize,
     )
-        requires first { IsFirst self.now.tables.now self.now.program.now self.now.number self.now.trace.now bindings.old.items levels.old.items first }
-        requires kept { AreKept self.now.tables.now self.now.program.now self.now.number self.now.trace.now bindings.old.items levels.old.items }
+        requires first { IsFirst self.now bindings.old.items levels.old.items first }
+        requires kept { AreKept self.now bindings.old.items levels.old.items }
         requires room { vec_len bindings.old < vec_capacity bindings.old }
         ensures { (entry : Entry) → slice_get self.now.trace.now at ≡ Some entry → IsReading entry.what
-            → Goes self.now.tables.now self.now.program.now self.now.number self.now.trace.now entry bindings.old.items levels.old.items bindings.new.items levels.new.items }
+            → Goes self.now entry bindings.old.items levels.old.items bindings.new.items levels.new.items }
     {
         let level = Level {
             base: first.level.base,
@@ -249,13 +250,13 @@ impl<'v> View<'v> {
         call: Position,
         at: usize,
     )
-        requires bottom { IsBottom self.now.tables.now self.now.program.now self.now.number self.now.trace.now bindings.old.items levels.old.items bottom }
+        requires bottom { IsBottom self.now bindings.old.items levels.old.items bottom }
         requires base { bottom.level.base ≡ base.Arrived (Some call) }
-        requires named { is_some (called self.now.tables.now self.now.program.now self.now.number self.now.trace.now (Some call)) ≡ true }
-        requires kept { AreKept self.now.tables.now self.now.program.now self.now.number self.now.trace.now bindings.old.items levels.old.items }
+        requires named { is_some (called self.now (Some call)) ≡ true }
+        requires kept { AreKept self.now bindings.old.items levels.old.items }
         requires room { vec_len bindings.old < vec_capacity bindings.old }
         ensures { (entry : Entry) → slice_get self.now.trace.now at ≡ Some entry → IsReturning entry.what
-            → Goes self.now.tables.now self.now.program.now self.now.number self.now.trace.now entry bindings.old.items levels.old.items bindings.new.items levels.new.items }
+            → Goes self.now entry bindings.old.items levels.old.items bindings.new.items levels.new.items }
     {
         self.close(levels, bottom);
         let Some((level, below)) = levels.as_slice().split_last() else {

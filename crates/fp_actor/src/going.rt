@@ -3,9 +3,9 @@ ghost use Rattle.fp_events.specs.Follows.{as_name};
 ghost use Rattle.fp_events.specs.declared.event.Entry.{Entry};
 ghost use Rattle.fp_actor.specs.declared.level.Base.TheVariants as opened;
 ghost use Rattle.fp_actor.specs.declared.level.Binding.{Binding as BindingOf};
-ghost use Rattle.fp_actor.specs.Levels.{called, call_in, frames, IsTaking, IsReturning};
-ghost use Rattle.fp_actor.specs.Placed.{AreKept, Goes};
+ghost use Rattle.fp_actor.specs.Entries.{IsTaking, IsReturning};
 ghost use Rattle.fp_actor.specs.Awaited.{IsAwaited, IsChange, IsClosing};
+ghost use Rattle.fp_actor.specs.Seen.{called, call_in, frames, AreKept, Goes};
 
 use crate::level::{Base, Binding, Level, Position};
 use crate::lists::Deed;
@@ -25,7 +25,7 @@ fn is_named(act: &Act) -> bool
 
 impl<'v> View<'v> {
     fn is_named_call(&self, call: Position) -> bool
-        ensures { result ≡ is_some (called self.now.tables.now self.now.program.now self.now.number self.now.trace.now (Some call)) }
+        ensures { result ≡ is_some (called self.now (Some call)) }
     {
         match self.deed(call) {
             Some(Deed::Act(act)) => is_named(act),
@@ -37,8 +37,8 @@ impl<'v> View<'v> {
 
     /// The call that a frame answers, where it has a name for what is returned.
     fn named_call(&self, base: Base) -> Option<Position>
-        ensures { MatchOption result (is_some (call_in self.now.tables.now self.now.program.now self.now.number self.now.trace.now base) ≡ false)
-            (λ call. (base ≡ opened.Arrived (Some call)) × (is_some (called self.now.tables.now self.now.program.now self.now.number self.now.trace.now (Some call)) ≡ true)) }
+        ensures { MatchOption result (is_some (call_in self.now base) ≡ false)
+            (λ call. (base ≡ opened.Arrived (Some call)) × (is_some (called self.now (Some call)) ≡ true)) }
     {
         match base {
             Base::Inside => None,
@@ -58,7 +58,7 @@ impl<'v> View<'v> {
     /// What an entry that closes a frame and returns nothing makes of the levels.
     fn close_frame(&self, levels: &mut Vec<Level>)
         ensures { (bindings : List BindingOf) (entry : Entry) → IsClosing entry.what
-            → AreKept self.now.tables.now self.now.program.now self.now.number self.now.trace.now bindings levels.old.items → Goes self.now.tables.now self.now.program.now self.now.number self.now.trace.now entry bindings levels.old.items bindings levels.new.items }
+            → AreKept self.now bindings levels.old.items → Goes self.now entry bindings levels.old.items bindings levels.new.items }
     {
         let Some(bottom) = self.bottom(levels.as_slice()) else {
             return;
@@ -68,10 +68,10 @@ impl<'v> View<'v> {
 
     /// What a leave that returns a value makes of the levels and the bindings.
     fn return_from_frame(&self, levels: &mut Vec<Level>, bindings: &mut Vec<Binding>, at: usize)
-        requires kept { AreKept self.now.tables.now self.now.program.now self.now.number self.now.trace.now bindings.old.items levels.old.items }
+        requires kept { AreKept self.now bindings.old.items levels.old.items }
         requires room { vec_len bindings.old < vec_capacity bindings.old }
         ensures { (entry : Entry) → slice_get self.now.trace.now at ≡ Some entry → IsReturning entry.what
-            → Goes self.now.tables.now self.now.program.now self.now.number self.now.trace.now entry bindings.old.items levels.old.items bindings.new.items levels.new.items }
+            → Goes self.now entry bindings.old.items levels.old.items bindings.new.items levels.new.items }
     {
         let Some(bottom) = self.bottom(levels.as_slice()) else {
             return;
@@ -86,8 +86,8 @@ impl<'v> View<'v> {
     fn take(&self, levels: &mut Vec<Level>, at: usize)
         requires { vec_len levels.old < vec_capacity levels.old }
         ensures { (bindings : List BindingOf) (entry : Entry) → slice_get self.now.trace.now at ≡ Some entry → IsTaking entry.what
-            → IsAwaited (frames self.now.tables.now self.now.program.now self.now.number self.now.trace.now bindings levels.old.items) entry.what
-            → AreKept self.now.tables.now self.now.program.now self.now.number self.now.trace.now bindings levels.old.items → Goes self.now.tables.now self.now.program.now self.now.number self.now.trace.now entry bindings levels.old.items bindings levels.new.items }
+            → IsAwaited (frames self.now bindings levels.old.items) entry.what
+            → AreKept self.now bindings levels.old.items → Goes self.now entry bindings levels.old.items bindings levels.new.items }
     {
         match self.first(levels.as_slice()) {
             Some(first) => self.take_from_frame(levels, first, at),
@@ -97,12 +97,12 @@ impl<'v> View<'v> {
 
     /// What an entry that answers what an action asks makes of the levels and the bindings.
     fn act(&self, levels: &mut Vec<Level>, bindings: &mut Vec<Binding>, change: Change, at: usize)
-        requires kept { AreKept self.now.tables.now self.now.program.now self.now.number self.now.trace.now bindings.old.items levels.old.items }
+        requires kept { AreKept self.now bindings.old.items levels.old.items }
         requires level_room { vec_len levels.old < vec_capacity levels.old }
         requires binding_room { vec_len bindings.old < vec_capacity bindings.old }
         ensures { (entry : Entry) → slice_get self.now.trace.now at ≡ Some entry → IsChange change entry.what
-            → IsAwaited (frames self.now.tables.now self.now.program.now self.now.number self.now.trace.now bindings.old.items levels.old.items) entry.what
-            → Goes self.now.tables.now self.now.program.now self.now.number self.now.trace.now entry bindings.old.items levels.old.items bindings.new.items levels.new.items }
+            → IsAwaited (frames self.now bindings.old.items levels.old.items) entry.what
+            → Goes self.now entry bindings.old.items levels.old.items bindings.new.items levels.new.items }
     {
         let Some(first) = self.first(levels.as_slice()) else {
             return;
@@ -119,12 +119,12 @@ impl<'v> View<'v> {
 
     /// What the entry at `at` makes of the levels and the bindings.
     pub fn follow(&self, levels: &mut Vec<Level>, bindings: &mut Vec<Binding>, at: usize)
-        requires kept { AreKept self.now.tables.now self.now.program.now self.now.number self.now.trace.now bindings.old.items levels.old.items }
+        requires kept { AreKept self.now bindings.old.items levels.old.items }
         requires level_room { vec_len levels.old < vec_capacity levels.old }
         requires binding_room { vec_len bindings.old < vec_capacity bindings.old }
         ensures { (entry : Entry) → slice_get self.now.trace.now at ≡ Some entry
-            → IsAwaited (frames self.now.tables.now self.now.program.now self.now.number self.now.trace.now bindings.old.items levels.old.items) entry.what
-            → Goes self.now.tables.now self.now.program.now self.now.number self.now.trace.now entry bindings.old.items levels.old.items bindings.new.items levels.new.items }
+            → IsAwaited (frames self.now bindings.old.items levels.old.items) entry.what
+            → Goes self.now entry bindings.old.items levels.old.items bindings.new.items levels.new.items }
     {
         let Some(entry) = self.entry(at) else {
             return;

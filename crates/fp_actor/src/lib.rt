@@ -4,6 +4,7 @@
 mod actor;
 mod asks;
 mod due;
+mod ending;
 mod follow;
 mod going;
 mod handlers;
@@ -17,3 +18,4 @@ mod values;
 mod view;
 
 pub use actor::{Actor, Next};
+pub use home::actor_count;

@@ -6,8 +6,11 @@ ghost use Rattle.fp_events.specs.Actor.{act};
 ghost use Rattle.fp_events.specs.Due.{first_action};
 ghost use Rattle.fp_events.specs.Follows.{acts_at, handling as handling_of, hook_spot, performed, value_in};
 ghost use Rattle.fp_events.specs.declared.event.Entry.{Entry};
-ghost use Rattle.fp_actor.specs.Levels.{IsOneList, own_lists, lists_in, lists_of, value_at, signal_in, sent, action_of, actions_of};
+ghost use Rattle.fp_actor.specs.Entries.{IsOneList, lists_of, signal_in};
+ghost use Rattle.fp_actor.specs.Stacked.{action_of, actions_of as listed};
+ghost use Rattle.fp_actor.specs.Levels.{sent};
 ghost use Rattle.fp_actor.specs.declared.level.Source.TheVariants as source;
+ghost use Rattle.fp_actor.specs.Seen.{own_lists, lists_in, value_at, actions_of};
 
 use crate::level::Source;
 use crate::view::View;
@@ -50,7 +53,7 @@ impl<'v> ActionList<'v> {
     pub fn get(&self, at: usize) -> Option<Deed<'v>>
         ensures few { OnSome result (at + 1 < 2 ^ 64) }
         ensures value { (t : Described) (program : Program) (n : ℕ) (trace : List Entry)
-            → option_map (action_of t program n trace) result ≡ slice_get (actions_of t program n trace self.now) at }
+            → option_map (action_of t program n trace) result ≡ slice_get (listed t program n trace self.now) at }
     {
         match self {
             ActionList::Acts(acts) => get_act(acts, at),
@@ -112,8 +115,8 @@ fn get_send<'v>(
 impl<'v> View<'v> {
     /// The list of this number of a source.
     pub fn list(&self, source: Source, list: usize) -> Option<ActionList<'v>>
-        ensures value { option_map (actions_of self.now.tables.now self.now.program.now self.now.number self.now.trace.now) result
-            ≡ option_map (λ d. d.actions) (slice_get (lists_in self.now.tables.now self.now.program.now self.now.number self.now.trace.now source) list) }
+        ensures value { option_map (actions_of self.now) result
+            ≡ option_map (λ d. d.actions) (slice_get (lists_in self.now source) list) }
         ensures few { OnSome result (list + 1 < 2 ^ 64) }
     {
         match source {
@@ -123,8 +126,8 @@ impl<'v> View<'v> {
     }
 
     fn own_list(&self, list: usize) -> Option<ActionList<'v>>
-        ensures value { option_map (actions_of self.now.tables.now self.now.program.now self.now.number self.now.trace.now) result
-            ≡ option_map (λ d. d.actions) (slice_get (own_lists self.now.tables.now self.now.program.now self.now.number self.now.trace.now) list) }
+        ensures value { option_map (actions_of self.now) result
+            ≡ option_map (λ d. d.actions) (slice_get (own_lists self.now) list) }
         ensures few { OnSome result (list + 1 < 2 ^ 64) }
     {
         match self.program.callers.get(self.number as usize) {
@@ -140,8 +143,8 @@ impl<'v> View<'v> {
     }
 
     fn list_of(&self, at: usize, list: usize) -> Option<ActionList<'v>>
-        ensures value { (value : ℕ) → option_map (actions_of self.now.tables.now self.now.program.now self.now.number self.now.trace.now) result
-            ≡ option_map (λ d. d.actions) (slice_get (lists_in self.now.tables.now self.now.program.now self.now.number self.now.trace.now (source.Entry at value)) list) }
+        ensures value { (value : ℕ) → option_map (actions_of self.now) result
+            ≡ option_map (λ d. d.actions) (slice_get (lists_in self.now (source.Entry at value)) list) }
         ensures few { OnSome result (list + 1 < 2 ^ 64) }
     {
         match self.trace.get(at) {
@@ -175,7 +178,7 @@ impl<'v> View<'v> {
         actions: &[u32],
         list: usize,
     ) -> Option<ActionList<'v>>
-        ensures value { (v : Option Value) → option_map (actions_of self.now.tables.now self.now.program.now self.now.number self.now.trace.now) result
+        ensures value { (v : Option Value) → option_map (actions_of self.now) result
             ≡ option_map (λ d. d.actions) (slice_get (performed self.now.tables.now self.now.program.now instance running actions.now v) list) }
         ensures few { OnSome result (list + 1 < 2 ^ 64) }
     {
@@ -194,7 +197,7 @@ impl<'v> View<'v> {
     fn only_list(&self, at: usize, entry: &Entry) -> Option<ActionList<'v>>
         requires { slice_get self.now.trace.now at ≡ Some entry.now }
         ensures { (v : Option Value) → IsOneList entry.now.what
-            → option_map (actions_of self.now.tables.now self.now.program.now self.now.number self.now.trace.now) result
+            → option_map (actions_of self.now) result
             ≡ option_map (λ d. d.actions) (slice_get (lists_of self.now.tables.now self.now.program.now v entry.now.instance entry.now.what) 0) }
     {
         let instance = entry.instance;
@@ -214,9 +217,9 @@ impl<'v> View<'v> {
     /// The actions of the handler at a place, or the advance for a signal, whose value the entry at `at` has.
     fn handling(&self, at: usize, instance: u32, point: Point) -> ActionList<'v>
         ensures { (with : List Value)
-            → value_at self.now.tables.now self.now.program.now self.now.number self.now.trace.now at
+            → value_at self.now at
             ≡ signal_in point with
-            → actions_of self.now.tables.now self.now.program.now self.now.number self.now.trace.now result
+            → actions_of self.now result
             ≡ (handling_of self.now.tables.now self.now.program.now instance point with).actions }
     {
         match point {
@@ -237,7 +240,7 @@ impl<'v> View<'v> {
 
     /// The actions of the hook handler of a place.
     fn hooking(&self, instance: u32, point: Point) -> ActionList<'v>
-        ensures { actions_of self.now.tables.now self.now.program.now self.now.number self.now.trace.now result
+        ensures { actions_of self.now result
             ≡ acts_at self.now.tables.now self.now.program.now instance (hook_spot point) }
     {
         ActionList::Acts(self.handlers.acts(instance, hook_spot(point)))

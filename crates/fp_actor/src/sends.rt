@@ -4,7 +4,9 @@ ghost use Rattle.fp_tables.specs.declared.program.Program.{Program};
 ghost use Rattle.fp_tables.specs.declared.component.Special.TheVariants as special;
 ghost use Rattle.fp_tables.specs.Specials.{special_wire as wire_of};
 ghost use Rattle.fp_events.specs.Follows.{sends, parameter_name as name_of, parameter_of as parameter_of_part, ok_note};
-ghost use Rattle.fp_actor.specs.Levels.{event_name as event_name_of, channel_name as channel_name_of, sent, actions_of};
+ghost use Rattle.fp_actor.specs.Entries.{event_name as event_name_of, channel_name as channel_name_of};
+ghost use Rattle.fp_actor.specs.Levels.{sent};
+ghost use Rattle.fp_actor.specs.Seen.{actions_of};
 
 use crate::lists::{ActionList, Sending};
 use crate::view::View;
@@ -24,7 +26,7 @@ impl<'v> View<'v> {
 
     /// The response to a set command.
     pub fn set_sends(&self, instance: u32) -> ActionList<'v>
-        ensures { actions_of self.now.tables.now self.now.program.now self.now.number self.now.trace.now result
+        ensures { actions_of self.now result
             ≡ (sends self.now.tables.now self.now.program.now instance ((special.CmdResp, ok_note) ∷ [])).actions }
     {
         ActionList::Sends(self.sending(instance, Special::CmdResp, "OK"), None)
@@ -32,7 +34,7 @@ impl<'v> View<'v> {
 
     /// The call of the param set port, and the response to a save command.
     pub fn save_sends(&self, instance: u32, point: Point) -> ActionList<'v>
-        ensures { actions_of self.now.tables.now self.now.program.now self.now.number self.now.trace.now result
+        ensures { actions_of self.now result
             ≡ (sends self.now.tables.now self.now.program.now instance ((special.PrmSet, name_of self.now.tables.now self.now.program.now instance point) ∷ (special.CmdResp, ok_note) ∷ [])).actions }
     {
         let name = parameter_name(self.tables, instance, point);
@@ -44,7 +46,7 @@ impl<'v> View<'v> {
 
     /// The call of the event port.
     pub fn event_send(&self, instance: u32, event: u32) -> ActionList<'v>
-        ensures { actions_of self.now.tables.now self.now.program.now self.now.number self.now.trace.now result
+        ensures { actions_of self.now result
             ≡ (sends self.now.tables.now self.now.program.now instance ((special.Event, event_name_of self.now.tables.now self.now.program.now instance event) ∷ [])).actions }
     {
         let name = event_name(self.tables, instance, event);
@@ -53,7 +55,7 @@ impl<'v> View<'v> {
 
     /// The call of the telemetry port.
     pub fn channel_send(&self, instance: u32, channel: u32) -> ActionList<'v>
-        ensures { actions_of self.now.tables.now self.now.program.now self.now.number self.now.trace.now result
+        ensures { actions_of self.now result
             ≡ (sends self.now.tables.now self.now.program.now instance ((special.Tlm, channel_name_of self.now.tables.now self.now.program.now instance channel) ∷ [])).actions }
     {
         let name = channel_name(self.tables, instance, channel);

@@ -2,7 +2,8 @@ ghost use Rattle.std.specs.Prelude.{◌≡◌, ◌<◌, ◌+◌, ◌^◌, None, 
 ghost use Rattle.fp_events.specs.Due.{first_action};
 ghost use Rattle.fp_events.specs.Follows.{doing};
 ghost use Rattle.fp_actor.specs.declared.level.Binding.{Binding};
-ghost use Rattle.fp_actor.specs.Levels.{reached, found, lists_in, frames, settled as settled_of, IsFirst, IsBottom};
+ghost use Rattle.fp_actor.specs.Levels.{reached, settled as settled_of};
+ghost use Rattle.fp_actor.specs.Seen.{found, lists_in, frames, IsFirst, IsBottom};
 
 use crate::level::{Base, Level, Position};
 use crate::lists::Deed;
@@ -49,8 +50,8 @@ fn settled(level: Level, at: Position) -> Level
 impl<'v> View<'v> {
     /// The first action from a place on.
     fn reach(&self, next: Position) -> Option<Reached<'v>>
-        ensures value { option_map (found self.now.tables.now self.now.program.now self.now.number self.now.trace.now) result
-            ≡ reached (drop next.list (lists_in self.now.tables.now self.now.program.now self.now.number self.now.trace.now next.source)) next.list next.action }
+        ensures value { option_map (found self.now) result
+            ≡ reached (drop next.list (lists_in self.now next.source)) next.list next.action }
         ensures source { IfSome result (λ r. r.at.source ≡ next.source) }
         ensures few { IfSome result (λ r. r.at.action + 1 < 2 ^ 64) }
     {
@@ -75,8 +76,8 @@ impl<'v> View<'v> {
     /// The first action of the innermost frame.
     pub fn first(&self, levels: &[Level]) -> Option<First<'v>>
         ensures { (bindings : List Binding) → MatchOption result
-            (first_action (doing (frames self.now.tables.now self.now.program.now self.now.number self.now.trace.now bindings levels.now)) ≡ None)
-            (IsFirst self.now.tables.now self.now.program.now self.now.number self.now.trace.now bindings levels.now) }
+            (first_action (doing (frames self.now bindings levels.now)) ≡ None)
+            (IsFirst self.now bindings levels.now) }
     {
         let Some((level, below)) = levels.split_last() else {
             return None;
@@ -98,7 +99,7 @@ impl<'v> View<'v> {
     pub fn bottom(&self, levels: &[Level]) -> Option<Bottom>
         ensures { (bindings : List Binding) → MatchOption result
             (levels.now ≡ [])
-            (IsBottom self.now.tables.now self.now.program.now self.now.number self.now.trace.now bindings levels.now) }
+            (IsBottom self.now bindings levels.now) }
     {
         let Some((level, below)) = levels.split_last() else {
             return None;

@@ -8,7 +8,9 @@ ghost use Rattle.fp_events.specs.Due.{value_of, values as values_of};
 ghost use Rattle.fp_events.specs.Follows.{bound_name as bound_name_of, handling as handling_of, hooking as hooking_of, performed};
 ghost use Rattle.fp_base.specs.declared.value.Value.{Value, Opaque};
 ghost use Rattle.fp_tables.specs.declared.program.Program.{Program};
-ghost use Rattle.fp_actor.specs.Levels.{action_at, action_of, with_nothing, binding, given_at, value_given, value_at, signal_in, bound_in, lists_of, has_kind_at, IsWithin, named_value, bindings_of};
+ghost use Rattle.fp_actor.specs.Entries.{value_given, signal_in, lists_of, has_kind_at};
+ghost use Rattle.fp_actor.specs.Levels.{IsWithin};
+ghost use Rattle.fp_actor.specs.Seen.{action_at, action_of, with_nothing, binding, given_at, value_at, bound_in, named_value, bindings_of};
 
 use crate::level::{Binding, Level, Position, Source};
 use crate::lists::Deed;
@@ -111,8 +113,8 @@ impl<'v> View<'v> {
     }
 
     pub fn deed(&self, at: Position) -> Option<Deed<'v>>
-        ensures { option_map (action_of self.now.tables.now self.now.program.now self.now.number self.now.trace.now) result
-            ≡ action_at self.now.tables.now self.now.program.now self.now.number self.now.trace.now at }
+        ensures { option_map (action_of self.now) result
+            ≡ action_at self.now at }
     {
         match self.list(at.source, at.list) {
             Some(list) => list.get(at.action),
@@ -121,7 +123,7 @@ impl<'v> View<'v> {
     }
 
     fn bound_name(&self, at: Position) -> &str
-        ensures { result.now ≡ bound_name_of self.now.tables.now self.now.program.now (with_nothing self.now.tables.now self.now.program.now self.now.number self.now.trace.now at) }
+        ensures { result.now ≡ bound_name_of self.now.tables.now self.now.program.now (with_nothing self.now at) }
     {
         match self.deed(at) {
             Some(Deed::Act(act)) => bind_of(act),
@@ -133,9 +135,9 @@ impl<'v> View<'v> {
 
     /// The place of the value that was bound last to a name.
     fn latest(&self, made: &[Binding], name: &str) -> Option<usize>
-        ensures { option_map (given_at self.now.tables.now self.now.program.now self.now.number self.now.trace.now) result
+        ensures { option_map (given_at self.now) result
             ≡ option_map (λ b. b.1) (find (λ b. same_text b.0 name.now)
-            (map (binding self.now.tables.now self.now.program.now self.now.number self.now.trace.now) (reverse made.now))) }
+            (map (binding self.now) (reverse made.now))) }
     {
         let (last, earlier) = made.split_last()?;
         if same_name(self.bound_name(last.name), name) {
@@ -146,7 +148,7 @@ impl<'v> View<'v> {
     }
 
     fn given(&self, alloc: Global, at: usize) -> Result<Value, NoMemory>
-        ensures { IfOk result (λ v. v ≡ given_at self.now.tables.now self.now.program.now self.now.number self.now.trace.now at) }
+        ensures { IfOk result (λ v. v ≡ given_at self.now at) }
     {
         match self.trace.get(at) {
             Some(entry) => given_value(alloc, &entry.what),
@@ -156,7 +158,7 @@ impl<'v> View<'v> {
 
     /// The value of the signal that an entry hands on.
     pub fn signal_value(&self, alloc: Global, at: usize) -> Result<Option<Value>, NoMemory>
-        ensures { IfOk result (λ v. v ≡ value_at self.now.tables.now self.now.program.now self.now.number self.now.trace.now at) }
+        ensures { IfOk result (λ v. v ≡ value_at self.now at) }
     {
         match self.trace.get(at) {
             Some(entry) => match &entry.what {
@@ -244,7 +246,7 @@ impl<'v> View<'v> {
         value: usize,
         name: &str,
     ) -> Result<Option<Value>, NoMemory>
-        ensures { IfOk result (λ v. v ≡ cond (takes && same_text (codes "value") name.now) (value_at self.now.tables.now self.now.program.now self.now.number self.now.trace.now value) None) }
+        ensures { IfOk result (λ v. v ≡ cond (takes && same_text (codes "value") name.now) (value_at self.now value) None) }
     {
         if takes & same_name("value", name) {
             self.signal_value(alloc, value)
@@ -265,7 +267,7 @@ impl<'v> View<'v> {
         name: &str,
     ) -> Result<Option<Value>, NoMemory>
         ensures { IfOk result (λ v. v ≡ option_map (λ b. b.1) (find (λ b. same_text b.0 name.now) (unwrap_or (option_map (λ d. d.bound)
-            (slice_get (performed self.now.tables.now self.now.program.now instance running actions.now (value_at self.now.tables.now self.now.program.now self.now.number self.now.trace.now value)) list)) []))) }
+            (slice_get (performed self.now.tables.now self.now.program.now instance running actions.now (value_at self.now value)) list)) []))) }
     {
         match actions.get(list) {
             Some(action) => {
@@ -315,7 +317,7 @@ impl<'v> View<'v> {
     /// The value that a name has before any action of a list.
     fn base_value(&self, alloc: Global, at: Position, name: &str) -> Result<Option<Value>, NoMemory>
         ensures { IfOk result (λ v. v ≡ option_map (λ b. b.1) (find (λ b. same_text b.0 name.now)
-            (bound_in self.now.tables.now self.now.program.now self.now.number self.now.trace.now at))) }
+            (bound_in self.now at))) }
     {
         match at.source {
             Source::Own => Ok(None),
@@ -335,7 +337,7 @@ impl<'v> View<'v> {
         name: &str,
     ) -> Result<Option<Value>, NoMemory>
         ensures { IfOk result (λ v. v ≡ option_map (λ b. b.1) (find (λ b. same_text b.0 name.now) (unwrap_or (option_map (λ d. d.bound)
-            (slice_get (lists_of self.now.tables.now self.now.program.now (value_at self.now.tables.now self.now.program.now self.now.number self.now.trace.now value) entry.now.instance entry.now.what) list)) []))) }
+            (slice_get (lists_of self.now.tables.now self.now.program.now (value_at self.now value) entry.now.instance entry.now.what) list)) []))) }
     {
         let instance = entry.instance;
         match &entry.what {
@@ -395,7 +397,7 @@ impl<'v> View<'v> {
         name: &str,
     ) -> Result<Value, NoMemory>
         requires { IsWithin (length bindings.now) level }
-        ensures { IfOk result (λ v. v ≡ named_value self.now.tables.now self.now.program.now self.now.number self.now.trace.now bindings.now level name.now) }
+        ensures { IfOk result (λ v. v ≡ named_value self.now bindings.now level name.now) }
     {
         let made = made_in(level, bindings);
         match self.latest(made, name) {
@@ -406,7 +408,7 @@ impl<'v> View<'v> {
 
     fn base_or_opaque(&self, alloc: Global, at: Position, name: &str) -> Result<Value, NoMemory>
         ensures { IfOk result (λ v. v ≡ unwrap_or (option_map (λ b. b.1) (find (λ b. same_text b.0 name.now)
-            (bound_in self.now.tables.now self.now.program.now self.now.number self.now.trace.now at))) Opaque) }
+            (bound_in self.now at))) Opaque) }
     {
         let base = self.base_value(alloc, at, name)?;
         Ok(or_opaque(base))
@@ -420,7 +422,7 @@ impl<'v> View<'v> {
         arg: &Arg,
     ) -> Result<Value, NoMemory>
         requires { IsWithin (length bindings.now) level }
-        ensures { IfOk result (λ v. v ≡ value_of (bindings_of self.now.tables.now self.now.program.now self.now.number self.now.trace.now bindings.now level) arg.now) }
+        ensures { IfOk result (λ v. v ≡ value_of (bindings_of self.now bindings.now level) arg.now) }
     {
         match arg {
             Arg::Given(value) => value.copy(alloc),
@@ -437,7 +439,7 @@ impl<'v> View<'v> {
         args: &[Arg],
     ) -> Result<Row<Value>, NoMemory>
         requires { IsWithin (length bindings.now) level }
-        ensures { IfOk result (λ vs. vs ≡ values_of (bindings_of self.now.tables.now self.now.program.now self.now.number self.now.trace.now bindings.now level) args.now) }
+        ensures { IfOk result (λ vs. vs ≡ values_of (bindings_of self.now bindings.now level) args.now) }
     {
         let mut values = Row::new(alloc);
         for arg in args {

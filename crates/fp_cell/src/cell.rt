@@ -2,6 +2,7 @@ ghost use Rattle.std.specs.Prelude.{◌≡◌, ◌≤◌, ◌<◌, ◌++◌, ◌
 ghost use Rattle.fp_tables.specs.Sound.{IsSoundFor};
 ghost use Rattle.fp_events.specs.Fits.{actor_count, ask_fits};
 ghost use Rattle.fp_tables.specs.Acts.{is_placed};
+ghost use Rattle.fp_events.specs.Ends.{none_pending};
 ghost use Rattle.fp_events.specs.Waits.{waits};
 ghost use Rattle.fp_cell.specs.Cells.{opened, IsKeptOf};
 ghost use Rattle.fp_cell.specs.Ready.{IsReady};
@@ -115,6 +116,22 @@ impl<'a> Cell<'a> {
         ensures kept { IsKeptOf self.now }
     {
         &self.history
+    }
+
+    /// The history of a run that is over.
+    pub fn into_history(self) -> Row<Entry>
+        ensures history { result ≡ self.entry.history }
+        ensures kept { IsKeptOf self.entry }
+    {
+        let Cell { history, .. } = self;
+        history
+    }
+
+    /// Whether no call is pending.
+    pub fn is_idle(&self) -> bool
+        ensures { result ≡ none_pending self.now.state.inside.pending }
+    {
+        self.state.calls.is_empty()
     }
 }
 

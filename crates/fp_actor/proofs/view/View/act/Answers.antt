@@ -3,7 +3,7 @@ use Rattle.fp_events.specs.Due.{first_action}
 use Rattle.fp_events.specs.Follows.{doing}
 use Rattle.fp_actor.specs.declared.level.Level.{Level}
 use Rattle.fp_actor.specs.declared.step.Change.{Change}
-use Rattle.fp_actor.specs.Levels.{frames, IsFirst}
+use Rattle.fp_actor.specs.Stacked.{frames, IsFirst}
 use Rattle.fp_actor.specs.Awaited.{IsChange}
 use Rattle.fp_actor.proofs.Closing.{change_acts, start_advances, move_advances}
 use Rattle.fp_actor.proofs.view.View.act.Goals as goal

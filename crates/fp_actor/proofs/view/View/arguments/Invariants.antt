@@ -1,6 +1,6 @@
 use Rattle.std.proofs.Common.{◌≡◌, take}
 use Rattle.fp_events.specs.Due.{values}
-use Rattle.fp_actor.specs.Levels.{bindings_of}
+use Rattle.fp_actor.specs.Stacked.{bindings_of}
 use Rattle.fp_actor.proofs.view.View.arguments.Given as goal
 
 abbrev pub invariant-loop-arg : goal.invariant-loop-arg

@@ -1,4 +1,4 @@
-use Rattle.fp_actor.specs.Levels.{made, bound_in, given_at}
+use Rattle.fp_actor.specs.Stacked.{made, bound_in, given_at}
 use Rattle.fp_actor.proofs.Looking.{carry, found_made, found_base}
 use Rattle.fp_actor.proofs.view.View.bound_value.Goals as goal
 

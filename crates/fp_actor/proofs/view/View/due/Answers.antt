@@ -1,5 +1,5 @@
 use Rattle.std.proofs.Common.{ap, None, length}
-use Rattle.fp_actor.specs.Levels.{frames}
+use Rattle.fp_actor.specs.Stacked.{frames}
 use Rattle.fp_actor.proofs.Looking.{carry}
 use Rattle.fp_actor.proofs.Dueness.{due_from, due_none, first_within}
 use Rattle.fp_actor.proofs.view.View.due.Goals as goal

@@ -3,7 +3,8 @@ use Rattle.std.proofs.lemmas.Option.{slice_get_within}
 use Rattle.fp_events.specs.Due.{first_action}
 use Rattle.fp_events.specs.Follows.{doing, removed}
 use Rattle.fp_actor.specs.declared.level.Base.TheVariants as base
-use Rattle.fp_actor.specs.Levels.{advanced, bindings_of, entry_of}
+use Rattle.fp_actor.specs.Levels.{advanced, entry_of}
+use Rattle.fp_actor.specs.Stacked.{bindings_of}
 use Rattle.fp_actor.specs.Awaited.{is_advance}
 use Rattle.fp_actor.proofs.Following.{moving_follows}
 use Rattle.fp_actor.proofs.Advancing.{deed_value}

@@ -1,7 +1,7 @@
 use Rattle.std.proofs.Common.{Bool, None, cond, ◌&&◌, ap, ◌∙◌}
 use Rattle.std.specs.Prelude.{codes}
 use Rattle.fp_base.specs.Same.{same_text}
-use Rattle.fp_actor.specs.Levels.{value_at}
+use Rattle.fp_actor.specs.Stacked.{value_at}
 use Rattle.fp_actor.proofs.Looking.{carry, looked, action_bound, performed_bound, performed_none}
 use Rattle.fp_actor.proofs.view.View.performed_value.Goals as goal
 

@@ -1,5 +1,5 @@
 use Rattle.std.proofs.Common.{◌<◌, ◌+◌, ◌-◌, length, sym, ◌∙◌, arith}
-use Rattle.fp_actor.specs.Levels.{lists_in, actions_of, action_of}
+use Rattle.fp_actor.specs.Stacked.{lists_in, actions_of, action_of}
 use Rattle.fp_actor.proofs.Reaching.{at_none, within, here, onward_one, not_some, mapped_none}
 use Rattle.fp_actor.proofs.view.View.reach.Goals as goal
 

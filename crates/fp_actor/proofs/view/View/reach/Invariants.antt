@@ -1,5 +1,6 @@
 use Rattle.std.proofs.Common.{◌≡◌, ◌-◌, length, drop}
-use Rattle.fp_actor.specs.Levels.{reached, lists_in}
+use Rattle.fp_actor.specs.Levels.{reached}
+use Rattle.fp_actor.specs.Stacked.{lists_in}
 use Rattle.fp_actor.proofs.view.View.reach.Given as goal
 
 abbrev pub invariant-loop-list : goal.invariant-loop-list

@@ -1,6 +1,6 @@
 use Rattle.std.proofs.Common.{◌≡◌, List, [], sym, ap, ◌∙◌, subst}
 use Rattle.fp_actor.specs.declared.level.Level.{Level}
-use Rattle.fp_actor.specs.Levels.{frames, IsBottom}
+use Rattle.fp_actor.specs.Stacked.{frames, IsBottom}
 use Rattle.fp_actor.proofs.Closing.{nothing_returns, unnamed_follows}
 use Rattle.fp_actor.proofs.Keeping.{kept_taken}
 use Rattle.fp_actor.proofs.view.View.return_from_frame.Goals as goal

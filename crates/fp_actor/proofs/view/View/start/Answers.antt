@@ -2,7 +2,8 @@ use Rattle.std.proofs.Common.{◌<◌, length, sym, ap, ◌∙◌}
 use Rattle.std.proofs.lemmas.Option.{slice_get_within}
 use Rattle.fp_events.specs.Due.{first_action}
 use Rattle.fp_events.specs.Follows.{doing}
-use Rattle.fp_actor.specs.Levels.{bindings_of, entry_of}
+use Rattle.fp_actor.specs.Stacked.{bindings_of}
+use Rattle.fp_actor.specs.Levels.{entry_of}
 use Rattle.fp_actor.specs.Awaited.{is_advance}
 use Rattle.fp_actor.proofs.Following.{starting_follows}
 use Rattle.fp_actor.proofs.Advancing.{deed_value}

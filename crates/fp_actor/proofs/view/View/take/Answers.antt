@@ -2,7 +2,7 @@ use Rattle.std.proofs.Common.{◌≡◌, false, is_some, List, sym, ap, ◌∙�
 use Rattle.fp_events.specs.Due.{first_action}
 use Rattle.fp_events.specs.Follows.{doing}
 use Rattle.fp_actor.specs.declared.level.Level.{Level}
-use Rattle.fp_actor.specs.Levels.{frames, IsFirst}
+use Rattle.fp_actor.specs.Stacked.{frames, IsFirst}
 use Rattle.fp_actor.proofs.Closing.{no_frames}
 use Rattle.fp_actor.proofs.view.View.take.Goals as goal
 

@@ -1,7 +1,7 @@
 use Rattle.std.proofs.Common.{◌<◌, length, refl, sym, ap, ◌∙◌}
 use Rattle.std.proofs.lemmas.Option.{slice_get_within}
 use Rattle.fp_events.specs.Follows.{removed}
-use Rattle.fp_actor.specs.Levels.{frames}
+use Rattle.fp_actor.specs.Stacked.{frames}
 use Rattle.fp_actor.proofs.Following.{taking_follows}
 use Rattle.fp_actor.proofs.Keeping.{kept_first_taken}
 use Rattle.fp_actor.proofs.view.View.take_frame.Goals as goal
