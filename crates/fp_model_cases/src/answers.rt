@@ -6,6 +6,7 @@ use crate::model::json_of;
 use crate::moves::told;
 use crate::numbers::numbered;
 use crate::reports::{number_among, report, truth};
+use crate::runs::played;
 use fp_base::{NoMemory, Text};
 use fp_sound_model::SoundModel;
 use fp_sound_programs::SoundProgram;
@@ -52,12 +53,16 @@ fn tables_of(
 }
 
 fn of_tables(alloc: Global, tables: &Tables, case: &Case, question: &str) -> Result<Text, Fault> {
+    let (word, behind) = question.split_once(' ').unwrap_or((question, ""));
+    if !matches!(question, "program sound" | "run" | "ends") {
+        return Ok(report(alloc, tables, word, behind)?);
+    }
+    let program = program_of(alloc, case)?;
     if question == "program sound" {
-        let program = program_of(alloc, case)?;
         return Ok(truth(alloc, program.is_sound(alloc, tables)?)?);
     }
-    let (word, behind) = question.split_once(' ').unwrap_or((question, ""));
-    Ok(report(alloc, tables, word, behind)?)
+    let turns = case.given("turns").unwrap_or("");
+    Ok(played(alloc, tables, &program, turns, question)?)
 }
 
 /// What is found of a model without tables; None where there is no such question.

@@ -14,7 +14,9 @@ mod moves;
 mod numbers;
 mod programs;
 mod reports;
+mod runs;
 mod topologies;
+mod turns;
 mod types;
 mod values;
 

@@ -1,22 +1,21 @@
 -- What a cell makes of an actor's due ask is an entry that the actor accepts.
-use Rattle.std.proofs.Common.{◌≡◌, ℕ, suc, max, ◌<◌, ◌≤◌, true, List, [], ◌∷◌, ◌++◌, Some, option_map, refl, sym, ap, ◌∙◌, subst, arith}
-use Rattle.fp_base.proofs.Sameness.{nat_same}
+use Rattle.std.proofs.Common.{◌≡◌, ℕ, ◌<◌, ◌≤◌, true, List, [], ◌∷◌, ◌++◌, Some, option_map, refl, sym, ap, ◌∙◌, subst}
 use Rattle.fp_system.specs.Run as system
 use Rattle.fp_system.proofs.OfRun.{told_last}
 use Rattle.fp_tables.specs.Lookup.{Described}
 use Rattle.fp_tables.specs.declared.program.Program.{Program}
 use Rattle.fp_events.specs.declared.event.Ask.{Ask}
 use Rattle.fp_events.specs.declared.event.Entry.{Entry}
-use Rattle.fp_events.specs.Actor.{ActorState}
 use Rattle.fp_events.specs.Due.{due}
 use Rattle.fp_events.specs.Instance.{InstanceState}
 use Rattle.fp_events.specs.Step.{core, instance_part, answers_due}
-use Rattle.fp_events.proofs.StepLaws.{core_laws, answered, given}
+use Rattle.fp_events.proofs.StepLaws.{core_laws}
 use Rattle.fp_actor.specs.Acting.{Acting, AnswersDue, IsToldOf, due_of_actor}
 use Rattle.fp_cell.specs.Cells.{Standing}
 use Rattle.fp_cell.specs.Replies.{IsStep, Answered}
 use Rattle.fp_cell.specs.declared.cell.Reply.{Reply}
 use Rattle.fp_cell.specs.declared.cell.Reply.TheVariants.{Stepped}
+use Rattle.fp_run_laws.proofs.Dues.{answers_it, is_above}
 use Rattle.fp_run_tests.specs.Numbered.{IsActor, IsCell}
 use Rattle.fp_run_tests.proofs.Roomy.{roomy, still_due}
 
@@ -30,16 +29,6 @@ last_of_some a es e told is =
     told_last (core a.tables a.program) (core_laws a.tables a.program) a.number a.trace a.state told ∙ ap (system.last_or (λ (x : Entry). x.stamp) 0) is
     ∙ last_after 0 es e
 
-module _ (t : Described) (program : Program) (a i : ℕ) (s u : InstanceState) (x : ActorState) (q : Ask) (e : Entry) where
-  answers_it : due t program a x.thread ≡ Some (i, q) → instance_part t program i s a q x.last ≡ Some (e, u) →
-      option_map (answers_due t program a e) (due t program a x.thread) ≡ Some true
-  answers_it is_due part =
-      let g = given t program i a x.last s u q e part in
-      rw (is_due, g.actor, g.instance, nat_same.itself a, nat_same.itself i, answered t program i s.inside q e.what g.told, g.fit) refl
-
-  is_above : instance_part t program i s a q x.last ≡ Some (e, u) → x.last < e.stamp
-  is_above part = let g = given t program i a x.last s u q e part in let stamp : e.stamp ≡ suc (max s.last x.last) = g.stamp in omega arith
-
 -- the cell's step, of the tables, the program and the numbers that the actor has
 part_of : (t : Described) (program : Program) (n i : ℕ) (c : Standing) (q : Ask) (seen : ℕ) (e : Entry) (u : InstanceState) → IsCell t program i c →
     instance_part c.seat.tables c.seat.program c.seat.instance c.state n q seen ≡ Some (e, u) → instance_part t program i c.state n q seen ≡ Some (e, u)
@@ -48,7 +37,7 @@ part_of t program n i c q seen e u at h =
     let of_program = subst (λ (y : Program). instance_part t y c.seat.instance c.state n q seen ≡ Some (e, u)) at.program of_tables in
     subst (λ (y : ℕ). instance_part t program y c.state n q seen ≡ Some (e, u)) at.instance of_program
 
-due_at : (t : Described) (program : Program) (n i : ℕ) (a : Acting) (q : Ask) → IsActor t program n a → due_of_actor a ≡ Some (i, q) → due t program n a.state.thread ≡ Some (i, q)
+pub due_at : (t : Described) (program : Program) (n i : ℕ) (a : Acting) (q : Ask) → IsActor t program n a → due_of_actor a ≡ Some (i, q) → due t program n a.state.thread ≡ Some (i, q)
 due_at t program n i a q of h =
     let of_tables = subst (λ (y : Described). due y a.program a.number a.state.thread ≡ Some (i, q)) of.tables h in
     let of_program = subst (λ (y : Program). due t y a.number a.state.thread ≡ Some (i, q)) of.program of_tables in
@@ -80,8 +69,8 @@ acceptable t program n i a c d q seen e of at is_due is step =
 
 -- the same of the actor with room, and of the cell's answer
 pub accepted : (t : Described) (program : Program) (n i : ℕ) (old a : Acting) (c d : Standing) (q : Ask) (seen : ℕ) (e : Entry) (r : Reply) → IsActor t program n old →
-    IsCell t program i c → due_of_actor old ≡ Some (i, q) → a ≡ record old { has_room = a.has_room } → seen ≡ a.state.last → Answered c n q seen r d → r ≡ Stepped e →
+    IsCell t program i c → due_of_actor old ≡ Some (i, q) → a ≡ record old { has_room = a.has_room } → seen ≡ old.state.last → Answered c n q seen r d → r ≡ Stepped e →
     IsAcceptable a e
 accepted t program n i old a c d q seen e r of at is_due room is answer stepped =
-    acceptable t program n i a c d q seen e (roomy t program n old a a.has_room room of) at (still_due t program old a a.has_room (Some (i, q)) room is_due) is
-    (subst (λ (x : Reply). Answered c n q seen x d) stepped answer)
+    acceptable t program n i a c d q seen e (roomy t program n old a a.has_room room of) at (still_due t program old a a.has_room (Some (i, q)) room is_due)
+    (is ∙ sym (ap (λ (x : Acting). x.state.last) room)) (subst (λ (x : Reply). Answered c n q seen x d) stepped answer)

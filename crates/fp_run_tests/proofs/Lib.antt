@@ -1,4 +1,6 @@
 mod Numbering
+mod Placing
 mod Roomy
 mod Answering
+mod Asking
 mod Opened

@@ -12,7 +12,6 @@ module _ (t : Described) (p : Program) where
     tables = ap (λ (x : Acting). x.tables) is ∙ of.tables;
     program = ap (λ (x : Acting). x.program) is ∙ of.program;
     number = ap (λ (x : Acting). x.number) is ∙ of.number;
-    known = of.known;
   }
 
   pub still_due : (a b : Acting) (room : Bool) (d : Option (ℕ × Ask)) → b ≡ record a { has_room = room } → due_of_actor a ≡ d → due_of_actor b ≡ d

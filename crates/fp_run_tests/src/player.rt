@@ -1,18 +1,22 @@
-ghost use Rattle.std.specs.Prelude.{◌≡◌, true, Some};
-ghost use Rattle.fp_events.specs.Fits.{ask_fits};
-ghost use Rattle.fp_actor.specs.Acting.{due_of_actor};
-ghost use Rattle.fp_run_tests.specs.Numbered.{Each, IsActor, IsCell};
+ghost use Rattle.std.specs.Prelude.{◌≡◌, ◌<◌, Some, true, length, slice_get};
+ghost use Rattle.fp_tables.specs.Acts.{is_placed};
+ghost use Rattle.fp_tables.specs.Lookup.{placed};
+ghost use Rattle.fp_tables.specs.Sound.{IsSoundFor};
+ghost use Rattle.fp_tables.specs.SoundPrograms.{IsSoundProgram};
+ghost use Rattle.fp_events.specs.Fits.{actor_count, ask_fits};
+ghost use Rattle.fp_actor.specs.Acting.{due_of_actor, IsToldOf};
+ghost use Rattle.fp_run_tests.specs.Numbered.{Each, IsActor, IsCell, IsCellAt};
 
 use fp_actor::{Actor, Next};
 use fp_base::NoMemory;
 use fp_cell::{Cell, Reply};
 use fp_events::{Ask, Why};
 use fp_tables::{Program, Tables};
-use fp_worked_models::fitting::is_askable;
+use fp_typing::due_asks;
 use std::alloc::Global;
 
 /// What a turn of an actor comes to: an entry; none now; none within the limit; no ask, of a caller whose list is through or of
-/// an actor that has halted; or an ask that can't be made.
+/// an actor that has halted; or nothing, where there is no such actor.
 #[derive(Clone, Copy, PartialEq, Eq)]
 pub enum Outcome {
     Stepped,
@@ -23,26 +27,10 @@ pub enum Outcome {
     Missing,
 }
 
-impl Outcome {
-    /// The outcome in words, for a report of differences.
-    pub fn text(self) -> &'static str {
-        match self {
-            Outcome::Stepped => "an entry",
-            Outcome::NotYet(Why::Full) => "a full queue",
-            Outcome::NotYet(Why::GuardHeld(_)) => "a held guard",
-            Outcome::NotYet(Why::TurnHeld(_)) => "a held turn",
-            Outcome::NotYet(Why::QueueEmpty) => "an empty queue",
-            Outcome::AtLimit => "no entry within the limit",
-            Outcome::AtEnd => "the end of its list",
-            Outcome::Halted => "a halt",
-            Outcome::Missing => "an ask that can't be made",
-        }
-    }
-}
-
 /// The stamp of the last entry, 0 before the first.
 fn last_stamp(actor: &Actor<'_>) -> u64
-    ensures { result ≡ actor.now.state.last }
+    ensures stamp { result ≡ actor.now.state.last }
+    ensures told { IsToldOf actor.now }
 {
     match actor.trace().split_last() {
         Some((entry, _)) => entry.stamp,
@@ -59,17 +47,19 @@ fn step(
     instance: u32,
     actor: &mut Actor<'_>,
     cell: &mut Cell<'_>,
+    seen: u64,
     ask: &Ask,
 ) -> Result<Outcome, NoMemory>
     requires actor { IsActor tables.now program.now number actor.old }
     requires cell { IsCell tables.now program.now instance cell.old }
+    requires seen { seen ≡ actor.old.state.last }
     requires due { due_of_actor actor.old ≡ Some (instance, ask.now) }
+    requires known { number < actor_count tables.now program.now }
     requires askable { ask_fits tables.now program.now instance ask.now ≡ true }
     ensures actor { IsActor tables.now program.now number actor.new }
     ensures cell { IsCell tables.now program.now instance cell.new }
 {
     actor.reserve()?;
-    let seen = last_stamp(actor);
     match cell.apply(alloc, number, seen, ask)? {
         Reply::Stepped(entry) => {
             actor.accept(entry);
@@ -80,31 +70,46 @@ fn step(
     }
 }
 
-/// The same, if the ask can be made.
-fn step_if_askable(
+/// The same with the cell at the instance's place.
+fn step_at(
     alloc: Global,
     tables: &Tables,
     program: &Program,
     number: u32,
     instance: u32,
+    place: usize,
     actor: &mut Actor<'_>,
     cell: &mut Cell<'_>,
+    seen: u64,
     ask: &Ask,
 ) -> Result<Outcome, NoMemory>
     requires actor { IsActor tables.now program.now number actor.old }
-    requires cell { IsCell tables.now program.now instance cell.old }
+    requires cell { IsCellAt tables.now program.now place cell.old }
+    requires place { slice_get (placed tables.now) place ≡ Some instance }
+    requires seen { seen ≡ actor.old.state.last }
     requires due { due_of_actor actor.old ≡ Some (instance, ask.now) }
+    requires known { number < actor_count tables.now program.now }
+    requires askable { ask_fits tables.now program.now instance ask.now ≡ true }
     ensures actor { IsActor tables.now program.now number actor.new }
-    ensures cell { IsCell tables.now program.now instance cell.new }
+    ensures cell { IsCellAt tables.now program.now place cell.new }
 {
-    if is_askable(tables, program, instance, ask) {
-        step(alloc, tables, program, number, instance, actor, cell, ask)
-    } else {
-        Ok(Outcome::Missing)
-    }
+    step(
+        alloc, tables, program, number, instance, actor, cell, seen, ask,
+    )
 }
 
-/// Finds the cell.
+/// The place of an instance in the topology.
+fn place_of(tables: &Tables, instance: u32) -> usize
+    requires { is_placed tables.now instance ≡ true }
+    ensures { slice_get (placed tables.now) result ≡ Some instance }
+{
+    let Some(place) = tables.place(instance) else {
+        unreachable!()
+    };
+    place as usize
+}
+
+/// Takes the due ask to its cell. By the law on due asks there is one, and the ask can be made.
 fn ask_cell(
     alloc: Global,
     tables: &Tables,
@@ -115,16 +120,25 @@ fn ask_cell(
     cells: &mut Vec<Cell<'_>>,
     ask: &Ask,
 ) -> Result<Outcome, NoMemory>
+    requires sound { IsSoundFor tables.now.model (Some tables.now.topology) }
+    requires good { IsSoundProgram tables.now program.now }
     requires actor { IsActor tables.now program.now number actor.old }
-    requires cells { Each (IsCell tables.now program.now) cells.old.items }
+    requires cells { Each (IsCellAt tables.now program.now) cells.old.items }
+    requires count { length cells.old.items ≡ length (placed tables.now) }
     requires due { due_of_actor actor.old ≡ Some (instance, ask.now) }
     ensures actor { IsActor tables.now program.now number actor.new }
-    ensures cells { Each (IsCell tables.now program.now) cells.new.items }
+    ensures cells { Each (IsCellAt tables.now program.now) cells.new.items }
+    ensures count { length cells.new.items ≡ length cells.old.items }
 {
-    match cells.get_mut(instance as usize) {
-        Some(cell) => step_if_askable(alloc, tables, program, number, instance, actor, cell, ask),
-        None => Ok(Outcome::Missing),
-    }
+    let seen = last_stamp(actor);
+    due_asks();
+    let place = place_of(tables, instance);
+    let Some(cell) = cells.get_mut(place) else {
+        unreachable!()
+    };
+    step_at(
+        alloc, tables, program, number, instance, place, actor, cell, seen, ask,
+    )
 }
 
 /// A turn of an actor.
@@ -136,10 +150,14 @@ fn turn(
     actor: &mut Actor<'_>,
     cells: &mut Vec<Cell<'_>>,
 ) -> Result<Outcome, NoMemory>
+    requires sound { IsSoundFor tables.now.model (Some tables.now.topology) }
+    requires good { IsSoundProgram tables.now program.now }
     requires actor { IsActor tables.now program.now number actor.old }
-    requires cells { Each (IsCell tables.now program.now) cells.old.items }
+    requires cells { Each (IsCellAt tables.now program.now) cells.old.items }
+    requires count { length cells.old.items ≡ length (placed tables.now) }
     ensures actor { IsActor tables.now program.now number actor.new }
-    ensures cells { Each (IsCell tables.now program.now) cells.new.items }
+    ensures cells { Each (IsCellAt tables.now program.now) cells.new.items }
+    ensures count { length cells.new.items ≡ length cells.old.items }
 {
     match actor.next(alloc)? {
         Next::Ask { instance, ask } => ask_cell(
@@ -159,10 +177,14 @@ pub fn take_turn(
     actors: &mut Vec<Actor<'_>>,
     cells: &mut Vec<Cell<'_>>,
 ) -> Result<Outcome, NoMemory>
+    requires sound { IsSoundFor tables.now.model (Some tables.now.topology) }
+    requires good { IsSoundProgram tables.now program.now }
     requires actors { Each (IsActor tables.now program.now) actors.old.items }
-    requires cells { Each (IsCell tables.now program.now) cells.old.items }
+    requires cells { Each (IsCellAt tables.now program.now) cells.old.items }
+    requires count { length cells.old.items ≡ length (placed tables.now) }
     ensures actors { Each (IsActor tables.now program.now) actors.new.items }
-    ensures cells { Each (IsCell tables.now program.now) cells.new.items }
+    ensures cells { Each (IsCellAt tables.now program.now) cells.new.items }
+    ensures count { length cells.new.items ≡ length cells.old.items }
 {
     match actors.get_mut(number as usize) {
         Some(actor) => turn(alloc, tables, program, number, actor, cells),

@@ -1,10 +1,20 @@
-use Rattle.fp_run_tests.proofs.Opened.{IsLonger, one_cell}
-use Rattle.fp_run_tests.specs.Numbered.{IsCell}
+use Rattle.std.proofs.Common.{arith}
+use Rattle.fp_run_tests.proofs.Opened.{IsLonger, is_there, one_cell, all_opened}
+use Rattle.fp_run_tests.specs.Numbered.{IsCellAt}
 use Rattle.fp_run_tests.proofs.run.open_cells.Goals as goal
+
+pub open-requires-clause-placed : goal.open-requires-clause-placed
+open-requires-clause-placed c =
+    is_there c.args.tables.now c.args.program.now c.args.instances.now c.requires.instances c.loop-instance.instance-index c.loop-instance-test.true
 
 pub loop-instance-preserved : goal.loop-instance-preserved
 loop-instance-preserved c =
-    let longer : IsLonger (IsCell c.args.tables.now c.args.program.now) c.push.new.self.items c.loop-instance.instance =
-    one_cell c.args.tables.now c.args.program.now c.loop-instance.cells.items c.push.new.self.items c.in_ok-open.field-0 c.loop-instance.instance
-    c.loop-instance.invariant.cells c.loop-instance.invariant.count c.in_ok-open.ensures c.in_ok-push.ensures.items in
-    record { cells = longer.each; count = longer.count }
+    let longer : IsLonger (IsCellAt c.args.tables.now c.args.program.now) c.push.new.self.items c.loop-instance.instance-index =
+    one_cell c.args.tables.now c.args.program.now c.args.instances.now c.requires.instances c.loop-instance.instance-index c.loop-instance-test.true
+    c.loop-instance.cells.items c.push.new.self.items c.in_ok-open.field-0 c.loop-instance.invariant.cells c.loop-instance.invariant.count c.in_ok-open.ensures c.in_ok-push.ensures.items in
+    record { cells = longer.each; count = longer.count; within = omega (arith, c.loop-instance-test.true) }
+
+pub returns : goal.returns
+returns c =
+    all_opened c.args.tables.now c.args.program.now c.args.instances.now c.requires.instances c.loop-instance.cells.items c.loop-instance.instance-index
+    c.loop-instance.invariant.cells c.loop-instance.invariant.count c.loop-instance.invariant.within (omega (arith, c.loop-instance-test.false))
