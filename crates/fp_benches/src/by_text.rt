@@ -9,21 +9,30 @@ const MODULES: usize = 1000;
 
 const CONSTANTS: usize = 100_000;
 
+/// So many groups of types are almost 4 MiB.
+const GROUPS: usize = 10_400;
+
 fn measured(rt: &HostRuntime, shape: Shape, count: usize) -> io::Result<Stages> {
     let text = shape.text(rt.alloc(), count)?;
     let stages = best(rt, rt.alloc(), shape, text.as_str())?;
     let names = stages.names;
     println!(rt;
-        "{}, {} bytes, {} members, {} uses, {} values",
+        "{}, {} bytes, {} members, {} uses, {} values, {} types",
         shape.name(),
         text.len(),
         stages.members,
         names.uses,
-        names.values
+        names.values,
+        names.types
     )?;
     println!(rt;
-        "  lex {} us, parse {} us, collect {} us, uses {} us, values {} us",
-        stages.lexing, stages.parsing, names.collecting, names.meaning, names.evaluating
+        "  lex {} us, parse {} us, collect {} us, uses {} us, values {} us, types {} us",
+        stages.lexing,
+        stages.parsing,
+        names.collecting,
+        names.meaning,
+        names.evaluating,
+        names.typing
     )?;
     Ok(stages)
 }
@@ -92,16 +101,31 @@ pub fn measure_constants(rt: &HostRuntime) -> io::Result<()> {
     measure_values(rt, Shape::Layers)
 }
 
+/// Measures types, with their defaults and all rules that they break, beside the look-up of their names.
+pub fn measure_types(rt: &HostRuntime) -> io::Result<()> {
+    let half = measured(rt, Shape::Types, GROUPS / 2)?.names;
+    let whole = measured(rt, Shape::Types, GROUPS)?.names;
+    let time = whole.typing;
+    compare(
+        rt,
+        "time of types / time of collecting and uses",
+        time,
+        whole.time(),
+    )?;
+    compare(rt, "time of types at double the size", time, half.typing)
+}
+
 fn run_one(rt: &HostRuntime, shape: Shape, count: usize) -> io::Result<()> {
     let text = shape.text(rt.alloc(), count)?;
     let stages = once(rt, rt.alloc(), shape, text.as_str())?;
     println!(rt;
-        "{}: {} bytes, {} members, {} uses, {} values",
+        "{}: {} bytes, {} members, {} uses, {} values, {} types",
         shape.name(),
         text.len(),
         stages.members,
         stages.names.uses,
-        stages.names.values
+        stages.names.values,
+        stages.names.types
     )
 }
 
@@ -110,5 +134,6 @@ pub fn run(rt: &HostRuntime) -> io::Result<()> {
     run_one(rt, Shape::Definitions, 2)?;
     run_one(rt, Shape::Modules, 2)?;
     run_one(rt, Shape::Chains, 300)?;
-    run_one(rt, Shape::Layers, 600)
+    run_one(rt, Shape::Layers, 600)?;
+    run_one(rt, Shape::Types, 2)
 }

@@ -17,10 +17,13 @@ fn measure(rt: &HostRuntime, part: &str) -> io::Result<()> {
         "parse" => by_text::measure_parsing(rt),
         "names" => by_text::measure_names(rt),
         "consts" => by_text::measure_constants(rt),
+        "types" => by_text::measure_types(rt),
         "tables" => tables::measure(rt),
         "log" => printing::measure(rt),
         "queue" => queues::measure(rt),
-        _ => println!(rt; "to measure, give a word of parse, names, consts, tables, log and queue"),
+        _ => println!(rt;
+            "to measure, give a word of parse, names, consts, types, tables, log and queue"
+        ),
     }
 }
 

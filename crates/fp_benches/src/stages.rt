@@ -1,17 +1,22 @@
+ghost use Rattle.fp_meaning.specs.Meaning.{AreMeanings};
+ghost use Rattle.fp_meaning.specs.Names.{definitions, mentions};
+
 use crate::texts::Shape;
 use fp_base::{NoMemory, Row, Text};
 use fp_consts::evaluate_all;
 use fp_lexer::lex;
 use fp_names::{collect, uses};
 use fp_parse_parts::{Inside, Members, parse};
-use fp_tree::{Member, Source, Unit};
+use fp_source_types::types_all;
+use fp_tree::{Member, Source, Unit, Uses};
 use std::alloc::{AllocError, Global};
 use std::io;
 use std::time::Instant;
 
 const ROUNDS: usize = 5;
 
-/// Microseconds of each stage on a file, and what it gave: members, uses that have a meaning and constants that have a value.
+/// Microseconds of each stage on a file, and what it gave: members, uses that have a meaning, expressions that have a value and types that
+/// are given.
 #[derive(Clone, Copy, Drop)]
 pub struct Stages {
     pub lexing: u128,
@@ -26,8 +31,10 @@ pub struct Names {
     pub collecting: u128,
     pub meaning: u128,
     pub evaluating: u128,
+    pub typing: u128,
     pub uses: usize,
     pub values: usize,
+    pub types: usize,
 }
 
 impl Names {
@@ -45,6 +52,60 @@ fn source_of(alloc: Global, members: Row<Member>) -> Result<Source, NoMemory> {
     Ok(Source { names, units })
 }
 
+/// How many expressions have a value and how many types are given, and when each was known.
+#[derive(Clone, Copy, Drop)]
+struct Worth {
+    values: usize,
+    evaluated: u128,
+    types: usize,
+    typed: u128,
+}
+
+fn worth_of(
+    rt: &HostRuntime,
+    alloc: Global,
+    shape: Shape,
+    source: &Source,
+    meanings: &Uses,
+    start: &Instant,
+) -> io::Result<Worth>
+    requires { AreMeanings (definitions source.now) (mentions source.now) meanings.now.meanings }
+{
+    if !shape.has_values() {
+        let evaluated = start.elapsed(rt)?.as_micros();
+        return Ok(Worth {
+            values: 0,
+            evaluated,
+            types: 0,
+            typed: evaluated,
+        });
+    }
+    let Ok(marks) = evaluate_all(alloc, source, meanings) else {
+        return Err(io::Error::from(AllocError));
+    };
+    let values = marks.at.as_slice().iter().filter(|v| v.is_some()).count();
+    let evaluated = start.elapsed(rt)?.as_micros();
+    if !shape.has_types() {
+        return Ok(Worth {
+            values,
+            evaluated,
+            types: 0,
+            typed: evaluated,
+        });
+    }
+    let Ok(given) = types_all(alloc, source, meanings, &marks) else {
+        return Err(io::Error::from(AllocError));
+    };
+    let types = given.at.as_slice().iter().filter(|t| t.is_some()).count();
+    let typed = start.elapsed(rt)?.as_micros();
+    Ok(Worth {
+        values,
+        evaluated,
+        types,
+        typed,
+    })
+}
+
 fn names_of(rt: &HostRuntime, alloc: Global, shape: Shape, source: &Source) -> io::Result<Names> {
     let start = Instant::now(rt)?;
     let Ok(names) = collect(alloc, source) else {
@@ -55,20 +116,15 @@ fn names_of(rt: &HostRuntime, alloc: Global, shape: Shape, source: &Source) -> i
         return Err(io::Error::from(AllocError));
     };
     let meant = start.elapsed(rt)?.as_micros();
-    let values = if shape.has_values() {
-        let marks = evaluate_all(alloc, source, &meanings).map_err(|_| AllocError)?;
-        let marks = marks.at.as_slice();
-        marks.iter().filter(|value| value.is_some()).count()
-    } else {
-        0
-    };
-    let evaluated = start.elapsed(rt)?.as_micros();
+    let worth = worth_of(rt, alloc, shape, source, &meanings, &start)?;
     Ok(Names {
         collecting: collected,
         meaning: meant.saturating_sub(collected),
-        evaluating: evaluated.saturating_sub(meant),
+        evaluating: worth.evaluated.saturating_sub(meant),
+        typing: worth.typed.saturating_sub(worth.evaluated),
         uses: meanings.meanings.len(),
-        values,
+        values: worth.values,
+        types: worth.types,
     })
 }
 
@@ -99,6 +155,7 @@ pub fn best(rt: &HostRuntime, alloc: Global, shape: Shape, text: &str) -> io::Re
         best.names.collecting = best.names.collecting.min(next.names.collecting);
         best.names.meaning = best.names.meaning.min(next.names.meaning);
         best.names.evaluating = best.names.evaluating.min(next.names.evaluating);
+        best.names.typing = best.names.typing.min(next.names.typing);
     }
     Ok(best)
 }

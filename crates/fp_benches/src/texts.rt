@@ -18,6 +18,8 @@ pub enum Shape {
     Chains,
     /// Of constants in layers, each of which uses three of the layer before it.
     Layers,
+    /// Of types of each form, of which each uses the ones before it.
+    Types,
 }
 
 // A definition of each kind.
@@ -93,6 +95,32 @@ fn layered(alloc: Global, number: usize) -> Result<String, AllocError> {
     format!(in alloc; "constant c{number}=c{first}-c{second}+c{third}\n")
 }
 
+// Types of each form, some with a default.
+fn typed(alloc: Global, number: usize) -> Result<String, AllocError> {
+    format!(in alloc;
+        "
+constant SIZE{number} = 3
+type Name{number} = string size 40
+array Samples{number} = [SIZE{number}] I32 default 7
+
+@ What the zone reads
+struct Reading{number} {{
+  zone: U16
+  samples: [2] Samples{number} @< In each corner
+  name: Name{number}
+}} default {{ zone = 4 }}
+
+enum Mode{number}: U8 {{
+  OFF = 0 @< Not driven
+  AUTO = 1, @< Driven by the control law
+  MANUAL = 2
+}} default Mode{number}.AUTO
+
+type Last{number} = Reading{number}
+"
+    )
+}
+
 impl Shape {
     pub fn name(self) -> &'static str {
         match self {
@@ -100,13 +128,22 @@ impl Shape {
             Shape::Modules => "modules",
             Shape::Chains => "chains",
             Shape::Layers => "layers",
+            Shape::Types => "types",
         }
     }
 
     /// Whether its constants have values: none stands in a ring.
     pub fn has_values(self) -> bool {
         match self {
-            Shape::Chains | Shape::Layers => true,
+            Shape::Chains | Shape::Layers | Shape::Types => true,
+            _ => false,
+        }
+    }
+
+    /// Whether it is of types.
+    pub fn has_types(self) -> bool {
+        match self {
+            Shape::Types => true,
             _ => false,
         }
     }
@@ -117,10 +154,11 @@ impl Shape {
             Shape::Modules => module(alloc, count, number),
             Shape::Chains => chained(alloc, number),
             Shape::Layers => layered(alloc, number),
+            Shape::Types => typed(alloc, number),
         }
     }
 
-    /// The text of so many definitions of each kind, modules or constants.
+    /// The text of so many definitions of each kind, modules, constants or groups of types.
     pub fn text(self, alloc: Global, count: usize) -> Result<String, AllocError> {
         let mut text = String::new(alloc);
         for number in 0..count {

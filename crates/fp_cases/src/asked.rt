@@ -1,16 +1,20 @@
 use crate::cases::Case;
 use crate::conversion::of_types;
-use crate::grammar::{View, copied_machine, definition, expression, machine};
+use crate::grammar::{
+    View, copied_instance, copied_machine, copied_topology, definition, expression, instance,
+    machine, topology,
+};
+use crate::parsed_components::{component, copied_component, copied_interface, interface};
 use crate::scenarios::of_scenario;
 use crate::serving::{code, left, written};
 use crate::sources::{
-    broken_constants, broken_names, broken_parts, copy, count, definitions, evaluated, examined,
-    found, meanings, members, values,
+    broken_constants, broken_forms, broken_names, broken_parts, broken_types, copy, count,
+    definitions, evaluated, examined, found, meanings, members, values,
 };
 use crate::tokens::tokens;
 use crate::used::{broken_uses, flagged};
 use crate::words::refused;
-use crate::written_types::written_types;
+use crate::written_types::{given_types, written_types};
 use fp_base::{NoMemory, Stop, Text};
 use fp_meaning::Group;
 use std::alloc::Global;
@@ -52,6 +56,31 @@ fn of_source(alloc: Global, case: &Case, question: &str) -> Option<Result<Text, 
     }
 }
 
+fn of_topologies(alloc: Global, case: &Case, question: &str) -> Option<Result<Text, Stop>> {
+    match question {
+        "instance" => Some(instance(alloc, case, View::Shape)),
+        "places of instance" => Some(instance(alloc, case, View::Places)),
+        "copy of instance" => Some(copied_instance(alloc, case, View::Shape)),
+        "topology" => Some(topology(alloc, case, View::Shape)),
+        "places of topology" => Some(topology(alloc, case, View::Places)),
+        "copy of topology" => Some(copied_topology(alloc, case, View::Shape)),
+        _ => None,
+    }
+}
+
+/// What is asked of a component or an interface.
+fn of_component(alloc: Global, case: &Case, question: &str) -> Option<Result<Text, Stop>> {
+    match question {
+        "component" => Some(component(alloc, case, View::Shape)),
+        "places of component" => Some(component(alloc, case, View::Places)),
+        "copy of component" => Some(copied_component(alloc, case)),
+        "interface" => Some(interface(alloc, case, View::Shape)),
+        "places of interface" => Some(interface(alloc, case, View::Places)),
+        "copy of interface" => Some(copied_interface(alloc, case)),
+        _ => None,
+    }
+}
+
 fn of_constants(alloc: Global, case: &Case, question: &str) -> Option<Result<Text, Stop>> {
     match question {
         "values" => Some(values(alloc, case)),
@@ -64,6 +93,9 @@ fn of_constants(alloc: Global, case: &Case, question: &str) -> Option<Result<Tex
         "examined" => Some(examined(alloc, case)),
         "written types" => Some(written_types(alloc, case)),
         "broken parts" => Some(broken_parts(alloc, case)),
+        "broken forms" => Some(broken_forms(alloc, case)),
+        "given types" => Some(given_types(alloc, case)),
+        "broken types" => Some(broken_types(alloc, case)),
         _ => None,
     }
 }
@@ -99,6 +131,12 @@ pub fn answer<R: Threads + Wait + Sync + Files>(
     question: &str,
 ) -> Result<Text, NoMemory> {
     if let Some(answer) = of_source(alloc, case, question) {
+        return told(alloc, answer);
+    }
+    if let Some(answer) = of_topologies(alloc, case, question) {
+        return told(alloc, answer);
+    }
+    if let Some(answer) = of_component(alloc, case, question) {
         return told(alloc, answer);
     }
     if let Some(answer) = of_constants(alloc, case, question) {

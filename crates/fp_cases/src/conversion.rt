@@ -10,7 +10,7 @@ use fp_types::{Unfit, bad_defaults, convert, defaults, misfit, types_of};
 use std::alloc::Global;
 
 /// The first number of types that no list has.
-const MANY: usize = 1_000_000;
+pub const MANY: usize = 1_000_000;
 
 /// The place of a type, or of its default: its line, counted from 1.
 fn place(line: u32) -> Place {

@@ -22,7 +22,8 @@ fn primitive(form: &TypeForm) -> &'static str {
     }
 }
 
-fn add_type(alloc: Global, of: &TypeName, tree: &mut Tree) -> Result<(), NoMemory> {
+/// Adds a type's name.
+pub fn add_type(alloc: Global, of: &TypeName, tree: &mut Tree) -> Result<(), NoMemory> {
     tree.add_place(alloc, of.at)?;
     tree.add(primitive(&of.form))?;
     match &of.form {
@@ -110,16 +111,21 @@ fn add_formal(alloc: Global, formal: &Formal, tree: &mut Tree) -> Result<(), NoM
     tree.add_note(&formal.note)
 }
 
+/// Adds formal parameters in parentheses.
+pub fn add_formals(alloc: Global, formals: &[Formal], tree: &mut Tree) -> Result<(), NoMemory> {
+    tree.add(" (")?;
+    for (index, formal) in formals.iter().enumerate() {
+        tree.separate(index, "; ")?;
+        add_formal(alloc, formal, tree)?;
+    }
+    tree.add(")")
+}
+
 fn add_port(alloc: Global, port: &Port, tree: &mut Tree) -> Result<(), NoMemory> {
     tree.add_place(alloc, port.at)?;
     tree.add("port ")?;
     tree.add_name(alloc, &port.name)?;
-    tree.add(" (")?;
-    for (index, formal) in port.formals.as_slice().iter().enumerate() {
-        tree.separate(index, "; ")?;
-        add_formal(alloc, formal, tree)?;
-    }
-    tree.add(")")?;
+    add_formals(alloc, port.formals.as_slice(), tree)?;
     add_optional_type(alloc, " -> ", &port.result, tree)
 }
 

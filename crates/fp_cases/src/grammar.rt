@@ -1,17 +1,21 @@
 use crate::cases::Case;
 use crate::definitions::add_definition;
 use crate::expressions::add_expression;
+use crate::instances::add_instance;
 use crate::machines::add_machine;
+use crate::topologies::add_topology;
 use crate::tree::Tree;
 use crate::words::{numeral, push_all};
 use fp_base::{NoMemory, Stop, Text};
 use fp_lexer::lex;
 use fp_parse_defs::{parse_def, parse_expr};
 use fp_parse_states::parse_machine;
-use fp_tree::{Expr, Machine};
+use fp_parse_topologies::{parse_instance, parse_topology};
+use fp_tree::{Expr, Instance, Machine, Topology};
 use std::alloc::Global;
 
-const MOST_TOKENS: usize = 1000;
+/// No source of a case has more.
+pub const MOST_TOKENS: usize = 1000;
 
 /// What is told of a tree.
 #[derive(Clone, Copy)]
@@ -22,7 +26,8 @@ pub enum View {
     Places,
 }
 
-fn viewed(alloc: Global, tree: Tree, to: u32, view: View) -> Result<Text, NoMemory> {
+/// What is told of a tree.
+pub fn viewed(alloc: Global, tree: Tree, to: u32, view: View) -> Result<Text, NoMemory> {
     match view {
         View::Places => Ok(tree.places),
         View::Shape => {
@@ -88,5 +93,57 @@ pub fn copied_machine(alloc: Global, case: &Case, view: View) -> Result<Text, St
     let (machine, to) = parsed_machine(alloc, case)?;
     let copy = machine.copy(alloc)?;
     add_machine(alloc, &copy, &mut tree)?;
+    Ok(viewed(alloc, tree, to, view)?)
+}
+
+fn parsed_instance(alloc: Global, case: &Case) -> Result<(Instance, u32), Stop> {
+    let tokens = lex(alloc, 0, case.source())?;
+    let from = case.number("from");
+    if tokens.len() == 0 || tokens.len() > MOST_TOKENS || from as usize > tokens.len() {
+        return Err(Stop::NoMemory);
+    }
+    parse_instance(alloc, &tokens, from)
+}
+
+/// What an instance spells.
+pub fn instance(alloc: Global, case: &Case, view: View) -> Result<Text, Stop> {
+    let mut tree = Tree::new(alloc);
+    let (instance, to) = parsed_instance(alloc, case)?;
+    add_instance(alloc, &instance, &mut tree)?;
+    Ok(viewed(alloc, tree, to, view)?)
+}
+
+/// The same of a copy.
+pub fn copied_instance(alloc: Global, case: &Case, view: View) -> Result<Text, Stop> {
+    let mut tree = Tree::new(alloc);
+    let (instance, to) = parsed_instance(alloc, case)?;
+    let copy = instance.copy(alloc)?;
+    add_instance(alloc, &copy, &mut tree)?;
+    Ok(viewed(alloc, tree, to, view)?)
+}
+
+fn parsed_topology(alloc: Global, case: &Case) -> Result<(Topology, u32), Stop> {
+    let tokens = lex(alloc, 0, case.source())?;
+    let from = case.number("from");
+    if tokens.len() == 0 || tokens.len() > MOST_TOKENS || from as usize > tokens.len() {
+        return Err(Stop::NoMemory);
+    }
+    parse_topology(alloc, &tokens, from)
+}
+
+/// What a topology spells.
+pub fn topology(alloc: Global, case: &Case, view: View) -> Result<Text, Stop> {
+    let mut tree = Tree::new(alloc);
+    let (topology, to) = parsed_topology(alloc, case)?;
+    add_topology(alloc, &topology, &mut tree)?;
+    Ok(viewed(alloc, tree, to, view)?)
+}
+
+/// The same of a copy.
+pub fn copied_topology(alloc: Global, case: &Case, view: View) -> Result<Text, Stop> {
+    let mut tree = Tree::new(alloc);
+    let (topology, to) = parsed_topology(alloc, case)?;
+    let copy = topology.copy(alloc)?;
+    add_topology(alloc, &copy, &mut tree)?;
     Ok(viewed(alloc, tree, to, view)?)
 }

@@ -4,18 +4,24 @@
 
 mod asked;
 mod cases;
+mod components;
 mod conversion;
 mod definitions;
+mod dictionary;
 mod escapes;
 mod expressions;
 mod grammar;
+mod instances;
 mod machines;
 mod members;
+mod parsed_components;
+mod ports;
 mod repeated;
 mod scenarios;
 mod serving;
 mod sources;
 mod tokens;
+mod topologies;
 mod tree;
 mod types;
 mod used;

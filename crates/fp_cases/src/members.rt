@@ -5,7 +5,8 @@ use fp_base::{NoMemory, Span, Text};
 use fp_tree::{Def, Member};
 use std::alloc::Global;
 
-fn place_and_note(definition: &Def) -> (Span, &Text) {
+/// Where a definition stands, and its annotation.
+pub fn place_and_note(definition: &Def) -> (Span, &Text) {
     match definition {
         Def::Constant(constant) => (constant.at, &constant.note),
         Def::Abstract(opaque) => (opaque.at, &opaque.note),

@@ -1,4 +1,5 @@
 use crate::cases::Case;
+use crate::conversion::MANY;
 use crate::grammar::parsed_expression;
 use crate::members::add_members;
 use crate::words::{first_broken, numeral, printed, push_line};
@@ -8,9 +9,10 @@ use fp_lexer::lex;
 use fp_meaning::{Group, Marks};
 use fp_names::{collect, name_faults, uses};
 use fp_parse_parts::{Inside, Members, parse};
+use fp_source_types::{TypeMarks, types_all};
 use fp_tree::{Source, Unit, Values};
-use fp_type_forms::{part_faults, types_written};
-use fp_type_sizes::WrittenType;
+use fp_type_forms::{form_faults, part_faults, types_written};
+use fp_type_sizes::{WrittenType, extents, own_order, uses_earlier};
 use std::alloc::Global;
 
 fn unit(alloc: Global, file: u32, source: &[u8]) -> Result<Unit, Stop> {
@@ -126,6 +128,39 @@ pub fn broken_parts(alloc: Global, case: &Case) -> Result<Text, Stop> {
     let marks = evaluate_all(alloc, &source, &meant)?;
     let first = part_faults(alloc, &source, &meant, marks.at.as_slice())?;
     Ok(first_broken(alloc, first)?)
+}
+
+/// What is broken first in what is written of its types, none of which uses a later one.
+pub fn broken_forms(alloc: Global, case: &Case) -> Result<Text, Stop> {
+    let source = source(alloc, case)?;
+    let names = collect(alloc, &source)?;
+    let meant = uses(alloc, &source, &names)?;
+    let marks = evaluate_all(alloc, &source, &meant)?;
+    let values = marks.at.as_slice();
+    let written = types_written(alloc, &source, &meant, values)?;
+    let types = written.as_slice();
+    let earlier = uses_earlier(types);
+    if !earlier || types.len() >= MANY {
+        return Ok(Text::from_str(alloc, "a type uses a later one")?);
+    }
+    let order = own_order(alloc, types)?;
+    let sizes = extents(alloc, types, order.as_slice())?;
+    let first = form_faults(alloc, &source, &meant, values, types, sizes.as_slice())?;
+    Ok(first_broken(alloc, first)?)
+}
+
+/// Its types, and what is broken first of them.
+pub fn type_marks(alloc: Global, case: &Case) -> Result<TypeMarks, Stop> {
+    let source = source(alloc, case)?;
+    let names = collect(alloc, &source)?;
+    let meant = uses(alloc, &source, &names)?;
+    let marks = evaluate_all(alloc, &source, &meant)?;
+    Ok(types_all(alloc, &source, &meant, &marks)?)
+}
+
+/// What is broken first of its types.
+pub fn broken_types(alloc: Global, case: &Case) -> Result<Text, Stop> {
+    Ok(first_broken(alloc, type_marks(alloc, case)?.first)?)
 }
 
 fn optional(alloc: Global, value: Option<&Value>) -> Result<Text, NoMemory> {

@@ -1,8 +1,8 @@
 use crate::cases::Case;
-use crate::sources::types;
+use crate::sources::{type_marks, types};
 use crate::words::{numeral, printed, push_all, push_line};
 use fp_base::{NoMemory, Stop, Text, Value};
-use fp_tables::{Constant, Field, Form, Kind};
+use fp_tables::{Constant, Field, Form, Kind, TypeDef};
 use fp_type_sizes::{Own, WrittenType};
 use std::alloc::Global;
 
@@ -12,6 +12,27 @@ pub fn written_types(alloc: Global, case: &Case) -> Result<Text, Stop> {
     for written in types(alloc, case)?.as_slice() {
         push_line(&mut out, line(alloc, written)?.as_str())?;
     }
+    Ok(out)
+}
+
+/// Each type with its default, one a line, or `none` where its form or its default doesn't exist.
+pub fn given_types(alloc: Global, case: &Case) -> Result<Text, Stop> {
+    let mut out = Text::new(alloc);
+    for given in type_marks(alloc, case)?.at.as_slice() {
+        push_line(&mut out, given_line(alloc, given)?.as_str())?;
+    }
+    Ok(out)
+}
+
+fn given_line(alloc: Global, given: &Option<TypeDef>) -> Result<Text, NoMemory> {
+    let Some(given) = given else {
+        return Text::from_str(alloc, "none");
+    };
+    let mut out = given.name.copy(alloc)?;
+    add_form(alloc, &given.form, &mut out)?;
+    let default = printed(alloc, &given.default)?;
+    push_all(&mut out, &[" default ", default.as_str()])?;
+    add_note(&given.note, &mut out)?;
     Ok(out)
 }
 

@@ -2,6 +2,7 @@ use fp_lexer::{one_lexing, places_rise, same_words, spans_rise, worked_strings};
 use fp_main::Status;
 use fp_parse_parts::{one_refusal, one_unit};
 use fp_parse_states::{machine_or_break, one_machine, same_bodies, worked_rows};
+use fp_parse_topologies::{instance_or_break, one_instance, one_topology, topology_or_break};
 
 #[test]
 fn laws_can_be_cited(rt: HostRuntime) {
@@ -16,5 +17,9 @@ fn laws_can_be_cited(rt: HostRuntime) {
     one_machine();
     same_bodies();
     worked_rows();
+    one_instance();
+    one_topology();
+    instance_or_break();
+    topology_or_break();
     assert_eq!(rt; Status::NoTopology.code(), 12);
 }
