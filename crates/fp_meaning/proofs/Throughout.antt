@@ -46,6 +46,11 @@ module _ (P : List Item → Type 0) (none : P []) (joined : (xs ys : List Item) 
   by_member : (y : Member-F ((m : Member) × Holds m) ((m : Module) × HoldsWithin m)) → Holds (roll-Member (map-Member _ _ _ _ (λ e. e.0) (λ e. e.0) y))
   by_member (open_member.Module e) scope = subst P (sym (member_rolled (open_member.Module e.0) scope)) (e.1 scope)
   by_member (open_member.Def d) scope = subst P (sym (member_rolled (open_member.Def d) scope)) (defined scope d)
+  by_member (open_member.Machine m) scope = subst P (sym (member_rolled (open_member.Machine m) scope)) none
+  by_member (open_member.Component c) scope = subst P (sym (member_rolled (open_member.Component c) scope)) none
+  by_member (open_member.Interface f) scope = subst P (sym (member_rolled (open_member.Interface f) scope)) none
+  by_member (open_member.Instance n) scope = subst P (sym (member_rolled (open_member.Instance n) scope)) none
+  by_member (open_member.Topology t) scope = subst P (sym (member_rolled (open_member.Topology t) scope)) none
   by_member (open_member.Include i) scope = subst P (sym (member_rolled (open_member.Include i) scope)) none
   by_member (open_member.Locate l) scope = subst P (sym (member_rolled (open_member.Locate l) scope)) none
 

@@ -1,7 +1,8 @@
 -- A source laid out flat, in source order: what it defines, each with the value that it is given, and the names and the expressions that
 -- its definitions have beside that. FPP Language Specification, "Definitions".
 -- The units stand in their order and the members in theirs, and what a module has stands in its place, under the module's name. An include
--- has been replaced by the members that it stands for, and `locate` defines nothing and its name isn't looked up.
+-- has been replaced by the members that it stands for, and `locate` defines nothing and its name isn't looked up. This profile: state
+-- machines, components, interfaces, instances and topologies, which no file has yet, define nothing.
 use Rattle.std.specs.Prelude.{ℕ, suc, List, [], ◌∷◌, ◌++◌, length, flat_map}
 use Rattle.fp_tree.specs.declared.source.Source.{Source}
 use Rattle.fp_tree.specs.declared.member.Unit.{Unit as File}
@@ -79,8 +80,7 @@ items_in scope d = item.Defined (site scope d) ∷ part_items scope d
 abbrev pub member_step : Member-F (Path → List Item) (Path → List Item) → Path → List Item
 member_step (member.Module m) scope = m scope
 member_step (member.Def d) scope = items_in scope d
-member_step (member.Include i) scope = []
-member_step (member.Locate l) scope = []
+member_step _ scope = []
 
 abbrev pub module_step : Module-F (Path → List Item) (Path → List Item) → Path → List Item
 module_step m scope = flat_map (λ inner. inner (scope ++ m.name.text ∷ [])) m.members

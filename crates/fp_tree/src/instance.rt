@@ -67,10 +67,30 @@ impl Instance {
     fn copy_settings(&self, alloc: Global, copy: &mut Instance) -> Result<(), NoMemory>
         ensures { OnOk result (copy.new ≡ record { name = copy.old.name; of = copy.old.of; base = copy.old.base; kind = self.now.kind; file = self.now.file; queue = self.now.queue; stack = self.now.stack; priority = self.now.priority; cpu = self.now.cpu; phases = copy.old.phases; at = copy.old.at; note = copy.old.note }) }
     {
+        self.copy_implementation(alloc, copy)?;
+        self.copy_sizes(alloc, copy)?;
+        self.copy_scheduling(alloc, copy)
+    }
+
+    fn copy_implementation(&self, alloc: Global, copy: &mut Instance) -> Result<(), NoMemory>
+        ensures { OnOk result (copy.new ≡ record { name = copy.old.name; of = copy.old.of; base = copy.old.base; kind = self.now.kind; file = self.now.file; queue = copy.old.queue; stack = copy.old.stack; priority = copy.old.priority; cpu = copy.old.cpu; phases = copy.old.phases; at = copy.old.at; note = copy.old.note }) }
+    {
         copy.kind = copy_optional_str(alloc, &self.kind)?;
         copy.file = copy_optional_str(alloc, &self.file)?;
+        Ok(())
+    }
+
+    fn copy_sizes(&self, alloc: Global, copy: &mut Instance) -> Result<(), NoMemory>
+        ensures { OnOk result (copy.new ≡ record { name = copy.old.name; of = copy.old.of; base = copy.old.base; kind = copy.old.kind; file = copy.old.file; queue = self.now.queue; stack = self.now.stack; priority = copy.old.priority; cpu = copy.old.cpu; phases = copy.old.phases; at = copy.old.at; note = copy.old.note }) }
+    {
         copy.queue = copy_optional(alloc, &self.queue)?;
         copy.stack = copy_optional(alloc, &self.stack)?;
+        Ok(())
+    }
+
+    fn copy_scheduling(&self, alloc: Global, copy: &mut Instance) -> Result<(), NoMemory>
+        ensures { OnOk result (copy.new ≡ record { name = copy.old.name; of = copy.old.of; base = copy.old.base; kind = copy.old.kind; file = copy.old.file; queue = copy.old.queue; stack = copy.old.stack; priority = self.now.priority; cpu = self.now.cpu; phases = copy.old.phases; at = copy.old.at; note = copy.old.note }) }
+    {
         copy.priority = copy_optional(alloc, &self.priority)?;
         copy.cpu = copy_optional(alloc, &self.cpu)?;
         Ok(())

@@ -1,7 +1,11 @@
 ghost use Rattle.std.specs.Prelude.{◌≡◌, IfOk};
 
+use crate::component::{Component, Interface};
 use crate::definition::Def;
+use crate::instance::Instance;
+use crate::machine::Machine;
 use crate::name::{Name, Qual, Str};
+use crate::topology::Topology;
 use fp_base::{NoMemory, Row, Span, Text};
 use std::alloc::Global;
 
@@ -17,6 +21,11 @@ pub struct Unit {
 pub enum Member {
     Module(Module),
     Def(Def),
+    Machine(Machine),
+    Component(Component),
+    Interface(Interface),
+    Instance(Instance),
+    Topology(Topology),
     Include(Include),
     Locate(Locate),
 }
@@ -65,6 +74,11 @@ impl Member {
         match self {
             Member::Module(module) => Ok(Member::Module(module.copy(alloc)?)),
             Member::Def(definition) => Ok(Member::Def(definition.copy(alloc)?)),
+            Member::Machine(machine) => Ok(Member::Machine(machine.copy(alloc)?)),
+            Member::Component(component) => Ok(Member::Component(component.copy(alloc)?)),
+            Member::Interface(interface) => Ok(Member::Interface(interface.copy(alloc)?)),
+            Member::Instance(instance) => Ok(Member::Instance(instance.copy(alloc)?)),
+            Member::Topology(topology) => Ok(Member::Topology(topology.copy(alloc)?)),
             Member::Include(include) => Ok(Member::Include(include.copy(alloc)?)),
             Member::Locate(locate) => Ok(Member::Locate(locate.copy(alloc)?)),
         }

@@ -213,10 +213,7 @@ impl PatternConnections {
     {
         let of = self.of.copy(alloc)?;
         let note = self.note.copy(alloc)?;
-        let targets = match &self.targets {
-            Some(targets) => Some(copy_targets(alloc, targets.as_slice())?),
-            None => None,
-        };
+        let targets = copy_listed(alloc, &self.targets)?;
         Ok(PatternConnections {
             kind: self.kind,
             of,
@@ -224,6 +221,18 @@ impl PatternConnections {
             at: self.at,
             note,
         })
+    }
+}
+
+fn copy_listed(
+    alloc: Global,
+    targets: &Option<Row<Target>>,
+) -> Result<Option<Row<Target>>, NoMemory>
+    ensures { IfOk result (λ copy. copy ≡ targets.now) }
+{
+    match targets {
+        Some(targets) => Ok(Some(copy_targets(alloc, targets.as_slice())?)),
+        None => Ok(None),
     }
 }
 
