@@ -14,11 +14,20 @@ use Rattle.fp_lexer.specs.declared.token.Token.{Token}
 use Rattle.fp_tree.specs.declared.member.Member.{Member}
 use Rattle.fp_base.specs.Least.{broken_at, Either, IsLeast, NoLater, lesser_of, no_later}
 use Rattle.fp_base.proofs.Calculus.{least_none, least_only, least_one, least_same, least_either, least_flag, none_broken}
-use Rattle.fp_parse_parts.specs.Units.{SpellsUnit, BreaksUnit}
+use Rattle.fp_parse_parts.specs.Units.{SpellsInside, SpellsUnit, BreaksUnit}
+use Rattle.fp_parse_parts.specs.declared.parsing.Inside.TheVariants as inside
+use Rattle.fp_parse_parts.specs.declared.parsing.Members.{Members}
+use Rattle.fp_parse_parts.specs.declared.parsing.Members.TheVariants as parsed
 use Rattle.fp_main.specs.gathering.Answers.{IsFound}
 use Rattle.fp_main.specs.gathering.Gathered.{InFiles}
 use Rattle.fp_main.specs.gathering.Reading.{Reading, BreaksText, BreaksTokenRule, HasTokens, Passes}
 use Rattle.fp_main.specs.gathering.Walks.{Walked, with_reading}
+
+-- what tokens spell that stand in a file are members
+pub found_unit : (tokens : List Token) (m : Members) → SpellsInside tokens inside.Unit m → (ms : List Member) × (m ≡ parsed.Unit ms) × SpellsUnit tokens ms
+found_unit tokens (parsed.Unit ms) s = (ms, refl, s)
+found_unit tokens (parsed.Component ps) s = absurd s
+found_unit tokens (parsed.Topology ms) s = absurd s
 
 no_later_of : (number : ℕ) (text : List ℕ) (f g : Refusal) → BreaksTokens number text f.rule f.place → BreaksTokens number text g.rule g.place → NotBehind f.rule f.place g.rule g.place → NoLater f g
 no_later_of number text f g p q n =

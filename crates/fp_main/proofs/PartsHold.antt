@@ -6,7 +6,7 @@ use Rattle.std.proofs.lemmas.Grind.{flat_map-append}
 use Rattle.fp_tree.specs.declared.member.Member.{Member, Member-F}
 use Rattle.fp_tree.specs.declared.member.Member.TheFolds.{fold-Member, fold-Module, fold-roll-Member, fold-roll-Module, ind-Member, map-Member, map-Module}
 use Rattle.fp_tree.specs.declared.member.Member.TheOpen as open_member
-use Rattle.fp_tree.specs.declared.member.Member.TheVariants.{rolls-Def, rolls-Locate}
+use Rattle.fp_tree.specs.declared.member.Member.TheVariants.{rolls-Def, rolls-Machine, rolls-Component, rolls-Interface, rolls-Instance, rolls-Topology, rolls-Locate}
 use Rattle.fp_tree.specs.declared.member.Member.TheVariants as member
 use Rattle.fp_tree.specs.declared.member.Member.TheViews.{roll-Member, roll-Module}
 use Rattle.fp_tree.specs.declared.member.Module.{Module, Module-F}
@@ -95,6 +95,21 @@ module _ (P : Item → Type 0) where
   by_member (open_member.Def d) scope parts h k =
       subst (λ (p : Placed). Placing scope p) (sym (rolled_placed (open_member.Def d) parts))
       (one scope (member.Def d) (subst (λ (m : Member). AllByRecursion P (in_member scope m)) (rolls-Def d) h), k)
+  by_member (open_member.Machine m) scope parts h k =
+      subst (λ (p : Placed). Placing scope p) (sym (rolled_placed (open_member.Machine m) parts))
+      (one scope (member.Machine m) (subst (λ (m : Member). AllByRecursion P (in_member scope m)) (rolls-Machine m) h), k)
+  by_member (open_member.Component c) scope parts h k =
+      subst (λ (p : Placed). Placing scope p) (sym (rolled_placed (open_member.Component c) parts))
+      (one scope (member.Component c) (subst (λ (m : Member). AllByRecursion P (in_member scope m)) (rolls-Component c) h), k)
+  by_member (open_member.Interface f) scope parts h k =
+      subst (λ (p : Placed). Placing scope p) (sym (rolled_placed (open_member.Interface f) parts))
+      (one scope (member.Interface f) (subst (λ (m : Member). AllByRecursion P (in_member scope m)) (rolls-Interface f) h), k)
+  by_member (open_member.Instance n) scope parts h k =
+      subst (λ (p : Placed). Placing scope p) (sym (rolled_placed (open_member.Instance n) parts))
+      (one scope (member.Instance n) (subst (λ (m : Member). AllByRecursion P (in_member scope m)) (rolls-Instance n) h), k)
+  by_member (open_member.Topology t) scope parts h k =
+      subst (λ (p : Placed). Placing scope p) (sym (rolled_placed (open_member.Topology t) parts))
+      (one scope (member.Topology t) (subst (λ (m : Member). AllByRecursion P (in_member scope m)) (rolls-Topology t) h), k)
   by_member (open_member.Include i) scope parts h k =
       subst (λ (p : Placed). Placing scope p) (sym (rolled_placed (open_member.Include i) parts)) (next_keeps scope parts k)
   by_member (open_member.Locate l) scope parts h k =

@@ -4,7 +4,7 @@ use Rattle.std.specs.Prelude.{Some, None, slice_get, Bool, true, false, ltb, Mat
 use Rattle.std.proofs.lemmas.Bool.{lt-ltb, le-ltb}
 use Rattle.fp_base.specs.declared.memory.NoMemory.{NoMemory}
 use Rattle.std.proofs.lemmas.List.{take-append-drop, length-take-le}
-use Rattle.std.proofs.lemmas.Option.{slice_get_within}
+use Rattle.std.proofs.lemmas.Option.{none-some, slice_get_within}
 use Rattle.fp_base.specs.declared.place.Span.{Span}
 use Rattle.fp_base.specs.declared.rule.Rule.{Rule}
 use Rattle.fp_base.specs.declared.rule.Rule.TheVariants.{UnexpectedToken, NestingTooDeep, FormLeftOut}
@@ -30,14 +30,14 @@ pub when_false : (A B : Type 0) (b : Bool) → MatchBool b A B → b ≡ false �
 when_false A B false m e = m
 when_false A B true m e = cc
 
-module _ {X : Type 0} (g : ℕ → Grammar Token X) (probes : List Probe) where
-  pub rule_at_end : (tokens : List Token) (at : ℕ) → None ≡ slice_get tokens at → BrokenRule g probes (take at tokens) (drop at tokens) UnexpectedToken
-  rule_at_end tokens at e = subst (λ l. BrokenRule g probes (take at tokens) l UnexpectedToken) (sym (rest_at_end tokens at (sym e))) refl
+module _ {X : Type 0} (g : ℕ → Grammar Token X) (probe : Probe) where
+  pub rule_at_end : (tokens : List Token) (at : ℕ) → None ≡ slice_get tokens at → BrokenRule g probe (take at tokens) (drop at tokens) UnexpectedToken
+  rule_at_end tokens at e = subst (λ l. BrokenRule g probe (take at tokens) l UnexpectedToken) (sym (rest_at_end tokens at (sym e))) refl
 
-  rule_at : (tokens : List Token) (at : ℕ) (t : Token) (rule : Rule) → Some t ≡ slice_get tokens at → BrokenRule g probes (take at tokens) (t ∷ drop (at + 1) tokens) rule → BrokenRule g probes (take at tokens) (drop at tokens) rule
-  rule_at tokens at t rule e b = subst (λ l. BrokenRule g probes (take at tokens) l rule) (sym (rest_at tokens at t (sym e))) b
+  rule_at : (tokens : List Token) (at : ℕ) (t : Token) (rule : Rule) → Some t ≡ slice_get tokens at → BrokenRule g probe (take at tokens) (t ∷ drop (at + 1) tokens) rule → BrokenRule g probe (take at tokens) (drop at tokens) rule
+  rule_at tokens at t rule e b = subst (λ l. BrokenRule g probe (take at tokens) l rule) (sym (rest_at tokens at t (sym e))) b
 
-  pub rule_deeper : (tokens : List Token) (at : ℕ) (t : Token) (to : ℕ) → Some t ≡ slice_get tokens at → ReachesTo (g (limit + 1)) tokens to → at < to → BrokenRule g probes (take at tokens) (drop at tokens) NestingTooDeep
+  pub rule_deeper : (tokens : List Token) (at : ℕ) (t : Token) (to : ℕ) → Some t ≡ slice_get tokens at → ReachesTo (g (limit + 1)) tokens to → at < to → BrokenRule g probe (take at tokens) (drop at tokens) NestingTooDeep
   rule_deeper tokens at t to e r l =
       let h = length_before tokens at t e in
       rule_at tokens at t NestingTooDeep e (inl (goes_on (g (limit + 1)) tokens (take at tokens) t (drop (at + 1) tokens) to (cut_at tokens at t e) r (omega (arith, h, l)), refl))
@@ -47,50 +47,49 @@ module _ {X : Type 0} (g : ℕ → Grammar Token X) (probes : List Probe) where
       let h = length_before tokens at t e in
       ends_there (g (limit + 1)) tokens (take at tokens) t (drop (at + 1) tokens) to (cut_at tokens at t e) r (omega (arith, h, l))
 
-  pub rule_left_out : (tokens : List Token) (at : ℕ) (t : Token) (to : ℕ) → Some t ≡ slice_get tokens at → ReachesTo (g (limit + 1)) tokens to → to ≤ at → BeginsLeftOut g probes (take at tokens) t → BrokenRule g probes (take at tokens) (drop at tokens) FormLeftOut
+  pub rule_left_out : (tokens : List Token) (at : ℕ) (t : Token) (to : ℕ) → Some t ≡ slice_get tokens at → ReachesTo (g (limit + 1)) tokens to → to ≤ at → BeginsLeftOut g probe (take at tokens) t → BrokenRule g probe (take at tokens) (drop at tokens) FormLeftOut
   rule_left_out tokens at t to e r l b = rule_at tokens at t FormLeftOut e (inr (not_deeper tokens at t to e r l, inl (b, refl)))
 
-  pub rule_plain : (tokens : List Token) (at : ℕ) (t : Token) (to : ℕ) → Some t ≡ slice_get tokens at → ReachesTo (g (limit + 1)) tokens to → to ≤ at → (BeginsLeftOut g probes (take at tokens) t → ⊥) → BrokenRule g probes (take at tokens) (drop at tokens) UnexpectedToken
+  pub rule_plain : (tokens : List Token) (at : ℕ) (t : Token) (to : ℕ) → Some t ≡ slice_get tokens at → ReachesTo (g (limit + 1)) tokens to → to ≤ at → (BeginsLeftOut g probe (take at tokens) t → ⊥) → BrokenRule g probe (take at tokens) (drop at tokens) UnexpectedToken
   rule_plain tokens at t to e r l n = rule_at tokens at t UnexpectedToken e (inr (not_deeper tokens at t to e r l, inr (n, refl)))
 
 module _ {X : Type 0} (g : ℕ → Grammar Token X) where
   -- the word that is tried was read in that place
-  pub tried_read : (probe : Probe) (tokens tried : List Token) (at : ℕ) (place : Span) (to : ℕ) → at ≤ length tokens → tried ≡ take at tokens ++ tried_at probe place ∷ [] → ReachesTo (g limit) tried to → at < to → StartsMember g probe (take at tokens) place
-  tried_read probe tokens tried at place to w e r l =
+  tried_read : (word : ℕ) (tokens tried : List Token) (at : ℕ) (place : Span) (to : ℕ) → at ≤ length tokens → tried ≡ take at tokens ++ tried_at word place ∷ [] → ReachesTo (g limit) tried to → at < to → StartsMember g word (take at tokens) place
+  tried_read word tokens tried at place to w e r l =
       let h = length-take-le at tokens w in
-      goes_on (g limit) tried (take at tokens) (tried_at probe place) [] to e r (omega (arith, h, l))
+      goes_on (g limit) tried (take at tokens) (tried_at word place) [] to e r (omega (arith, h, l))
 
-  pub tried_unread : (probe : Probe) (tokens tried : List Token) (at : ℕ) (place : Span) (to : ℕ) → at ≤ length tokens → tried ≡ take at tokens ++ tried_at probe place ∷ [] → ReachesTo (g limit) tried to → to ≤ at → StartsMember g probe (take at tokens) place → ⊥
-  tried_unread probe tokens tried at place to w e r l =
+  tried_unread : (word : ℕ) (tokens tried : List Token) (at : ℕ) (place : Span) (to : ℕ) → at ≤ length tokens → tried ≡ take at tokens ++ tried_at word place ∷ [] → ReachesTo (g limit) tried to → to ≤ at → StartsMember g word (take at tokens) place → ⊥
+  tried_unread word tokens tried at place to w e r l =
       let h = length-take-le at tokens w in
-      ends_there (g limit) tried (take at tokens) (tried_at probe place) [] to e r (omega (arith, h, l))
+      ends_there (g limit) tried (take at tokens) (tried_at word place) [] to e r (omega (arith, h, l))
 
-  pub tried_told : (probe : Probe) (tokens tried : List Token) (at : ℕ) (place : Span) (to : ℕ) → at ≤ length tokens → tried ≡ take at tokens ++ tried_at probe place ∷ [] → ReachesTo (g limit) tried to → MatchBool (ltb at to) (StartsMember g probe (take at tokens) place) (StartsMember g probe (take at tokens) place → ⊥)
-  tried_told probe tokens tried at place to w e r =
+  pub tried_told : (word : ℕ) (tokens tried : List Token) (at : ℕ) (place : Span) (to : ℕ) → at ≤ length tokens → tried ≡ take at tokens ++ tried_at word place ∷ [] → ReachesTo (g limit) tried to → MatchBool (ltb at to) (StartsMember g word (take at tokens) place) (StartsMember g word (take at tokens) place → ⊥)
+  tried_told word tokens tried at place to w e r =
       elim (short at to) [
-        | inl l ↦ subst (λ b. MatchBool b (StartsMember g probe (take at tokens) place) (StartsMember g probe (take at tokens) place → ⊥)) (sym (lt-ltb at to l)) (tried_read probe tokens tried at place to w e r l)
-        | inr l ↦ subst (λ b. MatchBool b (StartsMember g probe (take at tokens) place) (StartsMember g probe (take at tokens) place → ⊥)) (sym (le-ltb at to l)) (tried_unread probe tokens tried at place to w e r l)
+        | inl l ↦ subst (λ b. MatchBool b (StartsMember g word (take at tokens) place) (StartsMember g word (take at tokens) place → ⊥)) (sym (lt-ltb at to l)) (tried_read word tokens tried at place to w e r l)
+        | inr l ↦ subst (λ b. MatchBool b (StartsMember g word (take at tokens) place) (StartsMember g word (take at tokens) place → ⊥)) (sym (le-ltb at to l)) (tried_unread word tokens tried at place to w e r l)
       ]
     where
       short : (r n : ℕ) → (r < n) ⊎ (n ≤ r)
       short r n = grind arith
 
-  -- where one word is tried: a word that begins no form that is left out
-  pub begins_none : (probe : Probe) (before : List Token) (t : Token) → left_out t.what ≡ false → probe.opens t.what ≡ false → BeginsLeftOut g (probe ∷ []) before t → ⊥
-  begins_none probe before t e f (inl h) = cc
-  begins_none probe before t e f (inr (inl (h, s))) = cc
-  begins_none probe before t e f (inr (inr h)) = h
+  module _ (probe : Probe) where
+    -- no word is tried: nothing that is left out begins
+    pub begins_none : (before : List Token) (t : Token) → left_out t.what ≡ false → None ≡ probe t.what → BeginsLeftOut g probe before t → ⊥
+    begins_none before t e f (inl h) = let i : true ≡ false = sym h ∙ e in cc
+    begins_none before t e f (inr (word, h, s)) = none-some word (f ∙ h)
 
-  -- a word that begins such a form at the start of a member
-  pub begins_there : (probe : Probe) (before : List Token) (t : Token) (b : Bool) → left_out t.what ≡ false → probe.opens t.what ≡ true → MatchBool b (StartsMember g probe before t.at) (StartsMember g probe before t.at → ⊥) → MatchBool b (BeginsLeftOut g (probe ∷ []) before t) (BeginsLeftOut g (probe ∷ []) before t → ⊥)
-  begins_there probe before t true e f s = inr (inl (f, s))
-  begins_there probe before t false e f s = λ h. only h
-    where
-      only : BeginsLeftOut g (probe ∷ []) before t → ⊥
-      only (inl h) = let i : true ≡ false = sym h ∙ e in cc
-      only (inr (inl (h, r))) = s r
-      only (inr (inr h)) = h
+    -- a word is tried
+    begins_there : (before : List Token) (t : Token) (word : ℕ) (b : Bool) → left_out t.what ≡ false → Some word ≡ probe t.what → MatchBool b (StartsMember g word before t.at) (StartsMember g word before t.at → ⊥) → MatchBool b (BeginsLeftOut g probe before t) (BeginsLeftOut g probe before t → ⊥)
+    begins_there before t word true e f s = inr (word, sym f, s)
+    begins_there before t word false e f s = λ h. only h
+      where
+        only : BeginsLeftOut g probe before t → ⊥
+        only (inl h) = let i : true ≡ false = sym h ∙ e in cc
+        only (inr (other, h, r)) = let same : Some word ≡ Some other = f ∙ h in let i : other ≡ word = cc in s (subst (λ n. StartsMember g n before t.at) i r)
 
-  pub begins_handed : (probe : Probe) (before : List Token) (t : Token) (r : Result Bool NoMemory) → left_out t.what ≡ false → probe.opens t.what ≡ true → IfOk r (λ b. MatchBool b (StartsMember g probe before t.at) (StartsMember g probe before t.at → ⊥)) → IfOk r (λ b. MatchBool b (BeginsLeftOut g (probe ∷ []) before t) (BeginsLeftOut g (probe ∷ []) before t → ⊥))
-  begins_handed probe before t (Ok b) e f i = begins_there probe before t b e f i
-  begins_handed probe before t (Err n) e f i = i
+    pub begins_handed : (before : List Token) (t : Token) (word : ℕ) (r : Result Bool NoMemory) → left_out t.what ≡ false → Some word ≡ probe t.what → IfOk r (λ b. MatchBool b (StartsMember g word before t.at) (StartsMember g word before t.at → ⊥)) → IfOk r (λ b. MatchBool b (BeginsLeftOut g probe before t) (BeginsLeftOut g probe before t → ⊥))
+    begins_handed before t word (Ok b) e f i = begins_there before t word b e f i
+    begins_handed before t word (Err n) e f i = i

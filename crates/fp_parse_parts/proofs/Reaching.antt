@@ -1,40 +1,45 @@
 -- How far a read of a file came says which tokens could follow.
 use Rattle.std.proofs.Common.{◌≡◌, ℕ, ◌<◌, ◌≤◌, List, [], ◌∷◌, ◌++◌, length, take, drop, sym, ◌∙◌, ap, subst, arith, length-append, append_assoc}
-use Rattle.std.specs.Prelude.{Ok, Err}
+use Rattle.std.specs.Prelude.{Result, Ok, Err, IsErrAnd}
+use Rattle.std.proofs.lemmas.Result.{err_from_is_err_and}
 use Rattle.fp_base.specs.declared.refusal.Stop.{Stop}
 use Rattle.fp_lexer.specs.declared.token.Token.{Token}
-use Rattle.fp_tree.specs.declared.member.Member.{Member}
 use Rattle.fp_grammar.specs.declared.halt.Halt.{Halt}
 use Rattle.fp_grammar.specs.declared.halt.Halt.TheVariants.{Unexpected}
 use Rattle.fp_grammar.specs.Grammar.{Grammar, Spells}
 use Rattle.fp_grammar.specs.Longest.{IsViable}
 use Rattle.fp_grammar.specs.Broken.{IsBroken}
+use Rattle.fp_grammar.specs.Promises.{Fits}
 use Rattle.fp_grammar.specs.Parses.{Accepts, Refuses, RefusesBy}
-use Rattle.fp_grammar.proofs.BrokenLemmas.{accepted_short, accepted_whole, refused_broken}
+use Rattle.fp_grammar.proofs.BrokenLemmas.{refused_broken}
 use Rattle.fp_grammar.proofs.Lists.{Cuts, cuts_of}
 use Rattle.fp_grammar.proofs.Lists.Cuts.{same, longer, shorter}
 use Rattle.fp_grammar.proofs.LongestLemmas.{answers_longest}
 use Rattle.fp_parse_pieces.specs.Kinds.{kind}
-use Rattle.fp_parse_defs.specs.Reading.{limit}
 use Rattle.fp_parse_parts.specs.Files.{ReachesTo}
-use Rattle.fp_parse_parts.specs.Units.{unit, SpellsUnit, StopsUnit, AnswersInside}
+use Rattle.fp_parse_parts.specs.Units.{StopsInside, AnswersInside}
 use Rattle.fp_parse_parts.specs.declared.parsing.Inside.{Inside}
-use Rattle.fp_parse_parts.specs.declared.parsing.Inside.TheVariants as inside
-use Rattle.fp_parse_parts.specs.declared.parsing.Members.TheVariants as found
-use Rattle.fp_parse_parts.proofs.MembersFit.{unit_fits}
+use Rattle.fp_parse_parts.specs.declared.parsing.Members.{Members}
 
-pub reached_by_node : (depth : ℕ) (tokens : List Token) (xs : List Member) (to : ℕ) → Accepts kind (unit depth) tokens 0 xs to → ReachesTo (unit depth) tokens to
-reached_by_node depth tokens xs to p =
-    let a = answers_longest (unit depth) tokens 0 (Ok (xs, to)) (unit_fits depth) p in
-    (a.0, a.1, omega (arith, a.3))
+module _ {X : Type 0} (g : Grammar Token X) (fits : Fits kind g) where
+  pub reached_by_node : (tokens : List Token) (x : X) (to : ℕ) → Accepts kind g tokens 0 x to → ReachesTo g tokens to
+  reached_by_node tokens x to p =
+      let a = answers_longest g tokens 0 (Ok (x, to)) fits p in
+      (a.0, a.1, omega (arith, a.3))
 
-reached_by_refusal : (depth : ℕ) (tokens : List Token) (to : ℕ) → Refuses kind (unit depth) tokens 0 to → ReachesTo (unit depth) tokens to
-reached_by_refusal depth tokens to p =
-    let a = answers_longest (unit depth) tokens 0 (Err (Unexpected to)) (unit_fits depth) p in
-    (a.0, a.1, omega (arith, a.3))
+  reached_by_refusal : (tokens : List Token) (to : ℕ) → Refuses kind g tokens 0 to → ReachesTo g tokens to
+  reached_by_refusal tokens to p =
+      let a = answers_longest g tokens 0 (Err (Unexpected to)) fits p in
+      (a.0, a.1, omega (arith, a.3))
 
-pub reached_by_halt : (depth : ℕ) (tokens : List Token) (halt : Halt) (to : ℕ) → halt ≡ Unexpected to → RefusesBy kind (unit depth) tokens 0 halt → ReachesTo (unit depth) tokens to
-reached_by_halt depth tokens halt to e p = reached_by_refusal depth tokens to (subst (λ h. RefusesBy kind (unit depth) tokens 0 h) e p)
+  pub reached_by_halt : (tokens : List Token) (halt : Halt) (to : ℕ) → halt ≡ Unexpected to → RefusesBy kind g tokens 0 halt → ReachesTo g tokens to
+  reached_by_halt tokens halt to e p = reached_by_refusal tokens to (subst (λ h. RefusesBy kind g tokens 0 h) e p)
+
+  refused_there : (tokens : List Token) (to : ℕ) → Refuses kind g tokens 0 to → IsBroken kind g tokens (take to tokens) (drop to tokens)
+  refused_there tokens to p = refused_broken fits p
+
+  pub halted : (tokens : List Token) (halt : Halt) (to : ℕ) → halt ≡ Unexpected to → RefusesBy kind g tokens 0 halt → IsBroken kind g tokens (take to tokens) (drop to tokens)
+  halted tokens halt to e p = refused_there tokens to (subst (λ h. RefusesBy kind g tokens 0 h) e p)
 
 -- more was read: the token could stand there
 pub goes_on : {X : Type 0} (g : Grammar Token X) (tokens before : List Token) (t : Token) (rest : List Token) (to : ℕ) → tokens ≡ before ++ t ∷ rest → ReachesTo g tokens to → length before < to → IsViable kind g (before ++ t ∷ [])
@@ -53,20 +58,12 @@ ends_there g tokens before t rest to e (w, v, p) l viable =
     let h = v.longest (before ++ t ∷ []) (rest, e ∙ sym (append_assoc before (t ∷ []) rest)) viable in
     omega (arith, l, p, h, length-append before (t ∷ []))
 
-pub unit_short : (tokens : List Token) (xs : List Member) (to : ℕ) → Accepts kind (unit limit) tokens 0 xs to → to < length tokens → IsBroken kind (unit limit) tokens (take to tokens) (drop to tokens)
-unit_short tokens xs to p l = accepted_short p l
+-- why a parse stops is handed on
+pub stop_passed : (tokens : List Token) (i : Inside) (stop : Stop) (r : Result Members Stop) → IsErrAnd r (λ y. y ≡ stop) → StopsInside tokens i stop → AnswersInside tokens i r
+stop_passed tokens i stop r e s =
+    let p = err_from_is_err_and r e in
+    subst (λ v. AnswersInside tokens i v) (sym p.1) (subst (λ v. StopsInside tokens i v) (sym p.2) s)
 
-pub unit_whole : (tokens : List Token) (xs : List Member) (to : ℕ) → Accepts kind (unit limit) tokens 0 xs to → length tokens ≤ to → SpellsUnit tokens xs
-unit_whole tokens xs to p l = accepted_whole p l
-
-unit_refused : (tokens : List Token) (to : ℕ) → Refuses kind (unit limit) tokens 0 to → IsBroken kind (unit limit) tokens (take to tokens) (drop to tokens)
-unit_refused tokens to p = refused_broken (unit_fits limit) p
-
-pub unit_halted : (tokens : List Token) (halt : Halt) (to : ℕ) → halt ≡ Unexpected to → RefusesBy kind (unit limit) tokens 0 halt → IsBroken kind (unit limit) tokens (take to tokens) (drop to tokens)
-unit_halted tokens halt to e p = unit_refused tokens to (subst (λ h. RefusesBy kind (unit limit) tokens 0 h) e p)
-
-pub members_answered : (tokens slice : List Token) (i : Inside) (xs : List Member) → slice ≡ tokens → SpellsUnit slice xs → AnswersInside tokens i (Ok (found.Unit xs))
-members_answered tokens slice inside.Unit xs e s = subst (λ l. SpellsUnit l xs) e s
-
-pub stop_answered : (tokens slice : List Token) (i : Inside) (stop : Stop) → slice ≡ tokens → StopsUnit slice stop → AnswersInside tokens i (Err stop)
-stop_answered tokens slice inside.Unit stop e s = subst (λ l. StopsUnit l stop) e s
+-- what is answered where the tokens stand
+pub answered_there : (tokens slice : List Token) (i j : Inside) (r : Result Members Stop) → slice ≡ tokens → i ≡ j → AnswersInside slice j r → AnswersInside tokens i r
+answered_there tokens slice i j r e f a = subst (λ k. AnswersInside tokens k r) (sym f) (subst (λ l. AnswersInside l j r) e a)

@@ -1,4 +1,4 @@
--- Which words are among the reserved words of the table.
+-- Which words are among the reserved words of the table, and whether a word of some kinds is next.
 use Rattle.std.proofs.Common.{◌≡◌, ℕ, zero, suc, ◌<◌, ◌≤◌, ◌⊎◌, inl, inr, arith, refl, sym, ◌∙◌, subst, true, false, nat_lt, get_or, List, length, Some, slice_get}
 use Rattle.std.specs.Prelude.{Bool, ltb, MatchBool}
 use Rattle.std.proofs.lemmas.Bool.{lt-ltb, le-ltb}
@@ -47,26 +47,26 @@ number_told r n =
       | inr e ↦ subst (λ b. MatchBool b (Among (k_reserved r) (words_below n)) (Among (k_reserved r) (words_below n) → ⊥)) (sym (le-ltb r n e)) (λ h. let f = among_reserved r n h in omega (arith, e, f))
     ]
 
-told : (w : Word) → MatchBool (is_reserved w) (Among (word_kind w) (words_below word_count)) (Among (word_kind w) (words_below word_count) → ⊥)
-told (word.Reserved r) = number_told r word_count
-told (word.Name t) = not_among (word_kind (word.Name t)) word_count (λ r e. omega (arith, e))
-told (word.Number v) = not_among (word_kind (word.Number v)) word_count (λ r e. omega (arith, e))
-told word.Float = not_among (word_kind word.Float) word_count (λ r e. omega (arith, e))
-told (word.Str t) = not_among (word_kind (word.Str t)) word_count (λ r e. omega (arith, e))
-told (word.Mark m) = not_among (word_kind (word.Mark m)) word_count (λ r e. omega (arith, e))
-told word.Newline = not_among (word_kind word.Newline) word_count (λ r e. omega (arith, e))
-told (word.Before t) = not_among (word_kind (word.Before t)) word_count (λ r e. omega (arith, e))
-told (word.After t) = not_among (word_kind (word.After t)) word_count (λ r e. omega (arith, e))
+pub reserved_told : (w : Word) → MatchBool (is_reserved w) (Among (word_kind w) (words_below word_count)) (Among (word_kind w) (words_below word_count) → ⊥)
+reserved_told (word.Reserved r) = number_told r word_count
+reserved_told (word.Name t) = not_among (word_kind (word.Name t)) word_count (λ r e. omega (arith, e))
+reserved_told (word.Number v) = not_among (word_kind (word.Number v)) word_count (λ r e. omega (arith, e))
+reserved_told word.Float = not_among (word_kind word.Float) word_count (λ r e. omega (arith, e))
+reserved_told (word.Str t) = not_among (word_kind (word.Str t)) word_count (λ r e. omega (arith, e))
+reserved_told (word.Mark m) = not_among (word_kind (word.Mark m)) word_count (λ r e. omega (arith, e))
+reserved_told word.Newline = not_among (word_kind word.Newline) word_count (λ r e. omega (arith, e))
+reserved_told (word.Before t) = not_among (word_kind (word.Before t)) word_count (λ r e. omega (arith, e))
+reserved_told (word.After t) = not_among (word_kind (word.After t)) word_count (λ r e. omega (arith, e))
 
-among_told : (tokens : List Token) (at : ℕ) (t : Token) (b : Bool) → slice_get tokens at ≡ Some t → at < length tokens → MatchBool b (Among (kind t) (words_below word_count)) (Among (kind t) (words_below word_count) → ⊥) → MatchBool b (NextAmong kind (words_below word_count) tokens at) (NextAmong kind (words_below word_count) tokens at → ⊥)
-among_told tokens at t true e l h = (t, sym e, h, l)
-among_told tokens at t false e l h = λ n. let f : t ≡ n.0 = (let g : Some t ≡ Some n.0 = sym e ∙ sym n.1 in cc) in h (subst (λ s. Among (kind s) (words_below word_count)) (sym f) n.2)
+among_told : (ks : List ℕ) (tokens : List Token) (at : ℕ) (t : Token) (b : Bool) → slice_get tokens at ≡ Some t → at < length tokens → MatchBool b (Among (kind t) ks) (Among (kind t) ks → ⊥) → MatchBool b (NextAmong kind ks tokens at) (NextAmong kind ks tokens at → ⊥)
+among_told ks tokens at t true e l h = (t, sym e, h, l)
+among_told ks tokens at t false e l h = λ n. let f : t ≡ n.0 = (let g : Some t ≡ Some n.0 = sym e ∙ sym n.1 in cc) in h (subst (λ s. Among (kind s) ks) (sym f) n.2)
 
 less : (a b : ℕ) → true ≡ nat_lt a b → a < b
 less a b e = grind (arith, nat_tests)
 
--- the token that was found says whether a reserved word is next
-pub found_told : (tokens : List Token) (at : ℕ) (t : Token) (b : Bool) → true ≡ nat_lt at (length tokens) → t ≡ get_or tokens at t → b ≡ is_reserved t.what → MatchBool b (NextAmong kind (words_below word_count) tokens at) (NextAmong kind (words_below word_count) tokens at → ⊥)
-found_told tokens at t b e f h =
+-- the token that was found says whether a word of these kinds is next
+pub found_told : (ks : List ℕ) (tokens : List Token) (at : ℕ) (t : Token) (b c : Bool) → true ≡ nat_lt at (length tokens) → t ≡ get_or tokens at t → b ≡ c → MatchBool c (Among (kind t) ks) (Among (kind t) ks → ⊥) → MatchBool b (NextAmong kind ks tokens at) (NextAmong kind ks tokens at → ⊥)
+found_told ks tokens at t b c e f h m =
     let l = less at (length tokens) e in
-    among_told tokens at t b (slice_get_read tokens (length tokens) at t refl l f) l (subst (λ b. MatchBool b (Among (kind t) (words_below word_count)) (Among (kind t) (words_below word_count) → ⊥)) (sym h) (told t.what))
+    among_told ks tokens at t b (slice_get_read tokens (length tokens) at t refl l f) l (subst (λ b. MatchBool b (Among (kind t) ks) (Among (kind t) ks → ⊥)) (sym h) m)

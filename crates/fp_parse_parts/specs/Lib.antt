@@ -1,3 +1,5 @@
+pub mod Omitted
+pub mod Models
 pub mod Members
 pub mod Files
 pub mod Units

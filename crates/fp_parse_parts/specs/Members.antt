@@ -1,5 +1,5 @@
 -- The grammar of the members of files and modules. FPP Language Specification, "Translation Units and Models", "Module Definitions",
--- "Include Specifiers" and "Location Specifiers". This profile: components, state machines, instances and topologies aren't read yet.
+-- "Include Specifiers" and "Location Specifiers". Members of a model that begin with words of a list aren't in it.
 use Rattle.std.specs.Prelude.{ℕ, zero, suc, ltb, Bool, false, List, [], ◌∷◌, ◌++◌, length}
 use Rattle.fp_base.specs.declared.place.Span.{Span}
 use Rattle.fp_lexer.specs.Words.{words, reserved, mark}
@@ -13,6 +13,8 @@ use Rattle.fp_tree.specs.declared.member.Member.{Member}
 use Rattle.fp_tree.specs.declared.member.Member.TheVariants as node
 use Rattle.fp_parse_parts.specs.declared.bare.BareMember.{BareMember}
 use Rattle.fp_parse_parts.specs.declared.bare.BareMember.TheVariants as bare
+use Rattle.fp_parse_parts.specs.declared.bare.ModelMember.{ModelMember}
+use Rattle.fp_parse_parts.specs.declared.bare.ModelMember.TheVariants as model
 use Rattle.fp_grammar.specs.Grammar.{Grammar, Language, Spells, after}
 use Rattle.fp_grammar.specs.Grammar.Grammar.{one_of, seq, map, alt, optional, many, ref}
 use Rattle.fp_grammar.specs.Seal.{seal}
@@ -21,6 +23,8 @@ use Rattle.fp_parse_pieces.specs.Words.{between, at, name, qual}
 use Rattle.fp_parse_pieces.specs.Lists.{joined, some_of, or_none}
 use Rattle.fp_parse_pieces.specs.Words.{literal_string}
 pub use Rattle.fp_parse_defs.specs.Definitions.{noted_definition}
+use Rattle.fp_parse_parts.specs.Models.{any_model, model_begins, model_goes_on}
+use Rattle.fp_parse_parts.specs.Omitted.{without}
 use Rattle.fp_parse_defs.specs.Definitions.{definition, expr_goes_on, k_array, k_arrow, k_constant, k_default, k_enum, k_format, k_port, k_size, k_struct, k_type}
 
 abbrev pub k_semicolon : ℕ
@@ -92,10 +96,23 @@ made_locate (at, (of, (before_file, file))) = bare.Locate of file (between at fi
 abbrev pub locate : Grammar Token BareMember
 locate = map made_locate (seq locate_words (seq qual (seq (at k_at) literal_string)))
 
+-- the members that say what a model is put together from, but those that begin with one of the words left out
+abbrev pub model_member : List ℕ → ℕ → Grammar Token BareMember
+model_member omitted expressions = map bare.Model (without omitted (any_model expressions) model_begins model_goes_on)
+
+-- a member of a model with this annotation
+abbrev pub noted_model : ModelMember → List ℕ → Member
+noted_model (model.Machine m) note = node.Machine (record m { note = note })
+noted_model (model.Component c) note = node.Component (record c { note = note })
+noted_model (model.Interface i) note = node.Interface (record i { note = note })
+noted_model (model.Instance i) note = node.Instance (record i { note = note })
+noted_model (model.Topology t) note = node.Topology (record t { note = note })
+
 -- a member with this annotation
 abbrev pub noted_member : BareMember → List ℕ → Member
 noted_member (bare.Module name members at) note = node.Module (record { name = name; members = members; at = at; note = note })
 noted_member (bare.Def d) note = node.Def (noted_definition d note)
+noted_member (bare.Model m) note = noted_model m note
 noted_member (bare.Include file at) note = node.Include (record { file = file; at = at; note = note })
 noted_member (bare.Locate of file at) note = node.Locate (record { of = of; file = file; at = at; note = note })
 
@@ -106,43 +123,51 @@ with_member members m lines = members ++ noted_member m (joined lines) ∷ []
 abbrev pub module_from : Language Token BareMember → Grammar Token BareMember
 module_from modules = ref (record { spells = modules; productive = false; first = k_module ∷ []; extends = [] })
 
--- Member = Module | Def | Include | Locate
-abbrev pub member_of : ℕ → Language Token BareMember → Grammar Token BareMember
-member_of expressions modules = alt (module_from modules) (alt (definition_member expressions) (alt include locate))
+-- Def | Machine | Component | Interface | Instance | Topology
+abbrev pub definition_or_model : List ℕ → ℕ → Grammar Token BareMember
+definition_or_model omitted expressions = alt (definition_member expressions) (model_member omitted expressions)
+
+-- Include | Locate | Def | Machine | Component | Interface | Instance | Topology
+abbrev pub other_member : List ℕ → ℕ → Grammar Token BareMember
+other_member omitted expressions = alt include (alt locate (definition_or_model omitted expressions))
+
+-- Member = Module | Include | Locate | Def | Machine | Component | Interface | Instance | Topology
+abbrev pub member_of : List ℕ → ℕ → Language Token BareMember → Grammar Token BareMember
+member_of omitted expressions modules = alt (module_from modules) (other_member omitted expressions)
 
 -- Member+;
-abbrev pub some_members_of : ℕ → Language Token BareMember → Grammar Token (List Member)
-some_members_of expressions modules = some_of semicolons with_member [] (member_of expressions modules)
+abbrev pub some_members_of : List ℕ → ℕ → Language Token BareMember → Grammar Token (List Member)
+some_members_of omitted expressions modules = some_of semicolons with_member [] (member_of omitted expressions modules)
 
 -- Member*;
-abbrev pub members_of : ℕ → Language Token BareMember → Grammar Token (List Member)
-members_of expressions modules = map or_none (optional (some_members_of expressions modules))
+abbrev pub members_of : List ℕ → ℕ → Language Token BareMember → Grammar Token (List Member)
+members_of omitted expressions modules = map or_none (optional (some_members_of omitted expressions modules))
 
 abbrev pub made_module : Span × (Name × (List Member × Span)) → BareMember
 made_module (at, (name, (members, closing))) = bare.Module name members (between at closing)
 
 -- Module = 'module' name '{' Member*; '}'
-abbrev pub module_of : ℕ → Language Token BareMember → Grammar Token BareMember
-module_of expressions modules = map made_module (seq (at k_module) (seq name (after k_open_brace (seq (members_of expressions modules) (at k_close_brace)))))
+abbrev pub module_of : List ℕ → ℕ → Language Token BareMember → Grammar Token BareMember
+module_of omitted expressions modules = map made_module (seq (at k_module) (seq name (after k_open_brace (seq (members_of omitted expressions modules) (at k_close_brace)))))
 
 -- modules, of which at most so many nest: with no depth left there are none; else what stands in one has one depth less
-abbrev pub modules : ℕ → ℕ → Language Token BareMember
-modules expressions zero = λ w x. ⊥
-modules expressions (suc depth) = Spells kind (module_of expressions (modules expressions depth))
+abbrev pub modules : List ℕ → ℕ → ℕ → Language Token BareMember
+modules omitted expressions zero = λ w x. ⊥
+modules omitted expressions (suc depth) = Spells kind (module_of omitted expressions (modules omitted expressions depth))
 
 -- these, where expressions and modules nest at most so deep
-abbrev pub nested_module : ℕ → ℕ → Grammar Token BareMember
-nested_module expressions depth = module_from (modules expressions depth)
+abbrev pub nested_module : List ℕ → ℕ → ℕ → Grammar Token BareMember
+nested_module omitted expressions depth = module_from (modules omitted expressions depth)
 
-abbrev pub member : ℕ → ℕ → Grammar Token BareMember
-member expressions depth = member_of expressions (modules expressions depth)
+abbrev pub member : List ℕ → ℕ → ℕ → Grammar Token BareMember
+member omitted expressions depth = member_of omitted expressions (modules omitted expressions depth)
 
-abbrev pub some_members : ℕ → ℕ → Grammar Token (List Member)
-some_members expressions depth = some_members_of expressions (modules expressions depth)
+abbrev pub some_members : List ℕ → ℕ → ℕ → Grammar Token (List Member)
+some_members omitted expressions depth = some_members_of omitted expressions (modules omitted expressions depth)
 
-abbrev pub members : ℕ → ℕ → Grammar Token (List Member)
-members expressions depth = members_of expressions (modules expressions depth)
+abbrev pub members : List ℕ → ℕ → ℕ → Grammar Token (List Member)
+members omitted expressions depth = members_of omitted expressions (modules omitted expressions depth)
 
 -- a module with this much depth left inside it
-abbrev pub opened_module : ℕ → ℕ → Grammar Token BareMember
-opened_module expressions depth = module_of expressions (modules expressions depth)
+abbrev pub opened_module : List ℕ → ℕ → ℕ → Grammar Token BareMember
+opened_module omitted expressions depth = module_of omitted expressions (modules omitted expressions depth)

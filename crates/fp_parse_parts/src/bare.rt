@@ -1,5 +1,5 @@
 use fp_base::{Row, Span};
-use fp_tree::{Def, Member, Name, Qual, Str};
+use fp_tree::{Component, Def, Instance, Interface, Machine, Member, Name, Qual, Str, Topology};
 
 /// A member without its annotation.
 #[derive(Drop)]
@@ -10,6 +10,7 @@ pub enum BareMember {
         at: Span,
     },
     Def(Def),
+    Model(ModelMember),
     Include {
         file: Str,
         at: Span,
@@ -19,4 +20,14 @@ pub enum BareMember {
         file: Str,
         at: Span,
     },
+}
+
+/// A member that says what a model is put together from, without its annotation.
+#[derive(Drop)]
+pub enum ModelMember {
+    Machine(Machine),
+    Component(Component),
+    Interface(Interface),
+    Instance(Instance),
+    Topology(Topology),
 }

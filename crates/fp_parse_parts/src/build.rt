@@ -1,11 +1,14 @@
 ghost use Rattle.std.specs.Prelude.{◌≡◌, IfOk};
 ghost use Rattle.fp_parse_parts.specs.Members as M;
 
-use crate::bare::BareMember;
+use crate::bare::{BareMember, ModelMember};
 use fp_base::{NoMemory, Row, Span, Text};
 use fp_parse_defs::noted_definition;
 use fp_parse_pieces::join;
-use fp_tree::{Include, Locate, Member, Module, Name, Qual, Str};
+use fp_tree::{
+    Component, Include, Instance, Interface, Locate, Machine, Member, Module, Name, Qual, Str,
+    Topology,
+};
 use std::alloc::Global;
 
 pub fn include_of(word: Span, file: Str) -> BareMember
@@ -39,6 +42,18 @@ pub fn module_of(word: Span, name: Name, members: Row<Member>, closing: Span) ->
     BareMember::Module { name, members, at }
 }
 
+fn noted_model(member: ModelMember, note: Text) -> Member
+    ensures { result ≡ M.noted_model member note }
+{
+    match member {
+        ModelMember::Machine(machine) => Member::Machine(Machine { note, ..machine }),
+        ModelMember::Component(component) => Member::Component(Component { note, ..component }),
+        ModelMember::Interface(interface) => Member::Interface(Interface { note, ..interface }),
+        ModelMember::Instance(instance) => Member::Instance(Instance { note, ..instance }),
+        ModelMember::Topology(topology) => Member::Topology(Topology { note, ..topology }),
+    }
+}
+
 fn noted_member(alloc: Global, member: BareMember, note: Text) -> Result<Member, NoMemory>
     ensures { IfOk result (λ noted. noted ≡ M.noted_member member note) }
 {
@@ -52,6 +67,7 @@ fn noted_member(alloc: Global, member: BareMember, note: Text) -> Result<Member,
         BareMember::Def(definition) => {
             Ok(Member::Def(noted_definition(alloc, definition, note)?))
         }
+        BareMember::Model(member) => Ok(noted_model(member, note)),
         BareMember::Include { file, at } => Ok(Member::Include(Include { file, at, note })),
         BareMember::Locate { of, file, at } => Ok(Member::Locate(Locate { of, file, at, note })),
     }

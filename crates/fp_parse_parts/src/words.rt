@@ -1,15 +1,75 @@
-ghost use Rattle.std.specs.Prelude.{◌≡◌, MatchBool};
+ghost use Rattle.std.specs.Prelude.{◌≡◌, ◌==◌, MatchBool};
+ghost use Rattle.std.specs.List.{list_any};
 ghost use Rattle.fp_grammar.specs.Parses.{NextAmong, Parses};
 ghost use Rattle.fp_parse_pieces.specs.Kinds.{kind};
 ghost use Rattle.fp_parse_parts.specs.Members as M;
 ghost use Rattle.fp_parse_parts.specs.Members.{word_count, words_below};
+ghost use Rattle.fp_parse_parts.specs.Models.{model_begins};
+ghost use Rattle.fp_parse_parts.specs.Omitted.{is_one_of, kinds_of, unbuilt};
 
 use fp_base::Span;
 use fp_grammar::Halt;
 use fp_lexer::mark::SEMICOLON;
-use fp_lexer::reserved::{COUNT, LOCATE};
+use fp_lexer::reserved::{
+    ACTIVE, COUNT, INSTANCE, INTERFACE, LOCATE, PASSIVE, QUEUED, STATE, TOPOLOGY,
+};
 use fp_lexer::{Token, Word};
 use fp_parse_pieces::expect_word;
+
+/// The first words of members whose meaning isn't built.
+const UNBUILT: [u8; 7] = [
+    ACTIVE, PASSIVE, QUEUED, STATE, INTERFACE, INSTANCE, TOPOLOGY,
+];
+
+/// The first words of members that say what a model is put together from.
+const MODEL: [u8; 7] = [
+    STATE, ACTIVE, PASSIVE, QUEUED, INTERFACE, INSTANCE, TOPOLOGY,
+];
+
+fn is_among(words: &[u8], word: u8) -> bool
+    ensures { result ≡ list_any (λ other. other == word) words.now }
+{
+    words.iter().any(|other| *other == word)
+}
+
+fn is_one_of(words: &[u8], word: &Word) -> bool
+    ensures { result ≡ is_one_of words.now word.now }
+{
+    match word {
+        Word::Reserved(found) => is_among(words, *found),
+        _ => false,
+    }
+}
+
+/// Whether a word begins members whose meaning isn't built.
+pub fn is_unbuilt(word: &Word) -> bool
+    ensures { result ≡ is_one_of unbuilt word.now }
+{
+    is_one_of(&UNBUILT, word)
+}
+
+fn one_of_at(words: &[u8], tokens: &[Token], at: usize) -> bool
+    ensures { MatchBool result (NextAmong kind (kinds_of words.now) tokens.now at) (NextAmong kind (kinds_of words.now) tokens.now at → ⊥) }
+{
+    match tokens.get(at) {
+        Some(token) => is_one_of(words, &token.what),
+        None => false,
+    }
+}
+
+/// Whether a word that begins members whose meaning isn't built is at a position.
+pub fn unbuilt_at(tokens: &[Token], at: usize) -> bool
+    ensures { MatchBool result (NextAmong kind (kinds_of unbuilt) tokens.now at) (NextAmong kind (kinds_of unbuilt) tokens.now at → ⊥) }
+{
+    one_of_at(&UNBUILT, tokens, at)
+}
+
+/// Whether a word that begins a member of a model is at a position.
+pub fn model_word_at(tokens: &[Token], at: usize) -> bool
+    ensures { MatchBool result (NextAmong kind model_begins tokens.now at) (NextAmong kind model_begins tokens.now at → ⊥) }
+{
+    one_of_at(&MODEL, tokens, at)
+}
 
 /// Whether what separates members is at a position.
 pub fn semicolon_at(tokens: &[Token], at: usize) -> bool

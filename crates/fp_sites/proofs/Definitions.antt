@@ -32,7 +32,7 @@ use Rattle.fp_parse_parts.specs.Members.{noted_definition}
 use Rattle.fp_parse_defs.specs.Definitions.{k_arrow, k_colon, k_array, k_constant, k_default, k_enum, k_port, k_size, k_struct, k_type, unsigned_form, signed_form, other_form, plain, type_begins, expr_goes_on, made_string, string_type, made_use, used_type, type_body, type_name, default_part, sized, made_constant, constant, made_type, abstract_or_alias, made_array, array, made_field, field, with_field, fields, made_struct, structure, made_enum_const, enum_const, enum_const_with_note, with_enum_const, enum_consts, made_enum, enumeration, made_formal, formal, with_formal, formal_list, formals, formals_part, made_port, port, definition}
 use Rattle.fp_base.proofs.Lists.{InOption, each_append, each_push, each_flat, each_of_any, each_weaker}
 use Rattle.fp_sites.specs.Depths.{depth_of}
-use Rattle.fp_sites.specs.Names.{names_in_expression, names_in_type_form, names_in_type, names_in_field, names_in_constant, names_in_formal, names_in_definition}
+use Rattle.fp_sites.specs.Parts.{names_in_expression, names_in_type_form, names_in_type, names_in_field, names_in_constant, names_in_formal, names_in_definition}
 use Rattle.fp_sites.proofs.Preserving.{gives_anything, gives_map, gives_seq, gives_alt, gives_optional, gives_seal, gives_after, gives_before}
 use Rattle.fp_sites.proofs.Lists.{each_or_none, gives_some_of}
 use Rattle.fp_sites.proofs.Words.{Yields, SitedName, at_yields, name_yields, qual_yields}
@@ -56,9 +56,9 @@ module _ (G : Place → Type 0) (N : Name → Type 0) (depth : ℕ) where
   SitedNoted d = (note : List ℕ) → Sited (noted_definition d note)
 
   -- the same of a part of a definition
-  record SitedPart {A : Type 0} (found : ℕ → Path → A → List Item) (written : A → List Name) (x : A) : Type 0 where
-    items : (since : ℕ) (scope : Path) → Each SitedItem (found since scope x)
-    names : Each N (written x)
+  pub record SitedPart {A : Type 0} (found : ℕ → Path → A → List Item) (written : A → List Name) (x : A) : Type 0 where
+    pub items : (since : ℕ) (scope : Path) → Each SitedItem (found since scope x)
+    pub names : Each N (written x)
 
   -- of each part of a list, and of one that may be left out
   list_sited : {A : Type 0} (found : ℕ → Path → A → List Item) (written : A → List Name) (xs : List A) → Each (SitedPart found written) xs
@@ -74,10 +74,10 @@ module _ (G : Place → Type 0) (N : Name → Type 0) (depth : ℕ) where
   option_sited found written (Some x) h = record { items = h.items; names = h.names }
 
   -- of an expression
-  abbrev SitedExpr : Expr → Type 0
+  abbrev pub SitedExpr : Expr → Type 0
   SitedExpr e = SitedPart expression_items names_in_expression e
 
-  part_yields : Yields G N (expression depth) SitedExpr
+  pub part_yields : Yields G N (expression depth) SitedExpr
   part_yields = record {
     given = λ w e s h.
         let stand = (expression_yields G N depth).given w e s h in
@@ -90,7 +90,7 @@ module _ (G : Place → Type 0) (N : Name → Type 0) (depth : ℕ) where
   SitedForm f = SitedPart type_form_items names_in_type_form f
 
   -- of a type
-  abbrev SitedType : TypeName → Type 0
+  abbrev pub SitedType : TypeName → Type 0
   SitedType t = SitedPart type_items names_in_type t
 
   either_sited : (b : Bool) (f g : TypeForm) → SitedForm f → SitedForm g → SitedForm (cond b f g)
@@ -131,13 +131,13 @@ module _ (G : Place → Type 0) (N : Name → Type 0) (depth : ℕ) where
   used_yields : Yields G N used_type SitedType
   used_yields = gives_map SitedType made_use (λ q h. record { items = λ since scope. (record { defines = tt; uses = (h.begins, tt); kept = tt }, tt); names = h.named }) (qual_yields G N)
 
-  type_yields : Yields G N (type_name depth) SitedType
+  pub type_yields : Yields G N (type_name depth) SitedType
   type_yields = gives_seal {a = type_body depth} type_begins (k_size ∷ expr_goes_on) (gives_alt plain_yields (gives_alt string_yields used_yields))
 
-  default_yields : Yields G N (default_part depth) (InOption SitedExpr)
+  pub default_yields : Yields G N (default_part depth) (InOption SitedExpr)
   default_yields = gives_optional (gives_after k_default part_yields)
 
-  sized_yields : Yields G N (sized depth) SitedExpr
+  pub sized_yields : Yields G N (sized depth) SitedExpr
   sized_yields = gives_before k_close_bracket part_yields
 
   constant_sited : (p : Span × (Name × Expr)) → G p.0.first × (SitedName G N p.1.0 × SitedExpr p.1.1) → SitedNoted (made_constant p)
@@ -146,7 +146,7 @@ module _ (G : Place → Type 0) (N : Name → Type 0) (depth : ℕ) where
     names = (h.1.0.named, h.1.1.names);
   }
 
-  constant_yields : Yields G N (constant depth) SitedNoted
+  pub constant_yields : Yields G N (constant depth) SitedNoted
   constant_yields = gives_map SitedNoted made_constant constant_sited (gives_seq (at_yields G N k_constant) (gives_seq (name_yields G N) (gives_after k_equals part_yields)))
 
   type_sited : (p : Span × (Name × Option TypeName)) → G p.0.first × (SitedName G N p.1.0 × InOption SitedType p.1.1) → SitedNoted (made_type p)
@@ -156,7 +156,7 @@ module _ (G : Place → Type 0) (N : Name → Type 0) (depth : ℕ) where
     names = (h.1.0.named, h.1.1.names);
   }
 
-  alias_yields : Yields G N (abstract_or_alias depth) SitedNoted
+  pub alias_yields : Yields G N (abstract_or_alias depth) SitedNoted
   alias_yields = gives_map SitedNoted made_type type_sited (gives_seq (at_yields G N k_type) (gives_seq (name_yields G N) (gives_optional (gives_after k_equals type_yields))))
 
   array_sited : (p : Span × (Name × (Expr × (TypeName × (Option Expr × Option Str)))))
@@ -171,7 +171,7 @@ module _ (G : Place → Type 0) (N : Name → Type 0) (depth : ℕ) where
         names = (h.1.0.named, each_append N _ _ (each_append N _ _ h.1.1.0.names h.1.1.1.0.names) defaults.names);
       }
 
-  array_yields : Yields G N (array depth) SitedNoted
+  pub array_yields : Yields G N (array depth) SitedNoted
   array_yields = gives_map SitedNoted made_array array_sited
       (gives_seq (at_yields G N k_array) (gives_seq (name_yields G N) (gives_after k_equals (gives_after k_open_bracket
       (gives_seq sized_yields (gives_seq type_yields (gives_seq default_yields gives_anything)))))))
@@ -205,7 +205,7 @@ module _ (G : Place → Type 0) (N : Name → Type 0) (depth : ℕ) where
         names = (h.1.0.named, each_append N _ _ inside.names defaults.names);
       }
 
-  struct_yields : Yields G N (structure depth) SitedNoted
+  pub struct_yields : Yields G N (structure depth) SitedNoted
   struct_yields = gives_map SitedNoted made_struct struct_sited
       (gives_seq (at_yields G N k_struct) (gives_seq (name_yields G N) (gives_after k_open_brace (gives_seq fields_yield (gives_seq (at_yields G N k_close_brace) default_yields)))))
 
@@ -252,12 +252,12 @@ module _ (G : Place → Type 0) (N : Name → Type 0) (depth : ℕ) where
         names = (h.1.0.named, each_append N _ _ (each_append N _ _ reprs.names inside) defaults.names);
       }
 
-  enum_yields : Yields G N (enumeration depth) SitedNoted
+  pub enum_yields : Yields G N (enumeration depth) SitedNoted
   enum_yields = gives_map SitedNoted made_enum enum_sited
       (gives_seq (at_yields G N k_enum) (gives_seq (name_yields G N) (gives_seq (gives_optional (gives_after k_colon type_yields))
       (gives_after k_open_brace (gives_seq enum_consts_yield (gives_seq (at_yields G N k_close_brace) default_yields))))))
 
-  abbrev SitedFormal : Formal → Type 0
+  abbrev pub SitedFormal : Formal → Type 0
   SitedFormal f = SitedPart (λ since. formal_items) names_in_formal f
 
   formal_sited : (p : Option Span × (Name × TypeName)) → Unit {0} × (SitedName G N p.1.0 × SitedType p.1.1) → SitedFormal (made_formal p)
@@ -271,7 +271,7 @@ module _ (G : Place → Type 0) (N : Name → Type 0) (depth : ℕ) where
   formal_list_yields = gives_map (Each SitedFormal) or_none (each_or_none SitedFormal)
       (gives_optional (gives_some_of SitedFormal (Each SitedFormal) with_formal (λ fs f lines h k. each_push SitedFormal fs _ h (record { items = k.items; names = k.names })) commas [] tt formal_yields))
 
-  formals_yield : Yields G N (formals_part depth) (InOption (λ p. Each SitedFormal p.0 × G p.1.first))
+  pub formals_yield : Yields G N (formals_part depth) (InOption (λ p. Each SitedFormal p.0 × G p.1.first))
   formals_yield = gives_optional (gives_after k_open (gives_seq formal_list_yields (at_yields G N k_close)))
 
   port_sited : (p : Span × (Name × (Option (List Formal × Span) × Option TypeName)))

@@ -25,7 +25,7 @@ use Rattle.fp_parse_defs.specs.Words.{bare, leaf, literal, literal_form, named}
 use Rattle.fp_parse_pieces.specs.Lists.{joined, commas}
 use Rattle.fp_parse_defs.specs.Language.{Level, level, begins, combined, lower, factor_body, factor_of, term_body, term_of, expr_body, expr_of, made_minus, negated_of, made_group, group_of, with_item, no_items, items_of, made_array, array_of, made_setting, setting_of, with_member, no_members, or_no_members, members_of, made_struct, struct_of, inside_of, expression}
 use Rattle.fp_base.proofs.Lists.{InOption, each_append, each_push, each_flat, each_weaker}
-use Rattle.fp_sites.specs.Names.{names_in_expression, names_in_form, names_in_assignment}
+use Rattle.fp_sites.specs.Parts.{names_in_expression, names_in_form, names_in_assignment}
 use Rattle.fp_sites.proofs.Preserving.{LanguageGives, gives_anything, gives_map, gives_seq, gives_alt, gives_optional, gives_chain, gives_ref, gives_seal}
 use Rattle.fp_sites.proofs.Lists.{gives_some_of}
 use Rattle.fp_sites.proofs.Walks.{whole_uses, assigned_uses, number_uses, float_uses, text_uses, truth_uses, use_uses, minus_uses, parentheses_uses, binary_uses, array_uses, struct_uses, whole_names, assigned_names, number_names, float_names, text_names, truth_names, use_names, minus_names, parentheses_names, binary_names, array_names, struct_names}

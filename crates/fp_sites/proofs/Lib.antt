@@ -1,10 +1,14 @@
 mod Preserving
 mod Walks
+mod ModelWalks
 mod Lists
 mod Words
 mod Expressions
 mod Depths
 mod Definitions
+mod Machines
+mod Topologies
+mod Components
 mod Members
 mod Standing
 mod Writing

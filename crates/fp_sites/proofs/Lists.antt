@@ -1,13 +1,15 @@
 -- What holds of what comes of an annotated list, from what holds of its elements.
-use Rattle.std.proofs.Common.{ℕ, List, [], ◌∷◌, ◌++◌, Option, Some, None}
+use Rattle.std.proofs.Common.{ℕ, List, [], ◌∷◌, ◌++◌, flat_map, Option, Some, None}
 use Rattle.std.specs.List.{AllByRecursion as Each}
 use Rattle.fp_lexer.specs.declared.token.Token.{Token}
 use Rattle.fp_grammar.specs.Grammar.{Grammar}
 use Rattle.fp_parse_pieces.specs.Kinds.{kind}
-use Rattle.fp_parse_pieces.specs.Lists.{ListPiece, annotated, gathered, separated_by, some_of, or_none}
+use Rattle.fp_parse_pieces.specs.Lists.{ListPiece, annotated, any_noted, gathered, joined, separated_by, separators, some_of, or_none, with_noted}
 use Rattle.fp_parse_pieces.specs.Lists.ListPiece.{element, separator}
-use Rattle.fp_base.proofs.Lists.{InOption}
-use Rattle.fp_sites.proofs.Preserving.{Gives, gives_anything, gives_seq, gives_map, gives_turns}
+use Rattle.fp_tree.specs.declared.name.Name.{Name}
+use Rattle.fp_meaning.specs.Names.{in_optional}
+use Rattle.fp_base.proofs.Lists.{InOption, each_flat, each_push}
+use Rattle.fp_sites.proofs.Preserving.{Gives, gives_anything, gives_seq, gives_map, gives_optional, gives_turns}
 
 -- of the element of a piece
 abbrev pub InPiece : {X : Type 0} → (X → Type 0) → ListPiece X → Type 0
@@ -37,3 +39,18 @@ module _ {X Z : Type 0} (Q : X → Type 0) (R : Z → Type 0) (add : Z → X →
 pub each_or_none : {X : Type 0} (Q : X → Type 0) (o : Option (List X)) → InOption (Each Q) o → Each Q (or_none o)
 each_or_none Q None h = tt
 each_or_none Q (Some xs) h = h
+
+-- of each element of a list in which each has its annotation
+pub gives_any_noted : {X : Type 0} (Q : X → Type 0) (m : ℕ) (with_note : X → List ℕ → X) → ((x : X) (note : List ℕ) → Q x → Q (with_note x note)) → {P : Token → Type 0} {a : Grammar Token X} → Gives kind P a Q → Gives kind P (any_noted m with_note a) (Each Q)
+gives_any_noted Q m with_note kept p =
+    gives_map (Each Q) or_none (each_or_none Q)
+    (gives_optional (gives_some_of Q (Each Q) (with_noted with_note) (λ xs x lines h k. each_push Q xs (with_note x (joined lines)) h (kept x (joined lines) k)) (separators m) [] tt p))
+
+-- the names in what an option holds
+pub option_named : {A : Type 0} (N : Name → Type 0) (written : A → List Name) (o : Option A) → InOption (λ x. Each N (written x)) o → Each N (in_optional written o)
+option_named N written None h = tt
+option_named N written (Some x) h = h
+
+-- and in each of a list
+pub list_named : {A : Type 0} (N : Name → Type 0) (written : A → List Name) (xs : List A) → Each (λ x. Each N (written x)) xs → Each N (flat_map written xs)
+list_named N written xs hs = each_flat N written xs hs

@@ -9,6 +9,7 @@ use Rattle.fp_tree.specs.declared.member.Include.{Include}
 use Rattle.fp_meaning.specs.declared.names.Definition.{Definition}
 use Rattle.fp_meaning.specs.declared.names.Mention.{Mention}
 use Rattle.fp_parse_defs.specs.Reading.{limit}
+use Rattle.fp_parse_parts.specs.Omitted.{unbuilt}
 use Rattle.fp_parse_parts.specs.Units.{SpellsUnit}
 use Rattle.fp_sites.specs.Sites.{BeginsToken, StandAtTokens}
 use Rattle.fp_sites.proofs.Words.{IsTold}
@@ -24,7 +25,7 @@ all_begin tokens = each_contained (IsTold (BeginsToken tokens) Any) tokens (λ t
 
 pub standing : (tokens : List Token) (ms : List Member) → SpellsUnit tokens ms → StandAtTokens tokens ms
 standing tokens ms spelled =
-    let all = (all_yield (BeginsToken tokens) Any limit limit).given tokens ms spelled (all_begin tokens) in
+    let all = (all_yield (BeginsToken tokens) Any limit unbuilt limit).given tokens ms spelled (all_begin tokens) in
     record {
       definitions = λ scope d there. of_contained (λ (x : Definition). BeginsToken tokens x.place) _ d (definitions_of_all (BeginsToken tokens) Any limit limit ms all scope) there;
       mentions = λ scope m there. of_contained (λ (x : Mention). BeginsToken tokens x.place) _ m (uses_of_all (BeginsToken tokens) Any limit limit ms all scope) there;

@@ -21,7 +21,8 @@ use Rattle.fp_meaning.specs.declared.names.Mention.{Mention}
 use Rattle.fp_meaning.specs.Names.{Path, mentioned, form_step, assignment_step, expression_step, in_form, in_expression, in_assignment}
 use Rattle.fp_meaning.specs.Values.{deepest}
 use Rattle.fp_sites.specs.Depths.{depth_of_form, depth_of_assignment, depth_of_expression, depth_of, depth_in_form, depth_in_assignment, modules_of_member, modules_of_module, modules_within, modules_in}
-use Rattle.fp_sites.specs.Names.{names_of_form, names_of_assignment, names_of_expression, names_in_expression, names_in_form, names_in_assignment, names_in_definition, names_of_member, names_of_module, names_within, names_in}
+use Rattle.fp_sites.specs.Parts.{names_of_form, names_of_assignment, names_of_expression, names_in_expression, names_in_form, names_in_assignment, names_in_definition}
+use Rattle.fp_sites.specs.Names.{names_of_member, names_of_module, names_within, names_in}
 use Rattle.fp_sites.specs.Includes.{includes_of_member, includes_of_module, includes_within, includes_in}
 
 -- what a fold gives, by the outermost production

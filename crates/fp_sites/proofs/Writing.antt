@@ -12,6 +12,7 @@ use Rattle.fp_lexer.specs.Newlines.{Ground, ignores, ignored, after, after_newli
 use Rattle.fp_lexer.specs.Tokens.{Spells, Spelled, Lexeme, Cuts, Lexed, tokens_of, with_token, span_at, IsLexeme}
 use Rattle.fp_tree.specs.declared.member.Member.{Member}
 use Rattle.fp_parse_defs.specs.Reading.{limit}
+use Rattle.fp_parse_parts.specs.Omitted.{unbuilt}
 use Rattle.fp_parse_parts.specs.Units.{SpellsUnit}
 use Rattle.fp_sites.specs.Written.{IsWritten, NamesAreWritten}
 use Rattle.fp_sites.proofs.Words.{IsTold}
@@ -66,5 +67,5 @@ pub written : (file : ℕ) (text : List ℕ) (tokens : List Token) (ms : List Me
 written file text tokens ms (ps, c, e) spelled name there =
     let has = subst (Each (HasName file text)) (sym e) (kept_each (HasName file text) ignored _ (all_written file text 0 (length text) ps c)) in
     let told = each_weaker (HasName file text) (IsTold Anywhere (IsWritten file text)) (λ t h. record { begins = tt; named = h }) tokens has in
-    let all = (all_yield Anywhere (IsWritten file text) limit limit).given tokens ms spelled told in
+    let all = (all_yield Anywhere (IsWritten file text) limit unbuilt limit).given tokens ms spelled told in
     of_contained (IsWritten file text) _ name (names_of_all Anywhere (IsWritten file text) limit limit ms all) there

@@ -1,5 +1,9 @@
 pub mod Depths
 pub mod Includes
+pub mod Parts
+pub mod Machines
+pub mod Components
+pub mod Topologies
 pub mod Names
 pub mod Nesting
 pub mod Sites

@@ -48,6 +48,11 @@ itself m parts = record { members = m ∷ []; left = parts }
 abbrev pub place_in_member : Member-F (Parts → Placed) (Parts → Placed) → Parts → Placed
 place_in_member (open_member.Module m) parts = m parts
 place_in_member (open_member.Def d) parts = itself (member.Def d) parts
+place_in_member (open_member.Machine m) parts = itself (member.Machine m) parts
+place_in_member (open_member.Component c) parts = itself (member.Component c) parts
+place_in_member (open_member.Interface f) parts = itself (member.Interface f) parts
+place_in_member (open_member.Instance n) parts = itself (member.Instance n) parts
+place_in_member (open_member.Topology t) parts = itself (member.Topology t) parts
 place_in_member (open_member.Include i) parts = next_part parts
 place_in_member (open_member.Locate l) parts = itself (member.Locate l) parts
 

@@ -87,9 +87,14 @@ fn of_member(alloc: Global, member: &Member, found: &mut Row<Include>) -> Result
 {
     match member {
         Member::Module(module) => of_module(alloc, module, found),
-        Member::Def(_) => Ok(()),
         Member::Include(include) => found.push(include.copy(alloc)?),
-        Member::Locate(_) => Ok(()),
+        Member::Def(_)
+        | Member::Machine(_)
+        | Member::Component(_)
+        | Member::Interface(_)
+        | Member::Instance(_)
+        | Member::Topology(_)
+        | Member::Locate(_) => Ok(()),
     }
 }
 

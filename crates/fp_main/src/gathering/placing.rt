@@ -49,6 +49,11 @@ fn in_member(
             out.push(Member::Module(module))
         }
         Member::Def(definition) => out.push(Member::Def(definition)),
+        Member::Machine(machine) => out.push(Member::Machine(machine)),
+        Member::Component(component) => out.push(Member::Component(component)),
+        Member::Interface(interface) => out.push(Member::Interface(interface)),
+        Member::Instance(instance) => out.push(Member::Instance(instance)),
+        Member::Topology(topology) => out.push(Member::Topology(topology)),
         Member::Include(_) => add_part(parts, out),
         Member::Locate(locate) => out.push(Member::Locate(locate)),
     }

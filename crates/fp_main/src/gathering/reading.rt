@@ -1,5 +1,6 @@
-ghost use Rattle.std.specs.Prelude.{◌≡◌, [], None, IfOk, MatchBool};
+ghost use Rattle.std.specs.Prelude.{◌≡◌, List, [], None, IfOk, MatchBool};
 ghost use Rattle.fp_lexer.specs.declared.token.Token.{Token};
+ghost use Rattle.fp_tree.specs.declared.member.Member.{Member};
 ghost use Rattle.fp_parse_parts.specs.declared.parsing.Members.TheVariants.{Unit};
 ghost use Rattle.fp_main.specs.gathering.Answers.{IsFound};
 ghost use Rattle.fp_main.specs.gathering.Reading.{Reading, HasTokens, Passes};
@@ -29,12 +30,13 @@ fn broken(alloc: Global, tokens: Option<Refusal>) -> FileFound
     }
 }
 
-/// The members of a file.
-fn members_of(found: Members) -> Row<Member>
-    ensures { found ≡ Unit result }
+/// The members of a file; what stands in something else has none.
+fn members_of(alloc: Global, found: Members) -> Row<Member>
+    ensures { (members : List Member) → found ≡ Unit members → result ≡ members }
 {
     match found {
         Members::Unit(members) => members,
+        Members::Component(_) | Members::Topology(_) => Row::new(alloc),
     }
 }
 
@@ -46,7 +48,7 @@ fn parsed(alloc: Global, tokens: &Row<Token>) -> Result<FileFound, NoMemory>
     one_refusal();
     match parse(alloc, tokens, Inside::Unit) {
         Ok(found) => {
-            let members = members_of(found);
+            let members = members_of(alloc, found);
             Ok(FileFound {
                 members,
                 tokens: None,
