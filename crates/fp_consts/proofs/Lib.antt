@@ -12,11 +12,11 @@ mod Grounded
 mod Marked
 mod Counted
 pub mod Valued
-mod Tabled
-mod Grouped
+pub mod Tabled
+pub mod Grouped
 mod Evaluated
 mod Answered
 mod Opaque
-mod Rolled
+pub mod Rolled
 mod Apart
 mod Own

@@ -1,12 +1,12 @@
 -- A value spells one scenario at most, and what a sound value spells keeps the limits.
 use Rattle.std.proofs.Common.{◌≡◌, ◌≤◌, ℕ, suc, List, [], ◌∷◌, length, Bool, Option, Some, None, true, false, is_some, option_map, option_and_then, unwrap_or, nat_le, codes, rules, refl, sym, true≢false, ap, ◌∙◌, subst, arith}
-use Rattle.std.specs.List.{AllByRecursion}
-use Rattle.serde_json.specs.Data.{Data}
-use Rattle.serde_json.specs.Find.{get, as_str}
+use Rattle.std.specs.List.{AllByRecursion, list_all}
+use Rattle.serde_json.specs.Data.{Data, null, boolean, number, string, array, object}
+use Rattle.serde_json.specs.Find.{get, as_object, as_str}
 use Rattle.fp_base.proofs.Bools.{both}
 use Rattle.fp_base.proofs.Options.{same_some}
 use Rattle.fp_scenario.specs.Checked.{IsSound, AllSound}
-use Rattle.fp_scenario.specs.Keys.{first_of, wanted_at}
+use Rattle.fp_scenario.specs.Keys.{first_of, at_key, keys_of, needed, wanted_at}
 use Rattle.fp_scenario.specs.Kinds.{items, natural, within, is_identifier, is_of_kind, is_of_size}
 use Rattle.fp_scenario.specs.Spelled.{Each, IsAct, IsCaller, IsHandler, IsAnswer, IsGuard, Spells, items_at, number_at, text_at, first_text, given}
 use Rattle.fp_scenario.specs.Same.{Paired, IsSameAct, IsSameCaller, IsSameHandler, IsSameGuard, IsSame, IsOfText, IsNamed, IsKept}
@@ -17,7 +17,7 @@ use Rattle.fp_scenario.specs.declared.scenario.GuardText.{GuardText}
 use Rattle.fp_scenario.specs.declared.scenario.ActText.{ActText}
 use Rattle.fp_scenario.specs.declared.wanted.Wanted.{Wanted}
 use Rattle.fp_scenario.specs.declared.wanted.Wanted.TheVariants as wanted
-use Rattle.fp_scenario.specs.declared.first_key.FirstKey.TheVariants.{Respond}
+use Rattle.fp_scenario.specs.declared.first_key.FirstKey.TheVariants.{Read, Respond}
 use Rattle.fp_scenario.proofs.Kept.{first_there}
 use Rattle.fp_scenario.proofs.Inside.{kind_of_sound, size_of_sound, member_sound, items_sound, needed_of_sound}
 
@@ -115,12 +115,35 @@ over_each w P Q gives [] (a ∷ as_) all each = absurd each
 over_each w P Q gives (d ∷ ds) [] all each = absurd each
 over_each w P Q gives (d ∷ ds) (a ∷ as_) all each = (gives d a (all 0 d refl) each.0, over_each w P Q gives ds as_ (λ i x found. all (suc i) x found) each.1)
 
-act_named : (d : Data) (act : ActText) → IsSound wanted.Action d → IsAct d act → IsNamed act
-act_named d act h x responds =
+act_responds : (d : Data) (act : ActText) → IsSound wanted.Action d → IsAct d act → act.key ≡ Respond → is_identifier act.first ≡ true
+act_responds d act h x responds =
     let only_first : first_of d ≡ Some Respond = sym x.key ∙ ap (λ k. Some k) responds in
     let there = first_there d Respond only_first in
     let text : act.first ≡ text_at (codes "respond") d = x.first ∙ ap (λ k. first_text k d) responds in
     ap is_identifier text ∙ identified_at (get (codes "respond") d) (λ y found. kind_of_sound wanted.Identifier y (member_sound wanted.Action wanted.Identifier d y (codes "respond") h refl found)) (λ none. true≢false (sym there ∙ ap is_some none))
+
+in_object : (k : List ℕ) (d : Data) → is_some (get k d) ≡ true → is_some (as_object d) ≡ true
+in_object k (object ms) there = refl
+in_object k null there = absurd (true≢false (sym there))
+in_object k (boolean b) there = absurd (true≢false (sym there))
+in_object k (number n) there = absurd (true≢false (sym there))
+in_object k (string s) there = absurd (true≢false (sym there))
+in_object k (array ds) there = absurd (true≢false (sym there))
+
+texted_at : (o : Option Data) → is_some o ≡ true → ((y : Data) → o ≡ Some y → is_of_kind wanted.Text y ≡ true) → is_some (option_and_then as_str o) ≡ true
+texted_at None there each = absurd (true≢false (sym there))
+texted_at (Some y) there each = each y refl
+
+act_reads : (d : Data) (act : ActText) → IsSound wanted.Action d → IsAct d act → act.key ≡ Read → is_some act.as_ ≡ true
+act_reads d act h x reads =
+    let only_first : first_of d ≡ Some Read = sym x.key ∙ ap (λ k. Some k) reads in
+    let all = ap (λ f. list_all (λ k. is_some (get k d)) (needed wanted.Action f)) (sym only_first) ∙ needed_of_sound wanted.Action d h (in_object (codes "read") d (first_there d Read only_first)) in
+    let wants : wanted_at wanted.Action d (codes "as") ≡ Some wanted.Text = ap (λ f. at_key (codes "as") (keys_of wanted.Action f)) only_first in
+    ap is_some x.as_
+    ∙ texted_at (get (codes "as") d) (both (is_some (get (codes "as") d)) true all).0 (λ y found. kind_of_sound wanted.Text y (member_sound wanted.Action wanted.Text d y (codes "as") h wants found))
+
+act_named : (d : Data) (act : ActText) → IsSound wanted.Action d → IsAct d act → IsNamed act
+act_named d act h x = record { responds = act_responds d act h x; reads = act_reads d act h x }
 
 few_acts : (w : Wanted) (d : Data) (acts : List ActText) → IsSound w d → wanted_at w d (codes "do") ≡ Some wanted.Actions → Each IsAct (items_at (codes "do") d) acts → (length acts ≤ 1000) × AllByRecursion IsNamed acts
 few_acts w d acts h wants each = (

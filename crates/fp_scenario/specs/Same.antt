@@ -1,5 +1,5 @@
 -- Scenarios that can't be told apart, their JSON values seen as data, and what every scenario of a text keeps.
-use Rattle.std.specs.Prelude.{◌≡◌, ◌≤◌, List, [], ◌∷◌, map, length, true, ⊤}
+use Rattle.std.specs.Prelude.{◌≡◌, ◌≤◌, List, [], ◌∷◌, map, length, true, is_some, ⊤}
 use Rattle.std.specs.List.{AllByRecursion}
 use Rattle.serde_json.specs.Data.{Data}
 use Rattle.serde_json.specs.View.{view}
@@ -11,7 +11,7 @@ use Rattle.fp_scenario.specs.declared.scenario.CallerText.{CallerText}
 use Rattle.fp_scenario.specs.declared.scenario.HandlerText.{HandlerText}
 use Rattle.fp_scenario.specs.declared.scenario.GuardText.{GuardText}
 use Rattle.fp_scenario.specs.declared.scenario.ActText.{ActText}
-use Rattle.fp_scenario.specs.declared.first_key.FirstKey.TheVariants.{Respond}
+use Rattle.fp_scenario.specs.declared.first_key.FirstKey.TheVariants.{Read, Respond}
 use Rattle.fp_scenario.specs.declared.wanted.Wanted.TheVariants as wanted
 
 abbrev pub Paired : {A : Type 0} → (A → A → Type 0) → List A → List A → Type 0
@@ -53,9 +53,10 @@ pub record IsSame (a b : Scenario) : Type 0 where
 abbrev pub IsOfText : Scenario → Type 0
 IsOfText scenario = (d : Data) × IsSound wanted.Scenario d × Spells d scenario
 
--- an action that responds has an identifier
-abbrev pub IsNamed : ActText → Type 0
-IsNamed act = act.key ≡ Respond → is_identifier act.first ≡ true
+-- an action that responds has an identifier, and one that reads a name for what it reads
+pub record IsNamed (act : ActText) : Type 0 where
+  pub responds : act.key ≡ Respond → is_identifier act.first ≡ true
+  pub reads : act.key ≡ Read → is_some act.as_ ≡ true
 
 -- the limits that such a scenario keeps, and its names
 pub record IsKept (scenario : Scenario) : Type 0 where

@@ -15,5 +15,6 @@ mod wanted;
 
 pub use first_key::FirstKey;
 pub use laws::{scenario_keeps_limits, value_spells_one_scenario};
+pub use path::{stop_here, stop_under_key, stop_under_position};
 pub use reading::read_scenario;
 pub use scenario::{ActText, CallerText, GuardText, HandlerText, Json, Scenario, ScenarioStop};

@@ -8,7 +8,7 @@ use itoa::Buffer;
 use std::alloc::Global;
 
 /// A stop at the value itself.
-pub(crate) fn stop_here(rule: Rule, alloc: Global) -> ScenarioStop
+pub fn stop_here(rule: Rule, alloc: Global) -> ScenarioStop
     ensures { Stops rule [] result }
 {
     ScenarioStop::Broken(PathStop {
@@ -28,7 +28,7 @@ pub(crate) fn stop_at_key(rule: Rule, key: &str, alloc: Global) -> ScenarioStop
 }
 
 /// A stop at a key's value, seen from the object.
-pub(crate) fn stop_under_key(key: &str, stop: ScenarioStop, alloc: Global) -> ScenarioStop
+pub fn stop_under_key(key: &str, stop: ScenarioStop, alloc: Global) -> ScenarioStop
     ensures { StopsBelow key.now stop result }
 {
     match stop {
@@ -47,7 +47,7 @@ fn under(key: &str, rule: Rule, path: Text, alloc: Global) -> ScenarioStop
 }
 
 /// A stop at an item, seen from the list.
-pub(crate) fn stop_under_position(at: usize, stop: ScenarioStop, alloc: Global) -> ScenarioStop
+pub fn stop_under_position(at: usize, stop: ScenarioStop, alloc: Global) -> ScenarioStop
     ensures { StopsBelow (decimal at) stop result }
 {
     let mut buffer = Buffer::new();

@@ -158,7 +158,7 @@ fn hooked_signal_bound<'a>(
 }
 
 /// What is bound where a handler begins, or None where its place isn't one.
-fn bound_at<'a>(
+pub fn bound_at<'a>(
     alloc: Global,
     tables: &'a Tables,
     instance: u32,

@@ -4,7 +4,8 @@ ghost use Rattle.fp_tables.specs.Programs.{is_hooked, way_in, port_way, command_
 
 use fp_tables::{Full, Part, Role, Tables, Way};
 
-fn is_hooked(way: &Way) -> bool
+/// Whether what arrives in this way at a full queue runs a hook handler.
+pub fn is_hooked(way: &Way) -> bool
     ensures { result ≡ is_hooked way.now }
 {
     matches!(
@@ -16,7 +17,8 @@ fn is_hooked(way: &Way) -> bool
     )
 }
 
-fn role_is_hooked(role: &Role) -> bool
+/// Whether what arrives at such a port does so.
+pub fn role_is_hooked(role: &Role) -> bool
     ensures { result ≡ some_and is_hooked (way_in role.now) }
 {
     match role {

@@ -12,4 +12,6 @@ mod queues;
 mod repeats;
 mod verbs;
 
+pub use handlers::{bound_at, returned_at};
+pub use hooks::{is_hooked, role_is_hooked};
 pub use programs::SoundProgram;

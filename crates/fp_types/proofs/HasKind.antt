@@ -44,11 +44,11 @@ all_copies p (suc n) x h = join (p x) (list_all p (replicate n x)) h (all_copies
 -- ---- a member by its name
 
 -- each field is the one that its name means
-abbrev AreMeant : List Field → List Field → Type 0
+abbrev pub AreMeant : List Field → List Field → Type 0
 AreMeant all [] = Unit {0}
 AreMeant all (f ∷ fs) = (member_named all f.name ≡ Some f) × AreMeant all fs
 
-abbrev names : List Field → List (List ℕ)
+abbrev pub names : List Field → List (List ℕ)
 names fs = map (λ (f : Field). f.name) fs
 
 later : (g : Field) (gs : List Field) (name : List ℕ) (f : Field) → bytes_eq g.name name ≡ false → member_named gs name ≡ Some f → member_named (g ∷ gs) name ≡ Some f
@@ -60,7 +60,7 @@ lifted g gs (f ∷ fs) differs h =
     let p = neither (bytes_eq g.name f.name) (list_any (bytes_eq g.name) (names fs)) differs in
     (later g gs f.name f p.0 h.0, lifted g gs fs p.1 h.1)
 
-all_meant : (fields : List Field) → texts_differ (names fields) ≡ true → AreMeant fields fields
+pub all_meant : (fields : List Field) → texts_differ (names fields) ≡ true → AreMeant fields fields
 all_meant [] e = tt
 all_meant (f ∷ fs) e =
     let p = both (not (list_any (bytes_eq f.name) (names fs))) (texts_differ (names fs)) e in
@@ -112,10 +112,10 @@ module _ (types : List TypeDef) where
   -- ---- values given for members
 
   -- each has the shape of the member that it names
-  AreGivenFor : List Field → List Part → Type 0
+  pub AreGivenFor : List Field → List Part → Type 0
   AreGivenFor all given = (name : List ℕ) (q : Part) → find (λ (p : Part). bytes_eq p.name name) given ≡ Some q → (g : Field) × (member_named all name ≡ Some g) × (has types (member_shape types g) q.value ≡ true)
 
-  next_given : (all : List Field) (p : Part) (f : Field) (w : Value) (given : List Part) → member_named all p.name ≡ Some f → has types (member_shape types f) w ≡ true → AreGivenFor all given
+  pub next_given : (all : List Field) (p : Part) (f : Field) (w : Value) (given : List Part) → member_named all p.name ≡ Some f → has types (member_shape types f) w ≡ true → AreGivenFor all given
       → AreGivenFor all (record { name = p.name; value = w } ∷ given)
   unfolding AreGivenFor
   next_given all p f w given is h rest name q found = go (bytes_eq p.name name) refl found
@@ -127,12 +127,12 @@ module _ (types : List TypeDef) where
           (f, ap (member_named all) (sym named) ∙ is, ap (λ (x : Part). has types (member_shape types f) x.value) (sym (same_some e)) ∙ h)
       go false same e = rest name q e
 
-  no_given : (all : List Field) → AreGivenFor all []
+  pub no_given : (all : List Field) → AreGivenFor all []
   unfolding AreGivenFor
   no_given all name q found = absurd (cc)
 
   -- the value that is given for a member
-  given_has : (all : List Field) (f : Field) (w : Value) (given : List Part) → AreGivenFor all given → member_named all f.name ≡ Some f → value_named given f.name ≡ Some w
+  pub given_has : (all : List Field) (f : Field) (w : Value) (given : List Part) → AreGivenFor all given → member_named all f.name ≡ Some f → value_named given f.name ≡ Some w
       → has types (member_shape types f) w ≡ true
   unfolding AreGivenFor
   given_has all f w given are_given is named = go (find (λ (p : Part). bytes_eq p.name f.name) given) refl named
@@ -174,7 +174,7 @@ module _ (types : List TypeDef) where
   default_parts fields d (value.Array items) is h = absurd (let e : false ≡ true = ap (has types (shapes.struct fields)) (rolled.rolls-Array items) ∙ h in cc)
   default_parts fields d value.Opaque is h = absurd (let e : false ≡ true = ap (has types (shapes.struct fields)) rolled.rolls-Opaque ∙ h in cc)
 
-  parts_beside : (fields : List Field) (d : Value) → has types (shapes.struct fields) d ≡ true → all_beside (part_has types) fields (parts_in d) ≡ true
+  pub parts_beside : (fields : List Field) (d : Value) → has types (shapes.struct fields) d ≡ true → all_beside (part_has types) fields (parts_in d) ≡ true
   parts_beside fields d h = default_parts fields d (out-Value d) refl (ap (has types (shapes.struct fields)) (roll-out-Value d) ∙ h)
 
 each_length : {ws : List WrittenType} {k : Kind} {vs xs : List Value} → EachBecomes ws k vs xs → length xs ≡ length vs

@@ -11,7 +11,8 @@ mod Causes
 mod Quiet
 mod Example
 mod AllGiven
-mod HasKind
+pub mod HasKind
 mod Bounded
 mod SoundTypes
 mod Total
+mod Existing

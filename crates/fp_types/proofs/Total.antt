@@ -33,6 +33,7 @@ use Rattle.fp_types.specs.Faults.{Meets, lacks_member, is_outside, differs, Misf
 use Rattle.fp_types.specs.Faults as fault
 use Rattle.fp_types.specs.WellWritten.{AllGiven}
 use Rattle.fp_types.proofs.AllGiven.{given_at, type_there}
+use Rattle.fp_types.proofs.Complete.{plain_default_is}
 use Rattle.fp_types.proofs.Passed.{default_of_size}
 
 same_name : (a : List ℕ) → bytes_eq a a ≡ true
@@ -101,17 +102,17 @@ module _ (ws : List WrittenType) where
 
   -- ---- a value in a type
 
-  data OneOf : (Opened → Target → Bool) → Type 0 where
+  pub data OneOf : (Opened → Target → Bool) → Type 0 where
     of_member : OneOf lacks_member
     of_range : OneOf is_outside
     of_shape : OneOf differs
 
-  record Unfits (o : Opened) (t : Target) : Type 0 where
-    test : Opened → Target → Bool
-    one_of : OneOf test
-    met : Meets ws test o t
+  pub record Unfits (o : Opened) (t : Target) : Type 0 where
+    pub test : Opened → Target → Bool
+    pub one_of : OneOf test
+    pub met : Meets ws test o t
 
-  abbrev Made : Opened → Target → Type 0
+  abbrev pub Made : Opened → Target → Type 0
   Made o t = (w : Value) × Becomes ws o t w
 
   shape : {o : Opened} {t : Target} → differs o t ≡ true → Unfits o t
@@ -120,7 +121,7 @@ module _ (ws : List WrittenType) where
   range : {o : Opened} {t : Target} → is_outside o t ≡ true → Unfits o t
   range e = record { test = is_outside; one_of = of_range; met = fault.here e }
 
-  abbrev Total : Opened → Target → Type 0
+  abbrev pub Total : Opened → Target → Type 0
   Total o t = Made o t ⊎ Unfits o t
 
   total_integer : (low high : ℤ) (o : Opened) → Total o (integer low high)
@@ -286,76 +287,128 @@ module _ (ws : List WrittenType) where
       go (Some w) e left (made, c) = (part_for f w ∷ made, given_here e c)
       go None e (w, l) (made, c) = (part_for f w ∷ made, left_out e (in_struct x l) c)
 
-  single_struct : (j : ℕ) (fields : List Field) → TotalEach fields → (o : Opened) → IsSingle o → Total o (convert.struct (OfStruct j) fields)
-  single_struct j fields each o s = go (total_in_each fields each o)
+  single_struct : (r : Rest) (fields : List Field) → TotalEach fields → (o : Opened) → IsSingle o → Total o (convert.struct r fields)
+  single_struct r fields each o s = go (total_in_each fields each o)
     where
-      go : ((made : List Part) × BecomesInEach ws o fields made) ⊎ UnfitsBy o fields → Made o (convert.struct (OfStruct j) fields) ⊎ Unfits o (convert.struct (OfStruct j) fields)
+      go : ((made : List Part) × BecomesInEach ws o fields made) ⊎ UnfitsBy o fields → Made o (convert.struct r fields) ⊎ Unfits o (convert.struct r fields)
       go (inl (made, h)) = inl (Struct made, in_each_member s h)
       go (inr (i, f, e, u)) = inr (record { test = u.test; one_of = u.one_of; met = fault.single_in_member i s e u.met })
 
-  total_struct : (j : ℕ) (fields : List Field) (d : Value) → HasForm ws j (form.Struct fields) → DefaultIs ws (kind.Named j) d → TotalEach fields → (o : Opened) → Total o (convert.struct (OfStruct j) fields)
-  total_struct j fields d h x each (value.Struct parts) = go (total_parts fields each parts)
+  -- where the rest has all that a struct value leaves out
+  abbrev pub AllCompleted : Rest → List Field → Type 0
+  AllCompleted r fields = (given : List Part) → (made : List Part) × Completes ws r given fields made
+
+  total_struct : (r : Rest) (fields : List Field) → AllCompleted r fields → TotalEach fields → (o : Opened) → Total o (convert.struct r fields)
+  total_struct r fields all each (value.Struct parts) = go (total_parts fields each parts)
     where
       go : ((given : List Part) × MembersBecome ws fields parts given) ⊎ (Lacks fields parts ⊎ UnfitsAt fields parts)
-          → Made (value.Struct parts) (convert.struct (OfStruct j) fields) ⊎ Unfits (value.Struct parts) (convert.struct (OfStruct j) fields)
-      go (inl (given, hs)) = let c = completed j fields d h x given fields (named_struct j fields d h x) in inl (Struct c.0, member_by_member hs c.1)
+          → Made (value.Struct parts) (convert.struct r fields) ⊎ Unfits (value.Struct parts) (convert.struct r fields)
+      go (inl (given, hs)) = let c = all given in inl (Struct c.0, member_by_member hs c.1)
       go (inr (inl l)) = inr (record { test = lacks_member; one_of = of_member; met = fault.here l })
       go (inr (inr (i, p, f, at, e, u))) = inr (record { test = u.test; one_of = u.one_of; met = fault.in_member i at e u.met })
-  total_struct j fields d h x each (value.Array items) = inr (shape refl)
-  total_struct j fields d h x each value.Opaque = inr (shape refl)
-  total_struct j fields d h x each (value.Int n) = single_struct j fields each (value.Int n) tt
-  total_struct j fields d h x each (value.Bool b) = single_struct j fields each (value.Bool b) tt
-  total_struct j fields d h x each (value.Text t) = single_struct j fields each (value.Text t) tt
-  total_struct j fields d h x each (value.Enumerated of name n) = single_struct j fields each (value.Enumerated of name n) tt
+  total_struct r fields all each (value.Array items) = inr (shape refl)
+  total_struct r fields all each value.Opaque = inr (shape refl)
+  total_struct r fields all each (value.Int n) = single_struct r fields each (value.Int n) tt
+  total_struct r fields all each (value.Bool b) = single_struct r fields each (value.Bool b) tt
+  total_struct r fields all each (value.Text t) = single_struct r fields each (value.Text t) tt
+  total_struct r fields all each (value.Enumerated of name n) = single_struct r fields each (value.Enumerated of name n) tt
 
   total_opaque : (o : Opened) → Total o opaque
   total_opaque o = inr (shape refl)
 
   -- ---- types
 
-  module _ (types : List TypeDef) (are : AllGiven ws types) where
-    default_of : (i : ℕ) (f : Form) → HasForm ws i f → (d : Value) × DefaultIs ws (kind.Named i) d
-    default_of i f h = let p = type_there ws types are i f h in (p.0.default, (given_at ws types are i p.0 p.1).1)
+  -- a default, and what each value becomes or where it doesn't fit
+  abbrev pub BothIn : Target → Type 0
+  BothIn t = ((w : Value) × Default ws t w) × ((o : Opened) → Total o t)
 
-    size_of_form : (i : ℕ) (f : Form) → HasForm ws i f → IsOfSize ws (kind.Named i)
-    size_of_form i f h = let p = default_of i f h in default_of_size ws i p.0 p.1
+  -- the same of what stands in a form
+  abbrev pub BothInForm : Form → Type 0
+  BothInForm form.Abstract = Unit {0}
+  BothInForm (form.Alias k) = BothIn (of_kind k)
+  BothInForm (form.Array size k format) = BothIn (of_kind k)
+  BothInForm (form.Struct fields) = (i : ℕ) (f : Field) → slice_get fields i ≡ Some f → BothIn (member f)
+  BothInForm (form.Enum k cs) = Unit {0}
+
+  plain_has : (k : Kind) → IsPlain k → (w : Value) × Default ws (of_kind k) w
+  plain_has kind.U8 p = (_, plain_default_is ws kind.U8 refl)
+  plain_has kind.U16 p = (_, plain_default_is ws kind.U16 refl)
+  plain_has kind.U32 p = (_, plain_default_is ws kind.U32 refl)
+  plain_has kind.U64 p = (_, plain_default_is ws kind.U64 refl)
+  plain_has kind.I8 p = (_, plain_default_is ws kind.I8 refl)
+  plain_has kind.I16 p = (_, plain_default_is ws kind.I16 refl)
+  plain_has kind.I32 p = (_, plain_default_is ws kind.I32 refl)
+  plain_has kind.I64 p = (_, plain_default_is ws kind.I64 refl)
+  plain_has kind.Bool p = (_, plain_default_is ws kind.Bool refl)
+  plain_has (kind.Str size) p = (_, plain_default_is ws (kind.Str size) refl)
+  plain_has (kind.Named i) p = absurd p
+
+  plain_both : (k : Kind) → IsPlain k → BothIn (of_kind k)
+  plain_both k p = (plain_has k p, λ o. through (λ w h. in_plain p h) (λ test m. fault.in_plain p m) (total_plain k p o))
+
+  many_both : (size : ℕ) (k : Kind) → BothIn (of_kind k) → BothIn (convert.array size k)
+  many_both size k b = ((Array (replicate size b.0.0), convert.repeated b.0.1), λ o. total_array size k b.1 o)
+
+  pub total_form : (r : Rest) (f : Form) → ((fields : List Field) → f ≡ form.Struct fields → AllCompleted r fields) → BothInForm f → (o : Opened) → Total o (form_target r f)
+  total_form r form.Abstract all parts o = total_opaque o
+  total_form r (form.Alias k) all parts o = parts.1 o
+  total_form r (form.Array size k format) all parts o = total_array size k parts.1 o
+  total_form r (form.Struct fields) all parts o = total_struct r fields (all fields refl) (λ i f e. (parts i f e).1) o
+  total_form r (form.Enum k cs) all parts o = total_constants cs o
+
+  -- where a type is of size and has a default if what stands in it has
+  module _ (settled : (i : ℕ) (f : Form) → HasForm ws i f → BothInForm f → IsOfSize ws (kind.Named i) × ((d : Value) × DefaultIs ws (kind.Named i) d)) where
+    named_both : (i : ℕ) (f : Form) → HasForm ws i f → BothInForm f → BothIn (of_kind (kind.Named i))
+    named_both i f h parts =
+        let s = settled i f h parts in (
+          s.1,
+          λ o. through (λ w b. in_named h s.0 b) (λ test x. fault.in_named h s.0 x)
+              (total_form (OfStruct i) f
+              (λ fields is given.
+              let g = subst (λ (x : Form). HasForm ws i x) is h in
+              completed i fields s.1.0 g s.1.1 given fields (named_struct i fields s.1.0 g s.1.1)) parts o),
+        )
 
     mutual
-      total : {k : Kind} {a b : ℕ} → Measures ws k a b → (o : Opened) → Total o (of_kind k)
-      total (plain {k = k} p) o = through (λ w h. in_plain p h) (λ test m. fault.in_plain p m) (total_plain k p o)
-      total (named {i = i} {f = f} h m) o =
-          let s = size_of_form i f h in
-          through (λ w b. in_named h s b) (λ test x. fault.in_named h s x) (total_form i h m o)
+      pub both : {k : Kind} {a b : ℕ} → Measures ws k a b → BothIn (of_kind k)
+      both (plain {k = k} p) = plain_both k p
+      both (named {i = i} {f = f} h m) = named_both i f h (both_form m)
 
-      total_form : (i : ℕ) {f : Form} {a b : ℕ} → HasForm ws i f → MeasuresForm ws f a b → (o : Opened) → Total o (form_target (OfStruct i) f)
-      total_form i h abstract_ o = total_opaque o
-      total_form i h (alias m) o = total m o
-      total_form i h (array {size = size} {k = k} m) o = total_array size k (λ p. total m p) o
-      total_form i h (struct {fields = fields} m) o =
-          let d = default_of i (form.Struct fields) h in
-          total_struct i fields d.0 h d.1 (total_fields m) o
-      total_form i h (enum {cs = cs} p m) o = total_constants cs o
+      both_form : {f : Form} {a b : ℕ} → MeasuresForm ws f a b → BothInForm f
+      both_form abstract_ = tt
+      both_form (alias m) = both m
+      both_form (array m) = both m
+      both_form (struct m) = both_fields m
+      both_form (enum h m) = tt
 
-      total_fields : {fs : List Field} {a b : ℕ} → MeasuresFields ws fs a b → TotalEach fs
-      total_fields no_field i f e o = no_some e
-      total_fields (field {f = g} m ms) zero f e o = subst (λ (x : Field). Total o (member x)) (same_some e) (total_member m o)
-      total_fields (field m ms) (suc i) f e o = total_fields ms i f e o
+      both_fields : {fs : List Field} {a b : ℕ} → MeasuresFields ws fs a b → (i : ℕ) (f : Field) → slice_get fs i ≡ Some f → BothIn (member f)
+      both_fields no_field i f e = no_some e
+      both_fields (field {f = g} m ms) zero f e = subst (λ (x : Field). BothIn (member x)) (same_some e) (both_member m)
+      both_fields (field m ms) (suc i) f e = both_fields ms i f e
 
-      total_member : {s : Option ℕ} {k : Kind} {a b : ℕ} → MeasuresMember ws s k a b → (o : Opened) → Total o (member_target s k)
-      total_member (one m) o = total m o
-      total_member (many {size = size} {k = k} m) o = total_array size k (λ p. total m p) o
+      both_member : {s : Option ℕ} {k : Kind} {a b : ℕ} → MeasuresMember ws s k a b → BothIn (member_target s k)
+      both_member (one m) = both m
+      both_member (many {size = size} {k = k} m) = many_both size k (both m)
 
-    unbroken : (place : Place) (o : Opened) (t : Target) → ((f : Refusal) → Misfits ws place o t f → ⊥) → Unfits o t → ⊥
-    unbroken place o t never u = go u.test u.one_of u.met
-      where
-        go : (test : Opened → Target → Bool) → OneOf test → Meets ws test o t → ⊥
-        go test of_member m = never _ (by_member m)
-        go test of_range m = never _ (by_range (λ l. never _ (by_member l)) m)
-        go test of_shape m = never _ (by_shape (λ l. never _ (by_member l)) (λ r. never _ (by_range (λ l. never _ (by_member l)) r)) m)
+  pub not_unfit : (place : Place) (o : Opened) (t : Target) → ((f : Refusal) → Misfits ws place o t f → ⊥) → Unfits o t → ⊥
+  not_unfit place o t never u = go u.test u.one_of u.met
+    where
+      go : (test : Opened → Target → Bool) → OneOf test → Meets ws test o t → ⊥
+      go test of_member m = never _ (by_member m)
+      go test of_range m = never _ (by_range (λ l. never _ (by_member l)) m)
+      go test of_shape m = never _ (by_shape (λ l. never _ (by_member l)) (λ r. never _ (by_range (λ l. never _ (by_member l)) r)) m)
+
+  -- where each type is given
+  module _ (types : List TypeDef) (are : AllGiven ws types) where
+    given_settled : (i : ℕ) (f : Form) → HasForm ws i f → BothInForm f → IsOfSize ws (kind.Named i) × ((d : Value) × DefaultIs ws (kind.Named i) d)
+    given_settled i f h parts =
+        let p = type_there ws types are i f h in
+        let d = (given_at ws types are i p.0 p.1).1 in
+        (default_of_size ws i p.0.default d, (p.0.default, d))
 
     pub converts_or_breaks : (place : Place) (v : Value) (k : Kind) → IsOfSize ws k → ((f : Refusal) → Misfits ws place (opened v) (of_kind k) f → ⊥) → (w : Value) × Converts ws v k w
-    converts_or_breaks place v k s never = go (total s.2 (opened v))
+    converts_or_breaks place v k s never = go ((both given_settled s.2).1 (opened v))
       where
-        go : ((w : Value) × Becomes ws (opened v) (of_kind k) w) ⊎ Unfits (opened v) (of_kind k) → (w : Value) × Converts ws v k w
+        go : Made (opened v) (of_kind k) ⊎ Unfits (opened v) (of_kind k) → (w : Value) × Converts ws v k w
         go (inl p) = p
-        go (inr u) = absurd (unbroken place (opened v) (of_kind k) never u)
+        go (inr u) = absurd (not_unfit place (opened v) (of_kind k) never u)

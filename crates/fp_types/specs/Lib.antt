@@ -9,3 +9,4 @@ pub mod Making
 pub mod Meeting
 pub mod Read
 pub mod WellWritten
+pub mod Unbroken

@@ -1,4 +1,4 @@
-ghost use Rattle.std.specs.Prelude.{◌≡◌, ℕ, List, true};
+ghost use Rattle.std.specs.Prelude.{◌≡◌, ℕ, List, Option, Some, slice_get, true};
 ghost use Rattle.fp_base.specs.Least.{IsUnbroken};
 ghost use Rattle.fp_base.specs.declared.place.Place.{Place};
 ghost use Rattle.fp_base.specs.declared.refusal.Refusal.{Refusal};
@@ -12,6 +12,8 @@ ghost use Rattle.fp_type_sizes.specs.declared.written.WrittenType.{WrittenType};
 ghost use Rattle.fp_type_sizes.specs.Sizes.{HasForm, IsOfSize, IsTooLarge};
 ghost use Rattle.fp_types.specs.Converting.{Becomes, Converts, DefaultIs, Target, of_kind, opened};
 ghost use Rattle.fp_types.specs.Faults.{Misfits, IsBadDefault};
+ghost use Rattle.fp_types.specs.Given.{AreTypesGiven};
+ghost use Rattle.fp_types.specs.Unbroken.{AreUnbroken};
 ghost use Rattle.fp_types.specs.WellWritten.{AllGiven, AreSoundTypes, AreWellWritten};
 ghost use Rattle.fp_types.specs.Example.{example, second_default};
 
@@ -55,6 +57,12 @@ pub fn bad_default_is_none()
 /// Where each type is given, a value becomes something in a type of size, or breaks a rule there.
 pub fn converts_or_breaks()
     ensures { (ws : List WrittenType) (types : List TypeDef) (place : Place) (value : Value) (kind : Kind) → AllGiven ws types → IsOfSize ws kind → IsUnbroken (Misfits ws place (opened value) (of_kind kind)) → (made : Value) × Converts ws value kind made }
+{}
+
+/// Types that break no rule of sizes and of defaults are all given, where what stands behind `default` has a value and each enumeration has a
+/// constant.
+pub fn unbroken_types_are_given()
+    ensures { (ws : List WrittenType) (given : List (Option TypeDef)) (i : ℕ) (o : Option TypeDef) → AreUnbroken ws → AreTypesGiven ws given → slice_get given i ≡ Some o → (d : TypeDef) × (o ≡ Some d) }
 {}
 
 /// Nothing becomes a type that is too large.

@@ -63,7 +63,7 @@ pub fn is_among_if(value: &Value, constants: &[Constant]) -> bool
     }
 }
 
-fn number_within(number: i128, low: i128, high: i128) -> Option<Value>
+pub fn number_within(number: i128, low: i128, high: i128) -> Option<Value>
     ensures { result ≡ number_within low high number }
 {
     if low <= number && number <= high {
