@@ -1,5 +1,14 @@
+mod Deep
+mod Defined
+mod Expressed
+mod Formed
+mod Meant
 mod Named
+mod Numbered
 mod Placed
+mod Resolved
 mod Resulting
 mod Serving
+mod Sized
+mod Standing
 mod WellMade

@@ -1,16 +1,14 @@
 -- Where no name is defined twice, the constants of an enumeration have different names.
-use Rattle.std.proofs.Common.{◌≡◌, ℕ, zero, suc, ◌+◌, ◌<◌, List, [], ◌∷◌, ◌++◌, map, flat_map, take, drop, length, Option, Some, None, option_map, slice_get, refl, sym, ap, ◌∙◌, subst, arith, append_assoc}
+use Rattle.std.proofs.Common.{◌≡◌, ℕ, zero, suc, ◌+◌, ◌<◌, ◌⊎◌, inl, inr, List, [], ◌∷◌, ◌++◌, map, flat_map, take, drop, length, Option, Some, None, option_map, slice_get, refl, sym, ap, ◌∙◌, subst, arith, append_assoc, length-append}
 use Rattle.std.proofs.lemmas.Grind.{flat_map-append}
 use Rattle.std.proofs.lemmas.List.{take-append-drop}
 use Rattle.std.proofs.lemmas.Option.{slice_get-map}
-use Rattle.fp_base.proofs.Lists.{get_front, get_within}
-use Rattle.fp_base.proofs.Options.{mapped_some, same_some}
-use Rattle.fp_base.specs.declared.refusal.Refusal.{Refusal}
+use Rattle.fp_base.proofs.Lists.{get_front}
+use Rattle.fp_base.proofs.Options.{same_some}
 use Rattle.fp_base.specs.declared.rule.Rule.TheVariants.{DefinedTwice}
 use Rattle.fp_base.specs.Least.{broken_at, IsUnbroken}
-use Rattle.fp_graph.proofs.Places.{get_right, get_take}
+use Rattle.fp_graph.proofs.Places.{get_joined, get_right, get_take}
 use Rattle.fp_tree.specs.declared.source.Source.{Source}
-use Rattle.fp_tree.specs.declared.name.Name.{Name}
 use Rattle.fp_tree.specs.declared.definition.Def.{Def}
 use Rattle.fp_tree.specs.declared.definition.Def.TheVariants as def
 use Rattle.fp_tree.specs.declared.definition.Enum.{Enum}
@@ -19,14 +17,14 @@ use Rattle.fp_tree.specs.declared.type_name.TypeName.{TypeName}
 use Rattle.fp_tree.specs.declared.type_name.TypeForm.{TypeForm}
 use Rattle.fp_tree.specs.declared.type_name.TypeForm.TheVariants as type
 use Rattle.fp_tree.specs.declared.part.EnumConst.{EnumConst}
-use Rattle.fp_meaning.specs.declared.group.Group.TheVariants.{Value}
+use Rattle.fp_meaning.specs.declared.group.Group.TheVariants.{Kind, Value}
 use Rattle.fp_meaning.specs.declared.item.Item.{Item}
 use Rattle.fp_meaning.specs.declared.item.Item.TheVariants as item
 use Rattle.fp_meaning.specs.declared.names.Definition.{Definition}
 use Rattle.fp_meaning.specs.Broken.{BrokenByDefinitions}
 use Rattle.fp_meaning.specs.Meaning.{IsNamed}
 use Rattle.fp_meaning.specs.Layout.{type_form_items, type_items, constant_items, expression_items, part_items, items}
-use Rattle.fp_meaning.specs.Names.{Path, constant_of, definitions, definitions_of, name_of}
+use Rattle.fp_meaning.specs.Names.{Path, constant_of, definitions, definitions_of, group_of, name_of}
 use Rattle.fp_meaning.specs.Sites.{Site, in_optional}
 use Rattle.fp_type_forms.specs.Written.{TypeHere, type_here, types, types_in, types_of}
 use Rattle.fp_type_forms.proofs.Following.{items_whole}
@@ -34,55 +32,84 @@ use Rattle.fp_type_forms.proofs.Only.{no_some}
 
 -- ---- a type of a source is one of its definitions
 
-pub record IsSited (is : List Item) (t : TypeHere) : Type 0 where
+-- what stands behind `default` in a definition
+abbrev pub default_in : Def → Option Expr
+default_in (def.Array d) = d.default
+default_in (def.Struct d) = d.default
+default_in (def.Enum d) = d.default
+default_in _ = None
+
+pub record IsSited (is : List Item) (i : ℕ) (t : TypeHere) : Type 0 where
   pub at : ℕ
   pub site : Site
   pub here : slice_get is at ≡ Some (item.Defined site)
   pub scope : t.scope ≡ site.scope
   pub definition : t.definition ≡ site.definition
   pub name : t.name ≡ name_of site.definition
+  pub group : group_of site.definition ≡ Kind
+  pub default : t.default ≡ default_in site.definition
+  -- so many types stand before it
+  pub number : i ≡ length (flat_map types_of (take at is))
 
-record IsOf (scope : Path) (d : Def) (t : TypeHere) : Type 0 where
+record IsOf (scope : Path) (d : Def) (t : TypeHere) (j : ℕ) : Type 0 where
   scope_is : t.scope ≡ scope
   definition_is : t.definition ≡ d
   name_is : t.name ≡ name_of d
+  group_is : group_of d ≡ Kind
+  default_is : t.default ≡ default_in d
+  first_is : j ≡ 0
 
-the_one : (scope : Path) (d : Def) (default : Option Expr) (note : List ℕ) (t : TypeHere) (j : ℕ) → slice_get (type_here scope (name_of d) d default note ∷ []) j ≡ Some t → IsOf scope d t
-the_one scope d default note t zero e =
-    let first : IsOf scope d (type_here scope (name_of d) d default note) = record { scope_is = refl; definition_is = refl; name_is = refl } in
-    subst (λ (y : TypeHere). IsOf scope d y) (same_some e) first
-the_one scope d default note t (suc j) e = no_some e
+the_one : (scope : Path) (d : Def) (note : List ℕ) (t : TypeHere) (j : ℕ) → group_of d ≡ Kind → slice_get (type_here scope (name_of d) d (default_in d) note ∷ []) j ≡ Some t → IsOf scope d t j
+the_one scope d note t zero g e =
+    let first : IsOf scope d (type_here scope (name_of d) d (default_in d) note) 0 =
+    record { scope_is = refl; definition_is = refl; name_is = refl; group_is = g; default_is = refl; first_is = refl } in
+    subst (λ (y : TypeHere). IsOf scope d y 0) (same_some e) first
+the_one scope d note t (suc j) g e = no_some e
 
-of_definition : (scope : Path) (d : Def) (t : TypeHere) (j : ℕ) → slice_get (types_in scope d) j ≡ Some t → IsOf scope d t
+of_definition : (scope : Path) (d : Def) (t : TypeHere) (j : ℕ) → slice_get (types_in scope d) j ≡ Some t → IsOf scope d t j
 of_definition scope (def.Constant d) t j e = no_some e
-of_definition scope (def.Abstract d) t j e = the_one scope (def.Abstract d) None d.note t j e
-of_definition scope (def.Alias d) t j e = the_one scope (def.Alias d) None d.note t j e
-of_definition scope (def.Array d) t j e = the_one scope (def.Array d) d.default d.note t j e
-of_definition scope (def.Struct d) t j e = the_one scope (def.Struct d) d.default d.note t j e
-of_definition scope (def.Enum d) t j e = the_one scope (def.Enum d) d.default d.note t j e
+of_definition scope (def.Abstract d) t j e = the_one scope (def.Abstract d) d.note t j refl e
+of_definition scope (def.Alias d) t j e = the_one scope (def.Alias d) d.note t j refl e
+of_definition scope (def.Array d) t j e = the_one scope (def.Array d) d.note t j refl e
+of_definition scope (def.Struct d) t j e = the_one scope (def.Struct d) d.note t j refl e
+of_definition scope (def.Enum d) t j e = the_one scope (def.Enum d) d.note t j refl e
 of_definition scope (def.Port d) t j e = no_some e
 
-later : (i : Item) (is : List Item) (t : TypeHere) → IsSited is t → IsSited (i ∷ is) t
-later i is t s = record { at = suc s.at; site = s.site; here = s.here; scope = s.scope; definition = s.definition; name = s.name }
+later : (x : Item) (is : List Item) (i j : ℕ) (t : TypeHere) → j ≡ length (types_of x) + i → IsSited is i t → IsSited (x ∷ is) j t
+later x is i j t e s =
+    let long = length-append (types_of x) (flat_map types_of (take s.at is)) in
+    let number = s.number in
+    let same : j ≡ length (types_of x ++ flat_map types_of (take s.at is)) = omega arith in
+    record { at = suc s.at; site = s.site; here = s.here; scope = s.scope; definition = s.definition; name = s.name; group = s.group; default = s.default; number = same }
 
-first_item : (i : Item) (is : List Item) (t : TypeHere) (j : ℕ) → slice_get (types_of i) j ≡ Some t → IsSited (i ∷ is) t
+first_item : (x : Item) (is : List Item) (t : TypeHere) (j : ℕ) → slice_get (types_of x) j ≡ Some t → IsSited (x ∷ is) j t
 first_item (item.Defined s) is t j e =
     let of = of_definition s.scope s.definition t j e in
-    record { at = 0; site = s; here = refl; scope = of.scope_is; definition = of.definition_is; name = of.name_is }
+    record {
+      at = 0;
+      site = s;
+      here = refl;
+      scope = of.scope_is;
+      definition = of.definition_is;
+      name = of.name_is;
+      group = of.group_is;
+      default = of.default_is;
+      number = of.first_is;
+    }
 first_item (item.Enumerated s) is t j e = no_some e
 first_item (item.Used since n) is t j e = no_some e
 first_item (item.Written since p) is t j e = no_some e
 
-split : {A B : Type 0} (xs ys : List A) (y : A) (i : ℕ) → slice_get (xs ++ ys) i ≡ Some y → ((j : ℕ) → slice_get xs j ≡ Some y → B) → ((j : ℕ) → slice_get ys j ≡ Some y → B) → B
-split [] ys y i e one other = other i e
-split (x ∷ xs) ys y zero e one other = one 0 e
-split (x ∷ xs) ys y (suc i) e one other = split xs ys y i e (λ j. one (suc j)) other
-
-sited_among : (is : List Item) (t : TypeHere) (i : ℕ) → slice_get (flat_map types_of is) i ≡ Some t → IsSited is t
+sited_among : (is : List Item) (t : TypeHere) (i : ℕ) → slice_get (flat_map types_of is) i ≡ Some t → IsSited is i t
 sited_among [] t i e = no_some e
-sited_among (x ∷ is) t i e = split (types_of x) (flat_map types_of is) t i e (first_item x is t) (λ j h. later x is t (sited_among is t j h))
+sited_among (x ∷ is) t i e = go (get_joined (types_of x) (flat_map types_of is) t i e) (λ j f. sited_among is t j f)
+  where
+    go : (slice_get (types_of x) i ≡ Some t) ⊎ ((j : ℕ) × (i ≡ length (types_of x) + j) × (slice_get (flat_map types_of is) j ≡ Some t))
+        → ((j : ℕ) → slice_get (flat_map types_of is) j ≡ Some t → IsSited is j t) → IsSited (x ∷ is) i t
+    go (inl f) rest = first_item x is t i f
+    go (inr (j, at, f)) rest = later x is j i t at (rest j f)
 
-pub sited : (source : Source) (t : TypeHere) (i : ℕ) → slice_get (types source) i ≡ Some t → IsSited (items source) t
+pub sited : (source : Source) (t : TypeHere) (i : ℕ) → slice_get (types source) i ≡ Some t → IsSited (items source) i t
 sited source t i e = sited_among (items source) t i e
 
 -- ---- the constants of an enumeration stand one behind another among the definitions

@@ -51,7 +51,7 @@ use Rattle.fp_source_types.proofs.Named.{constants_differ, enumeration_listed, s
 
 -- ---- what stands at a place of two lists that are related place by place
 
-related_at : {A B : Type 0} (R : ℕ → A → B → Type 0) (k : ℕ) (xs : List A) (ys : List B) (i j : ℕ) (y : B) → j ≡ k + i → AllAt R k xs ys → slice_get ys i ≡ Some y
+pub related_at : {A B : Type 0} (R : ℕ → A → B → Type 0) (k : ℕ) (xs : List A) (ys : List B) (i j : ℕ) (y : B) → j ≡ k + i → AllAt R k xs ys → slice_get ys i ≡ Some y
     → (x : A) × (slice_get xs i ≡ Some x) × R j x y
 related_at R k [] [] i j y is all e = no_some e
 related_at R k [] (z ∷ ys) i j y is all e = absurd all

@@ -2,3 +2,5 @@ pub mod Broken
 pub mod Places
 pub mod Typed
 pub mod Used
+pub mod Listed
+pub mod Resolved

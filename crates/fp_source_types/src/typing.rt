@@ -40,7 +40,21 @@ pub fn types_all(
     ensures at { IfOk result (λ types. AreTypesOf source.now types.at) }
     ensures first { IfOk result (λ types. IsLeast (TypesBroken source.now) types.first) }
 {
-    let values = marks.at.as_slice();
+    types_from(alloc, source, uses, marks.at.as_slice())
+}
+
+/// The same from the values alone.
+pub fn types_from(
+    alloc: Global,
+    source: &Source,
+    uses: &Uses,
+    values: &[Option<Value>],
+) -> Result<TypeMarks, NoMemory>
+    requires meanings { AreMeanings (definitions source.now) (mentions source.now) uses.now.meanings }
+    requires values { AreValues source.now (expressions source.now) values.now }
+    ensures at { IfOk result (λ types. AreTypesOf source.now types.at) }
+    ensures first { IfOk result (λ types. IsLeast (TypesBroken source.now) types.first) }
+{
     let written = types_written(alloc, source, uses, values)?;
     let types = written.as_slice();
     if types.len() > u32::MAX as usize {

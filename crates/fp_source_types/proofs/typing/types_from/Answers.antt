@@ -2,7 +2,7 @@ use Rattle.std.proofs.Common.{List, sym, subst}
 use Rattle.fp_type_sizes.specs.declared.written.WrittenType.{WrittenType}
 use Rattle.fp_type_forms.specs.Written.{AreWritten}
 use Rattle.fp_source_types.proofs.Resulting.{least_of_source}
-use Rattle.fp_source_types.proofs.typing.types_all.Goals as goal
+use Rattle.fp_source_types.proofs.typing.types_from.Goals as goal
 
 pub returns-clause-at : goal.returns-clause-at
 returns-clause-at c = record {
