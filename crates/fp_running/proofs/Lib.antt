@@ -1,0 +1,13 @@
+mod Walks
+mod Noting
+mod Numbering
+mod Placing
+mod Stepping
+mod Asking
+mod OneTurn
+mod Opened
+mod Replaying
+mod Steps
+mod Left
+mod Closed
+mod Nothing

@@ -1,0 +1,17 @@
+//! The runner on one thread: cells and actors whose turns are taken one by one, and how a run of them ends.
+#![tactic(auto)]
+
+mod agenda;
+mod closing;
+mod done;
+mod ending;
+mod going;
+mod listed;
+mod meeting;
+mod opening;
+mod running;
+mod turn;
+mod turning;
+
+pub use running::Running;
+pub use turn::Turn;
