@@ -1,0 +1,9 @@
+mod Noting
+mod Turning
+mod Dealing
+mod Handing
+mod Following
+mod Beginning
+mod Placing
+mod Stepping
+mod Ending
