@@ -1,0 +1,9 @@
+pub mod Amid
+pub mod Numbering
+pub mod OnCycles
+pub mod Ways
+pub mod Vertices
+pub mod Following
+pub mod Answering
+pub mod Telling
+pub mod Firsts

@@ -1,0 +1,16 @@
+-- What leads to what in one step after another.
+use Rattle.std.specs.Prelude.{◌≡◌, ◌⊎◌, List, [], ◌∷◌}
+
+abbrev pub Among : {A : Type 0} → List A → A → Type 0
+Among [] x = ⊥
+Among (y ∷ ys) x = (y ≡ x) ⊎ Among ys x
+
+module _ {A : Type 0} (Step : A → A → Type 0) where
+  -- in at least one step
+  pub data Reaches : A → A → Type 0 where
+    once : {u v : A} → Step u v → Reaches u v
+    again : {u v w : A} → Step u v → Reaches v w → Reaches u w
+
+  -- in any number of steps
+  abbrev pub Comes : A → A → Type 0
+  Comes u v = (u ≡ v) ⊎ Reaches u v
