@@ -1,0 +1,3 @@
+pub mod Arguing
+pub mod Making
+pub mod MeantKinds

@@ -1,0 +1,4 @@
+pub mod Arguments
+pub mod Made
+pub mod Read
+pub mod Wanted
