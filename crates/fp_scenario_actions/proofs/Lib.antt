@@ -1,0 +1,14 @@
+pub mod Called
+pub mod CallsListed
+pub mod Dotted
+pub mod Ending
+pub mod Halting
+pub mod Identifiers
+pub mod Keeping
+pub mod KeepingCalls
+pub mod Listed
+pub mod Narrow
+pub mod Parting
+pub mod Suits
+pub mod SuitsCalls
+pub mod Wired
