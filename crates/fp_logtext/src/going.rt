@@ -27,16 +27,16 @@ fn push_actions(machine: &Machine, actions: &[u32], log: &mut Row<u8>) -> Result
     Ok(())
 }
 
-fn vertex_name(machine: &Machine, vertex: u32) -> Option<&str>
+fn vertex_name(machine: &Machine, vertex: usize) -> Option<&str>
     ensures { option_copied result ≡ vertex_of machine.now vertex }
 {
-    Some(machine.vertices.get(vertex as usize)?.name.as_str())
+    Some(machine.vertices.get(vertex)?.name.as_str())
 }
 
-fn parent(machine: &Machine, vertex: u32) -> Option<u32>
+fn parent(machine: &Machine, vertex: usize) -> Option<u32>
     ensures { result ≡ parent machine.now vertex }
 {
-    machine.vertices.get(vertex as usize)?.parent
+    machine.vertices.get(vertex)?.parent
 }
 
 /// Adds the names of a vertex and of those round it, each with a dot; of these there are at most as many as the number says.
@@ -54,12 +54,14 @@ fn push_round(
     if most == 0 {
         return Ok(());
     }
+    let vertex = vertex as usize;
     push_round(machine, parent(machine, vertex), most - 1, log)?;
     push_name(log, vertex_name(machine, vertex))?;
     push_text(log, ".")
 }
 
-fn push_path(machine: &Machine, vertex: u32, log: &mut Row<u8>) -> Result<(), NoMemory>
+/// Adds the path of a vertex of a machine: the names of the states round it, the outermost first, and its own, with dots between them.
+pub fn push_path(machine: &Machine, vertex: usize, log: &mut Row<u8>) -> Result<(), NoMemory>
     ensures { OnOk result (log.new ≡ log.old ++ path_of machine.now vertex) }
 {
     push_round(
@@ -85,7 +87,7 @@ pub fn push_going(
             push_text(log, "[")?;
             push_actions(machine, actions, log)?;
             push_text(log, "] ")?;
-            push_path(machine, leaf, log)
+            push_path(machine, leaf as usize, log)
         }
         None => push_text(log, "[] "),
     }

@@ -7,7 +7,8 @@ use fp_base::{NoMemory, Row, Text};
 use fp_events::{Arrival, Origin, Point};
 use fp_tables::Model;
 
-fn push_port(
+/// Adds the name of a port of an instance and one of its numbers.
+pub fn push_port(
     model: &Model,
     instance: u32,
     port: u32,
