@@ -128,13 +128,21 @@ fn names_of(rt: &HostRuntime, alloc: Global, shape: Shape, source: &Source) -> i
     })
 }
 
+fn members_of(alloc: Global, found: Members) -> Row<Member> {
+    match found {
+        Members::Unit(members) => members,
+        Members::Component(_) | Members::Topology(_) => Row::new(alloc),
+    }
+}
+
 /// One round.
 pub fn once(rt: &HostRuntime, alloc: Global, shape: Shape, text: &str) -> io::Result<Stages> {
     let start = Instant::now(rt)?;
     let tokens = lex(alloc, 0, text.as_bytes()).map_err(|_| AllocError)?;
     let lexing = start.elapsed(rt)?.as_micros();
-    let Members::Unit(members) = parse(alloc, &tokens, Inside::Unit).map_err(|_| AllocError)?;
+    let found = parse(alloc, &tokens, Inside::Unit).map_err(|_| AllocError)?;
     let parsed = start.elapsed(rt)?.as_micros();
+    let members = members_of(alloc, found);
     let count = members.len();
     let source = source_of(alloc, members).map_err(|_| AllocError)?;
     Ok(Stages {

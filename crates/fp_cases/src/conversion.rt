@@ -1,9 +1,8 @@
 ghost use Rattle.std.specs.Prelude.{◌≡◌, IfOk, length};
 
-use crate::cases::Case;
 use crate::types::{kind_named, types_listed, value_of};
-use crate::words::{first_broken, printed, push_all, push_line};
 use fp_base::{NoMemory, Place, Row, Stop, Text, Value};
+use fp_case_texts::{Case, first_broken, printed, push_all, push_line};
 use fp_tables::{Kind, TypeDef};
 use fp_type_sizes::{TypeExtent, WrittenType, extents, large_types, own_order, uses_earlier};
 use fp_types::{Unfit, bad_defaults, convert, defaults, misfit, types_of};

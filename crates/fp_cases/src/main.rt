@@ -1,37 +1,19 @@
-//! Runs the cases of the front end that stand in the files of its words: prints each answer that differs from what is due, and how
-//! many cases there are.
+//! Runs the cases of names, values, types, scenarios and `serve` that stand in the files of its words: prints each answer that differs
+//! from what is due, and how many cases there are.
 #![tactic(auto)]
 
 mod asked;
-mod cases;
-mod components;
 mod conversion;
-mod definitions;
-mod dictionary;
-mod escapes;
-mod expressions;
-mod grammar;
-mod instances;
-mod machines;
-mod members;
-mod parsed_components;
-mod ports;
-mod repeated;
 mod scenarios;
 mod serving;
 mod sources;
-mod tokens;
-mod topologies;
-mod tree;
 mod types;
 mod used;
-mod words;
 mod written_types;
 
-use crate::asked::{answer, is_given};
-use crate::cases::{Case, Section, cases_of};
-use crate::words::{printed, push_all};
-use fp_base::{NoMemory, Text, Value};
+use crate::asked::answer;
+use fp_base::{NoMemory, Text};
+use fp_case_texts::{Case, add_differences, cases_of};
 use std::alloc::{AllocError, Global};
 use std::process::ExitCode;
 use std::rt::Files;
@@ -39,45 +21,19 @@ use std::sync::Wait;
 use std::thread::Threads;
 use std::{env, fs, io};
 
-/// The line of an answer that isn't what is due.
-fn add_difference(
-    alloc: Global,
-    case: &Case,
-    part: &Section,
-    came: Text,
-    out: &mut Text,
-) -> Result<(), NoMemory> {
-    let due = Text::from_utf8(alloc, part.body.as_slice())?;
-    let due = printed(alloc, &Value::Text(due.unwrap_or(Text::new(alloc))))?;
-    let came = printed(alloc, &Value::Text(came))?;
-    push_all(out, &[case.name, ": ", part.label, ": due ", due.as_str()])?;
-    push_all(out, &[", came ", came.as_str(), "\n"])
-}
-
-/// Adds a line for each answer that differs from what is due. A case that asks nothing differs, too.
-fn add_differences<R: Threads + Wait + Sync + Files>(
+/// What comes of each question of a case.
+fn answers<R: Threads + Wait + Sync + Files>(
     rt: &R,
     alloc: Global,
-    file: &str,
     case: &Case,
-    out: &mut Text,
-) -> Result<(), NoMemory> {
-    let mut asks = false;
+) -> Result<Vec<Text>, NoMemory> {
+    let mut all = Vec::new(alloc);
     for part in case.parts.iter() {
-        if is_given(part.label) {
-            continue;
-        }
-        asks = true;
-        let came = answer(rt, alloc, case, part.label)?;
-        if came.as_bytes() != part.body.as_slice() {
-            push_all(out, &[file, ": "])?;
-            add_difference(alloc, case, part, came, out)?;
+        if part.asks {
+            all.push(answer(rt, alloc, case, part.label)?)?;
         }
     }
-    if !asks {
-        push_all(out, &[file, ": ", case.name, ": asks nothing\n"])?;
-    }
-    Ok(())
+    Ok(all)
 }
 
 /// How many cases a file has, and the lines of what differs in it.
@@ -90,7 +46,8 @@ fn run<R: Threads + Wait + Sync + Files>(
     let cases = cases_of(alloc, text)?;
     let mut out = Text::new(alloc);
     for case in cases.iter() {
-        add_differences(rt, alloc, name, case, &mut out)?;
+        let came = answers(rt, alloc, case)?;
+        add_differences(alloc, name, case, came.as_slice(), &mut out)?;
     }
     Ok((cases.len(), out))
 }

@@ -1,6 +1,5 @@
-use crate::cases::Case;
-use crate::words::{numeral, push_all, push_line};
 use fp_base::{NoMemory, PathStop, Text};
+use fp_case_texts::{Case, numeral, push_all, push_line};
 use fp_scenario::{ActText, GuardText, Json, Scenario, ScenarioStop, read_scenario};
 use std::alloc::Global;
 

@@ -1,8 +1,7 @@
 ghost use Rattle.std.specs.Prelude.{◌≢◌};
 
-use crate::cases::Case;
-use crate::words::numeral;
 use fp_base::{NoMemory, Text};
+use fp_case_texts::{Case, numeral};
 use fp_main::{Status, serve};
 use fp_outside::{Files, HostFiles, MemFiles, MemSink, OpenGate};
 use std::alloc::Global;

@@ -1,16 +1,14 @@
-use crate::cases::Case;
 use crate::conversion::MANY;
-use crate::grammar::parsed_expression;
-use crate::members::add_members;
-use crate::words::{first_broken, numeral, printed, push_line};
 use fp_base::{NoMemory, Row, Stop, Text, Value};
+use fp_case_texts::{Case, first_broken, numeral, printed, push_line};
 use fp_consts::{evaluate, evaluate_all, examine};
 use fp_lexer::lex;
 use fp_meaning::{Group, Marks};
 use fp_names::{collect, name_faults, uses};
+use fp_parse_defs::parse_expr;
 use fp_parse_parts::{Inside, Members, parse};
 use fp_source_types::{TypeMarks, types_all};
-use fp_tree::{Source, Unit, Values};
+use fp_tree::{Expr, Source, Unit, Values};
 use fp_type_forms::{form_faults, part_faults, types_written};
 use fp_type_sizes::{WrittenType, extents, own_order, uses_earlier};
 use std::alloc::Global;
@@ -19,6 +17,10 @@ fn unit(alloc: Global, file: u32, source: &[u8]) -> Result<Unit, Stop> {
     let tokens = lex(alloc, file, source)?;
     match parse(alloc, &tokens, Inside::Unit)? {
         Members::Unit(members) => Ok(Unit { members }),
+        Members::Component(_) | Members::Topology(_) => {
+            let members = Row::new(alloc);
+            Ok(Unit { members })
+        }
     }
 }
 
@@ -35,22 +37,6 @@ fn source_of(alloc: Global, first: &[u8], second: &[u8]) -> Result<Source, Stop>
 
 pub fn source(alloc: Global, case: &Case) -> Result<Source, Stop> {
     source_of(alloc, case.source(), case.text("second file").as_bytes())
-}
-
-/// The members of a file.
-pub fn members(alloc: Global, case: &Case) -> Result<Text, Stop> {
-    let unit = unit(alloc, 0, case.source())?;
-    let mut out = Text::new(alloc);
-    add_members(alloc, 0, unit.members.as_slice(), &mut out)?;
-    Ok(out)
-}
-
-/// The members of a copy of a file.
-pub fn copy(alloc: Global, case: &Case) -> Result<Text, Stop> {
-    let copy = unit(alloc, 0, case.source())?.copy(alloc)?;
-    let mut out = Text::new(alloc);
-    add_members(alloc, 0, copy.members.as_slice(), &mut out)?;
-    Ok(out)
 }
 
 /// What of its definitions is broken first.
@@ -213,9 +199,19 @@ pub fn evaluated(alloc: Global, case: &Case) -> Result<Text, Stop> {
     Ok(out)
 }
 
+/// The expression that a source is.
+fn expression_of(alloc: Global, case: &Case) -> Result<Expr, Stop> {
+    let tokens = lex(alloc, 0, case.source())?;
+    if tokens.len() == 0 || tokens.len() >= MANY {
+        return Err(Stop::NoMemory);
+    }
+    let (expression, _) = parse_expr(alloc, &tokens, 0)?;
+    Ok(expression)
+}
+
 /// The value of an expression that uses no name, or what is broken first in it.
 pub fn examined(alloc: Global, case: &Case) -> Result<Text, Stop> {
-    let (expression, _) = parsed_expression(alloc, case)?;
+    let expression = expression_of(alloc, case)?;
     let found = examine(alloc, &expression, &[], &[], 0)?;
     match found.value {
         Some(measured) => Ok(printed(alloc, &measured.value)?),

@@ -1,6 +1,6 @@
 use crate::sources::evaluated_values;
-use crate::words::push_all;
 use fp_base::{NoMemory, Row, Stop, Text, Value};
+use fp_case_texts::push_all;
 use fp_tables::{Constant, Field, Form, Kind};
 use fp_type_sizes::{Own, WrittenType};
 use std::alloc::Global;

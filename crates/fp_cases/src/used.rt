@@ -1,7 +1,6 @@
-use crate::cases::Case;
 use crate::sources::source;
-use crate::words::first_broken;
 use fp_base::{NoMemory, Stop, Text};
+use fp_case_texts::{Case, first_broken};
 use fp_layout::{definitions_in, lay_out};
 use fp_meaning::Definition;
 use fp_names::{collect, uses};

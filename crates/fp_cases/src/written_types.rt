@@ -1,7 +1,6 @@
-use crate::cases::Case;
 use crate::sources::{type_marks, types};
-use crate::words::{numeral, printed, push_all, push_line};
 use fp_base::{NoMemory, Stop, Text, Value};
+use fp_case_texts::{Case, numeral, printed, push_all, push_line};
 use fp_tables::{Constant, Field, Form, Kind, TypeDef};
 use fp_type_sizes::{Own, WrittenType};
 use std::alloc::Global;

@@ -1,7 +1,11 @@
+use crate::components::{add_component, add_interface};
 use crate::definitions::add_definition;
+use crate::instances::add_instance;
+use crate::machines::add_machine;
+use crate::topologies::add_topology;
 use crate::tree::Tree;
-use crate::words::{push_line, push_span};
 use fp_base::{NoMemory, Span, Text};
+use fp_case_texts::{push_line, push_span};
 use fp_tree::{Def, Member};
 use std::alloc::Global;
 
@@ -62,6 +66,31 @@ fn add_member(
             add_definition(alloc, definition, &mut tree)?;
             tree.add_note(note)?;
             add_line(alloc, depth, at, &tree, out)
+        }
+        Member::Machine(machine) => {
+            add_machine(alloc, machine, &mut tree)?;
+            tree.add_note(&machine.note)?;
+            add_line(alloc, depth, machine.at, &tree, out)
+        }
+        Member::Component(component) => {
+            add_component(alloc, component, &mut tree)?;
+            tree.add_note(&component.note)?;
+            add_line(alloc, depth, component.at, &tree, out)
+        }
+        Member::Interface(interface) => {
+            add_interface(alloc, interface, &mut tree)?;
+            tree.add_note(&interface.note)?;
+            add_line(alloc, depth, interface.at, &tree, out)
+        }
+        Member::Instance(instance) => {
+            add_instance(alloc, instance, &mut tree)?;
+            tree.add_note(&instance.note)?;
+            add_line(alloc, depth, instance.at, &tree, out)
+        }
+        Member::Topology(topology) => {
+            add_topology(alloc, topology, &mut tree)?;
+            tree.add_note(&topology.note)?;
+            add_line(alloc, depth, topology.at, &tree, out)
         }
         Member::Include(include) => {
             tree.add("include ")?;

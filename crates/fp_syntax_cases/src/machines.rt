@@ -1,7 +1,7 @@
 use crate::definitions::add_optional_type;
 use crate::tree::Tree;
-use crate::words::numeral;
 use fp_base::{NoMemory, Row};
+use fp_case_texts::numeral;
 use fp_tree::{
     Behavior, BehaviorElement, Choice, Do, ElementForm, Goto, Machine, NoteLine, OnSignal,
     Transition, TypedName,

@@ -111,8 +111,8 @@ fn add_include(alloc: Global, include: &Include, tree: &mut Tree) -> Result<(), 
     tree.add_note(&include.note)
 }
 
-fn add_member(alloc: Global, member: &TMember, tree: &mut Tree) -> Result<(), NoMemory> {
-    tree.add("\n")?;
+/// Adds a member of a topology, with its annotation.
+pub fn add_member(alloc: Global, member: &TMember, tree: &mut Tree) -> Result<(), NoMemory> {
     match member {
         TMember::Instance(instance) => add_instance_use(alloc, instance, tree),
         TMember::Import(import) => add_import(alloc, import, tree),
@@ -128,6 +128,7 @@ pub fn add_topology(alloc: Global, topology: &Topology, tree: &mut Tree) -> Resu
     tree.add("topology ")?;
     tree.add_name(alloc, &topology.name)?;
     for member in topology.members.as_slice() {
+        tree.add("\n")?;
         add_member(alloc, member, tree)?;
     }
     Ok(())

@@ -1,8 +1,8 @@
-use crate::cases::Case;
 use crate::components::{add_component, add_interface};
 use crate::grammar::{MOST_TOKENS, View, viewed};
 use crate::tree::Tree;
 use fp_base::{Stop, Text};
+use fp_case_texts::Case;
 use fp_lexer::lex;
 use fp_parse_components::{parse_component, parse_interface};
 use fp_tree::{Component, Interface};

@@ -9,6 +9,8 @@ use std::str;
 pub struct Section<'a> {
     pub label: &'a str,
     pub body: Vec<u8>,
+    /// Whether the label is a question.
+    pub asks: bool,
 }
 
 /// A case of a file.
@@ -45,18 +47,34 @@ impl<'a> Case<'a> {
     }
 }
 
+/// Whether a label names what is given to a case; each other one asks.
+fn is_given(label: &str) -> bool {
+    let named = match label {
+        "source" | "second file" | "from" | "scope" | "use" => true,
+        "types" | "value" | "type" => true,
+        "words" | "files" | "failing read" | "failing out" | "failing diag" => true,
+        _ => false,
+    };
+    named || label.starts_with("file ")
+}
+
+fn section_of<'a>(label: &'a str, body: Vec<u8>) -> Section<'a> {
+    let asks = !is_given(label);
+    Section { label, body, asks }
+}
+
 fn part_of<'a>(alloc: Global, text: &'a str) -> Result<Section<'a>, NoMemory> {
     let (label, body) = text.split_once('\n').unwrap_or((text, ""));
     if let Some(label) = label.strip_suffix(" escaped") {
         let body = unescaped(alloc, body.as_bytes())?;
-        return Ok(Section { label, body });
+        return Ok(section_of(label, body));
     }
     if let Some(label) = label.strip_suffix(" repeated") {
         let body = repeated(alloc, body)?;
-        return Ok(Section { label, body });
+        return Ok(section_of(label, body));
     }
     let body = Vec::from_slice(alloc, body.as_bytes())?;
-    Ok(Section { label, body })
+    Ok(section_of(label, body))
 }
 
 fn case_of<'a>(alloc: Global, text: &'a str) -> Result<Case<'a>, NoMemory> {

@@ -4,8 +4,8 @@ use crate::machines::add_machine;
 use crate::members::place_and_note;
 use crate::ports::{add_general, add_internal, add_match, add_running, add_special};
 use crate::tree::Tree;
-use crate::words::push_span;
 use fp_base::{NoMemory, Span, Text};
+use fp_case_texts::push_span;
 use fp_tree::{Component, ComponentKind, Import, Include, Interface, InterfacePart, Part};
 use std::alloc::Global;
 
@@ -29,7 +29,8 @@ fn add_import(alloc: Global, import: &Import, tree: &mut Tree) -> Result<(), NoM
     tree.add_qualified(alloc, &import.of)
 }
 
-fn at_and_note(part: &Part) -> (Span, &Text) {
+/// Where a part stands, and its annotation.
+pub fn at_and_note(part: &Part) -> (Span, &Text) {
     match part {
         Part::Def(definition) => place_and_note(definition),
         Part::Machine(machine) => (machine.get().at, &machine.get().note),
@@ -47,7 +48,8 @@ fn at_and_note(part: &Part) -> (Span, &Text) {
     }
 }
 
-fn add_part(alloc: Global, part: &Part, tree: &mut Tree) -> Result<(), NoMemory> {
+/// Adds a part, without its annotation.
+pub fn add_part(alloc: Global, part: &Part, tree: &mut Tree) -> Result<(), NoMemory> {
     match part {
         Part::Def(definition) => add_definition(alloc, definition, tree),
         Part::Machine(machine) => add_machine(alloc, machine.get(), tree),

@@ -1,5 +1,5 @@
-use crate::words::push_span;
 use fp_base::{NoMemory, Span, Text};
+use fp_case_texts::push_span;
 use fp_tree::{Name, Qual, Str};
 use std::alloc::Global;
 

@@ -1,12 +1,11 @@
-use crate::cases::Case;
 use crate::definitions::add_definition;
 use crate::expressions::add_expression;
 use crate::instances::add_instance;
 use crate::machines::add_machine;
 use crate::topologies::add_topology;
 use crate::tree::Tree;
-use crate::words::{numeral, push_all};
 use fp_base::{NoMemory, Stop, Text};
+use fp_case_texts::{Case, numeral, push_all};
 use fp_lexer::lex;
 use fp_parse_defs::{parse_def, parse_expr};
 use fp_parse_states::parse_machine;

@@ -1,5 +1,5 @@
-use crate::words::{push_all, push_line, push_span};
 use fp_base::{NoMemory, Stop, Text};
+use fp_case_texts::{push_all, push_line, push_span};
 use fp_lexer::{Token, Word, lex};
 use std::alloc::Global;
 

@@ -1,0 +1,76 @@
+use crate::files::{copy, members, parts, topology_members};
+use crate::grammar::{
+    View, copied_instance, copied_machine, copied_topology, definition, expression, instance,
+    machine, topology,
+};
+use crate::parsed_components::{component, copied_component, copied_interface, interface};
+use crate::tokens::tokens;
+use fp_base::{NoMemory, Stop, Text};
+use fp_case_texts::{Case, refused};
+use std::alloc::Global;
+
+/// What tokens, expressions, definitions, machines and files are; None where there is no such question.
+fn of_source(alloc: Global, case: &Case, question: &str) -> Option<Result<Text, Stop>> {
+    match question {
+        "tokens" => Some(tokens(alloc, case.source())),
+        "expression" => Some(expression(alloc, case, View::Shape)),
+        "places of expression" => Some(expression(alloc, case, View::Places)),
+        "definition" => Some(definition(alloc, case, View::Shape)),
+        "places of definition" => Some(definition(alloc, case, View::Places)),
+        "machine" => Some(machine(alloc, case, View::Shape)),
+        "places of machine" => Some(machine(alloc, case, View::Places)),
+        "copy of machine" => Some(copied_machine(alloc, case, View::Shape)),
+        "members" => Some(members(alloc, case)),
+        "copy" => Some(copy(alloc, case)),
+        "parts" => Some(parts(alloc, case)),
+        "topology members" => Some(topology_members(alloc, case)),
+        _ => None,
+    }
+}
+
+fn of_topologies(alloc: Global, case: &Case, question: &str) -> Option<Result<Text, Stop>> {
+    match question {
+        "instance" => Some(instance(alloc, case, View::Shape)),
+        "places of instance" => Some(instance(alloc, case, View::Places)),
+        "copy of instance" => Some(copied_instance(alloc, case, View::Shape)),
+        "topology" => Some(topology(alloc, case, View::Shape)),
+        "places of topology" => Some(topology(alloc, case, View::Places)),
+        "copy of topology" => Some(copied_topology(alloc, case, View::Shape)),
+        _ => None,
+    }
+}
+
+/// What is asked of a component or an interface.
+fn of_component(alloc: Global, case: &Case, question: &str) -> Option<Result<Text, Stop>> {
+    match question {
+        "component" => Some(component(alloc, case, View::Shape)),
+        "places of component" => Some(component(alloc, case, View::Places)),
+        "copy of component" => Some(copied_component(alloc, case)),
+        "interface" => Some(interface(alloc, case, View::Shape)),
+        "places of interface" => Some(interface(alloc, case, View::Places)),
+        "copy of interface" => Some(copied_interface(alloc, case)),
+        _ => None,
+    }
+}
+
+fn told(alloc: Global, answer: Result<Text, Stop>) -> Result<Text, NoMemory> {
+    match answer {
+        Ok(text) => Ok(text),
+        Err(Stop::Broken(refusal)) => refused(alloc, refusal),
+        Err(Stop::NoMemory) => Err(NoMemory),
+    }
+}
+
+/// What comes of a question: an answer, or the rule that is broken, and where.
+pub fn answer(alloc: Global, case: &Case, question: &str) -> Result<Text, NoMemory> {
+    if let Some(answer) = of_source(alloc, case, question) {
+        return told(alloc, answer);
+    }
+    if let Some(answer) = of_topologies(alloc, case, question) {
+        return told(alloc, answer);
+    }
+    if let Some(answer) = of_component(alloc, case, question) {
+        return told(alloc, answer);
+    }
+    Text::from_str(alloc, "no such question")
+}
