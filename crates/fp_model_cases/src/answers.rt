@@ -1,13 +1,18 @@
+ghost use Rattle.std.specs.Prelude.{Some};
+ghost use Rattle.fp_tables.specs.Sound.{IsSoundFor};
+
 use crate::cases::{Base, Case};
 use crate::edits::edited;
 use crate::fault::{Fault, misread};
 use crate::json::FromJson;
+use crate::listings::{connections, listed};
 use crate::model::json_of;
 use crate::moves::told;
 use crate::numbers::numbered;
-use crate::reports::{number_among, report, truth};
+use crate::reports::{cycle, number_among, report, truth};
 use crate::runs::played;
 use fp_base::{NoMemory, Text};
+use fp_reach::cycle_of;
 use fp_sound_model::SoundModel;
 use fp_sound_programs::SoundProgram;
 use fp_tables::{Model, Program, Tables};
@@ -52,14 +57,36 @@ fn tables_of(
     }
 }
 
+fn cycle_in(alloc: Global, tables: &Tables, program: &Program) -> Result<Text, NoMemory>
+    requires { IsSoundFor tables.now.model (Some tables.now.topology) }
+{
+    cycle(alloc, cycle_of(alloc, tables, program)?)
+}
+
+/// An action on a cycle, where the model is sound.
+fn cycle_told(alloc: Global, tables: &Tables, program: &Program) -> Result<Text, NoMemory> {
+    let sound = tables.model().is_sound(alloc, Some(tables.topology()))?;
+    if sound {
+        cycle_in(alloc, tables, program)
+    } else {
+        Text::from_str(alloc, "no sound model")
+    }
+}
+
 fn of_tables(alloc: Global, tables: &Tables, case: &Case, question: &str) -> Result<Text, Fault> {
     let (word, behind) = question.split_once(' ').unwrap_or((question, ""));
-    if !matches!(question, "program sound" | "run" | "ends") {
+    if !matches!(
+        question,
+        "program sound" | "cycle" | "run" | "goes on" | "ends"
+    ) {
         return Ok(report(alloc, tables, word, behind)?);
     }
     let program = program_of(alloc, case)?;
     if question == "program sound" {
         return Ok(truth(alloc, program.is_sound(alloc, tables)?)?);
+    }
+    if question == "cycle" {
+        return Ok(cycle_told(alloc, tables, &program)?);
     }
     let turns = case.given("turns").unwrap_or("");
     Ok(played(alloc, tables, &program, turns, question)?)
@@ -73,6 +100,8 @@ fn of_parts(
     words: &str,
 ) -> Option<Result<Text, NoMemory>> {
     match question {
+        "listing" => Some(listed(alloc, model)),
+        "lines" => Some(connections(alloc, model, number_among(words, 0))),
         "numbers" => Some(numbered(alloc, model, number_among(words, 0))),
         "start" | "guard" | "move" => Some(told(alloc, model, question, words)),
         _ => None,

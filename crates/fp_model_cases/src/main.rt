@@ -8,6 +8,7 @@ mod components;
 mod edits;
 mod fault;
 mod json;
+mod listings;
 mod machines;
 mod model;
 mod moves;

@@ -1,4 +1,5 @@
 use fp_base::{NoMemory, Text};
+use fp_reach::Cycle;
 use fp_tables::{End, Tables};
 use std::alloc::Global;
 
@@ -27,6 +28,17 @@ fn end_text(alloc: Global, end: Option<End>) -> Result<Text, NoMemory> {
         }
         None => Text::from_str(alloc, "nothing"),
     }
+}
+
+/// Whether an action is on a cycle of handlers, or on one of guards and turns, with the positions of its handler and its own; or `none`.
+pub fn cycle(alloc: Global, cycle: Option<Cycle>) -> Result<Text, NoMemory> {
+    let (of, ring) = match cycle {
+        Some(Cycle::Synchronous(ring)) => ("handlers", ring),
+        Some(Cycle::Locks(ring)) => ("locks", ring),
+        None => return Text::from_str(alloc, "none"),
+    };
+    let text = format!(in alloc; "{of} {} {}", ring.handler, ring.action)?;
+    Text::from_str(alloc, text.as_str())
 }
 
 /// `yes` or `no`.

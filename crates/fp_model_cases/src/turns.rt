@@ -1,53 +1,71 @@
 use fp_base::{NoMemory, Text};
 use fp_events::Why;
-use fp_run_tests::{Outcome, Run};
+use fp_running::{Running, Turn};
 use std::alloc::Global;
 
-/// An outcome in a word or two. Of a guard and a turn it says whose they are besides.
-fn word_of(outcome: Outcome) -> &'static str {
-    match outcome {
-        Outcome::Stepped => "step",
-        Outcome::NotYet(Why::Full) => "full",
-        Outcome::NotYet(Why::GuardHeld(_)) => "guard of ",
-        Outcome::NotYet(Why::TurnHeld(_)) => "turn of ",
-        Outcome::NotYet(Why::QueueEmpty) => "empty",
-        Outcome::AtLimit => "limit",
-        Outcome::AtEnd => "end",
-        Outcome::Halted => "halt",
-        Outcome::Missing => "no such actor",
+fn cause_of(why: Why) -> &'static str {
+    match why {
+        Why::Full => "full",
+        Why::GuardHeld(_) => "guard of ",
+        Why::TurnHeld(_) => "turn of ",
+        Why::QueueEmpty => "empty",
+    }
+}
+
+/// What a turn came to in a word or two. Of a guard and a turn it says whose they are besides.
+fn word_of(turn: Option<Turn>) -> &'static str {
+    match turn {
+        Some(Turn::Stepped { .. }) => "step",
+        Some(Turn::NotYet { why, .. }) => cause_of(why),
+        Some(Turn::AtLimit) => "limit",
+        Some(Turn::AtEnd) => "end",
+        Some(Turn::Halted) => "halt",
+        None => "no such actor",
     }
 }
 
 /// Who holds what a turn waits for.
-fn holder_of(outcome: Outcome) -> Option<u32> {
-    match outcome {
-        Outcome::NotYet(Why::GuardHeld(holder)) => Some(holder),
-        Outcome::NotYet(Why::TurnHeld(holder)) => Some(holder),
+fn holder_of(turn: Option<Turn>) -> Option<u32> {
+    let Some(Turn::NotYet { why, .. }) = turn else {
+        return None;
+    };
+    match why {
+        Why::GuardHeld(holder) => Some(holder),
+        Why::TurnHeld(holder) => Some(holder),
         _ => None,
     }
 }
 
 /// Adds what a turn came to.
-pub fn add_outcome(alloc: Global, outcome: Outcome, out: &mut Text) -> Result<(), NoMemory> {
-    out.push_str(word_of(outcome))?;
-    if let Some(holder) = holder_of(outcome) {
+pub fn add_turn(alloc: Global, turn: Option<Turn>, out: &mut Text) -> Result<(), NoMemory> {
+    out.push_str(word_of(turn))?;
+    if let Some(holder) = holder_of(turn) {
         let number = format!(in alloc; "{holder}")?;
         out.push_str(number.as_str())?;
     }
     Ok(())
 }
 
+/// A turn of the actor of a number, if there is one.
+pub fn turn_of(alloc: Global, run: &mut Running<'_>, actor: u32) -> Result<Option<Turn>, NoMemory> {
+    if actor < run.actor_count() {
+        let turn = run.turn(alloc, actor)?;
+        return Ok(Some(turn));
+    }
+    Ok(None)
+}
+
 /// Takes a turn of an actor, and says so where it comes to something else.
 fn take_turn(
     alloc: Global,
-    run: &mut Run<'_>,
+    run: &mut Running<'_>,
     actor: u32,
     due: &str,
     out: &mut Text,
 ) -> Result<(), NoMemory> {
-    let outcome = run.turn(alloc, actor)?;
+    let turn = turn_of(alloc, run, actor)?;
     let mut came = Text::new(alloc);
-    add_outcome(alloc, outcome, &mut came)?;
+    add_turn(alloc, turn, &mut came)?;
     if came.as_str() != due {
         let line = format!(in alloc; "{actor}: {} for {due}; ", came.as_str())?;
         out.push_str(line.as_str())?;
@@ -58,7 +76,7 @@ fn take_turn(
 /// Takes so many steps of an actor, or one turn that comes to something else.
 fn take_some(
     alloc: Global,
-    run: &mut Run<'_>,
+    run: &mut Running<'_>,
     actor: u32,
     due: &str,
     out: &mut Text,
@@ -75,7 +93,7 @@ fn take_some(
 /// Takes the turns of a text, each an actor with how many steps it takes, or with what one turn comes to.
 pub fn take_turns(
     alloc: Global,
-    run: &mut Run<'_>,
+    run: &mut Running<'_>,
     turns: &str,
     out: &mut Text,
 ) -> Result<(), NoMemory> {

@@ -1,6 +1,0 @@
-mod Numbering
-mod Placing
-mod Roomy
-mod Answering
-mod Asking
-mod Opened
