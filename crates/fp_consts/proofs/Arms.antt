@@ -29,7 +29,7 @@ use Rattle.fp_consts.proofs.Produced.{number_found, text_found, truth_found, flo
 use Rattle.fp_consts.proofs.Gathering.{gathered_none, gathered_step}
 use Rattle.fp_consts.proofs.Sized.{array_whole, struct_whole, whole_found}
 
-opened_by : (e : Expr) (f : Form) (s : Opened) → e.form ≡ f → f ≡ roll-Form s → opened e ≡ s
+pub opened_by : (e : Expr) (f : Form) (s : Opened) → e.form ≡ f → f ≡ roll-Form s → opened e ≡ s
 opened_by e f s is rolls = ap out-Form (is ∙ rolls) ∙ out-roll-Form s
 
 pub uses_by : (scope : Path) (e : Expr) (f : Form) (uses : List Mention) → e.form ≡ f → in_form scope f ≡ uses → in_expression scope e ≡ uses

@@ -23,7 +23,7 @@ use Rattle.fp_consts.proofs.Arms.{uses_by}
 past_none : (limit next : ℕ) → next ≡ past 0 limit next
 past_none limit next = omega arith
 
-past_twice : (x y l limit a b c : ℕ) → l ≡ x + y → b ≡ max a (min (a + x) limit) → c ≡ max b (min (b + y) limit) → c ≡ max a (min (a + l) limit)
+pub past_twice : (x y l limit a b c : ℕ) → l ≡ x + y → b ≡ max a (min (a + x) limit) → c ≡ max b (min (b + y) limit) → c ≡ max a (min (a + l) limit)
 past_twice x y l limit a b c e f g = omega arith
 
 past_same : {ms ns : List Mention} (limit next reached : ℕ) → ms ≡ ns → IsPast ns limit next reached → IsPast ms limit next reached

@@ -1,16 +1,16 @@
 mod Operators
 mod Wholes
-mod Sizes
+pub mod Sizes
 mod Walks
 mod Given
-mod Measures
+pub mod Measures
 mod Produced
 mod Gathering
 mod Sized
-mod Arms
+pub mod Arms
 mod Grounded
 mod Marked
-mod Counted
+pub mod Counted
 pub mod Valued
 pub mod Tabled
 pub mod Grouped

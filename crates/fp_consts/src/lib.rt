@@ -20,7 +20,4 @@ pub use counting::past_item;
 pub use defining::number_with;
 pub use dotting::with_dots;
 pub use evaluating::{evaluate, evaluate_all};
-pub use examining::examine;
-pub use found::Examination;
 pub use laws::{never_opaque, none_on_cycle};
-pub use measured::Measured;

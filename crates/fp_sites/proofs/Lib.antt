@@ -1,7 +1,7 @@
-mod Preserving
+pub mod Preserving
 mod Walks
-mod ModelWalks
-mod Lists
+pub mod ModelWalks
+pub mod Lists
 mod Words
 mod Expressions
 mod Depths

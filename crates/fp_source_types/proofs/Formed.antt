@@ -74,9 +74,19 @@ form_defines_none scope (type.Text (Some e)) = refl
 form_defines_none scope (type.Use q) = refl
 form_defines_none scope t = refl
 
-size_defines_none : (scope : Path) (o : Option Expr) → length (flat_map definitions_of (in_optional (expression_items 0 scope) o)) ≡ 0
+pub size_defines_none : (scope : Path) (o : Option Expr) → length (flat_map definitions_of (in_optional (expression_items 0 scope) o)) ≡ 0
 size_defines_none scope None = refl
 size_defines_none scope (Some e) = refl
+
+pub field_defines_none : (scope : Path) (f : Member) → length (flat_map definitions_of (field_items scope f)) ≡ 0
+field_defines_none scope f =
+    let sizes = in_optional (expression_items 0 scope) f.size in
+    let none = size_defines_none scope f.size in
+    let nothing = form_defines_none scope f.of.form in
+    ap length (flat_map-append definitions_of sizes (type_items 0 scope f.of)) ∙ both_none (flat_map definitions_of sizes) (flat_map definitions_of (type_items 0 scope f.of)) none nothing
+  where
+    both_none : {A : Type 0} (xs ys : List A) → length xs ≡ 0 → length ys ≡ 0 → length (xs ++ ys) ≡ 0
+    both_none xs ys e g = length-append xs ys ∙ omega arith
 
 module _ (source : Source) (scope : Path) where
   abbrev pub AllStand : ℕ → List Item → Type 0
@@ -151,22 +161,12 @@ module _ (source : Source) (scope : Path) where
         let k = kind_of b f.of.at.first f.of.form e (all_behind (Stands source) sizes (type_items 0 scope f.of) b b (none_more b _ nothing) h) (λ g x. sound g (inr x)) in
         member_of f size.0 k.0 size.1 k.1 k.2
 
-    field_defines_none : (f : Member) → length (flat_map definitions_of (field_items scope f)) ≡ 0
-    field_defines_none f =
-        let sizes = in_optional (expression_items 0 scope) f.size in
-        let none = size_defines_none scope f.size in
-        let nothing = form_defines_none scope f.of.form in
-        ap length (flat_map-append definitions_of sizes (type_items 0 scope f.of)) ∙ both_none (flat_map definitions_of sizes) (flat_map definitions_of (type_items 0 scope f.of)) none nothing
-      where
-        both_none : {A : Type 0} (xs ys : List A) → length xs ≡ 0 → length ys ≡ 0 → length (xs ++ ys) ≡ 0
-        both_none xs ys e g = length-append xs ys ∙ omega arith
-
     pub fields_of : (b k : ℕ) (fs : List Member) → b ≡ u + 1 → AllStand b (flat_map (field_items scope) fs)
         → ((j : ℕ) (f : Member) → slice_get fs j ≡ Some f → (g : Refusal) → BrokenByMember source scope f g → ⊥)
         → (xs : List Field) × AllAt (λ position. FieldIs source scope) k fs xs × ((a : ℕ) × (b : ℕ) × MeasuresFields ws xs a b)
     fields_of b k [] e h sound = ([], tt, (0, 0, no_field))
     fields_of b k (f ∷ fs) e h sound =
-        let none = field_defines_none f in
+        let none = field_defines_none scope f in
         let x = field_of b f e (all_front (Stands source) (field_items scope f) (flat_map (field_items scope) fs) b h) (sound 0 f refl) in
         let xs = fields_of b (suc k) fs e (all_behind (Stands source) (field_items scope f) (flat_map (field_items scope) fs) b b (none_more b _ none) h) (λ j. sound (suc j)) in
         (x.0 ∷ xs.0, (x.1, xs.1), (x.2.0 + xs.2.0, max x.2.1 xs.2.1, field x.2.2 xs.2.2))

@@ -1,12 +1,20 @@
+mod Chained
+mod Counting
 mod Deep
 mod Defined
+pub mod Dotted
+mod Existing
 mod Expressed
 mod Formed
+mod Levels
+mod Listing
 mod Meant
 mod Named
+mod Naming
 mod Numbered
 mod Placed
-mod Resolved
+mod Related
+pub mod Resolved
 mod Resulting
 mod Serving
 mod Sized

@@ -28,7 +28,7 @@ use Rattle.fp_consts.specs.Examined.{HasValue}
 use Rattle.fp_consts.proofs.Grouped.{AreValueNames, value_names}
 use Rattle.fp_consts.proofs.Tabled.{flat_at}
 use Rattle.fp_consts.proofs.Valued.{the_head}
-use Rattle.fp_type_forms.proofs.Only.{no_some}
+use Rattle.fp_type_sizes.proofs.Places.{no_some}
 use Rattle.fp_source_types.proofs.Deep.{IsOf, by_uses}
 use Rattle.fp_source_types.proofs.Expressed.{AreNamesValued, Valued, expression_valued}
 use Rattle.fp_source_types.proofs.Standing.{AllFrom, IsItem, before, from_places, item_of, origin_at, use_at}

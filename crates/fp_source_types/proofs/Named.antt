@@ -28,7 +28,7 @@ use Rattle.fp_meaning.specs.Names.{Path, constant_of, definitions, definitions_o
 use Rattle.fp_meaning.specs.Sites.{Site, in_optional}
 use Rattle.fp_type_forms.specs.Written.{TypeHere, type_here, types, types_in, types_of}
 use Rattle.fp_type_forms.proofs.Following.{items_whole}
-use Rattle.fp_type_forms.proofs.Only.{no_some}
+use Rattle.fp_type_sizes.proofs.Places.{no_some}
 
 -- ---- a type of a source is one of its definitions
 
@@ -133,7 +133,7 @@ pub record AreListed (ds : List Definition) (scope : Path) (d : Enum) : Type 0 w
   pub after : List Definition
   pub whole : ds ≡ before ++ (map (constant_of scope d) d.constants ++ after)
 
-behind_repr : (scope : Path) (d : Enum) (rest : List Item) → (after : List Definition) × (flat_map definitions_of (part_items scope (def.Enum d) ++ rest) ≡ map (constant_of scope d) d.constants ++ after)
+pub behind_repr : (scope : Path) (d : Enum) (rest : List Item) → (after : List Definition) × (flat_map definitions_of (part_items scope (def.Enum d) ++ rest) ≡ map (constant_of scope d) d.constants ++ after)
 behind_repr scope d rest =
     let repr = in_optional (type_items 0 scope) d.repr in
     let listed = constant_items scope d 0 d.constants in
@@ -161,14 +161,15 @@ listed_in is k scope d rest e =
           ∙ ap (λ (l : List Definition). flat_map definitions_of (take (suc k) is) ++ l) (ap (flat_map definitions_of) e ∙ t.1);
     }
 
-module _ (source : Source) (once : IsUnbroken (BrokenByDefinitions source)) (scope : Path) (d : Enum) (listed : AreListed (definitions source) scope d) where
-  there : (i : ℕ) (c : EnumConst) → slice_get d.constants i ≡ Some c → slice_get (definitions source) (length listed.before + i) ≡ Some (constant_of scope d c)
+module _ (source : Source) (scope : Path) (d : Enum) (listed : AreListed (definitions source) scope d) where
+  pub there : (i : ℕ) (c : EnumConst) → slice_get d.constants i ≡ Some c → slice_get (definitions source) (length listed.before + i) ≡ Some (constant_of scope d c)
   there i c e =
       let cs = map (constant_of scope d) d.constants in
       ap (λ (ds : List Definition). slice_get ds (length listed.before + i)) listed.whole
       ∙ get_right listed.before (cs ++ listed.after) (constant_of scope d c) (length listed.before + i) i refl
       (get_front cs listed.after i (constant_of scope d c) (slice_get-map (constant_of scope d) d.constants i ∙ ap (option_map (constant_of scope d)) e))
 
+module _ (source : Source) (once : IsUnbroken (BrokenByDefinitions source)) (scope : Path) (d : Enum) (listed : AreListed (definitions source) scope d) where
   same_name : (b c : EnumConst) → b.name.text ≡ c.name.text → (constant_of scope d b).name ≡ (constant_of scope d c).name
   same_name b c e = ap (λ (n : List ℕ). (scope ++ d.name.text ∷ []) ++ n ∷ []) e
 
@@ -177,11 +178,11 @@ module _ (source : Source) (once : IsUnbroken (BrokenByDefinitions source)) (sco
       let n = length listed.before in
       let earlier : IsNamed (take (n + j) (definitions source)) Value (constant_of scope d c).name (n + i) = record {
         definition = constant_of scope d b;
-        here = get_take (definitions source) (n + j) (n + i) (omega arith) ∙ there i b e;
+        here = get_take (definitions source) (n + j) (n + i) (omega arith) ∙ there source scope d listed i b e;
         of_group = refl;
         of_name = same_name b c same;
       } in
-      once (broken_at DefinedTwice (constant_of scope d c).place) (n + j, constant_of scope d c, there j c f, (refl, (n + i, earlier)))
+      once (broken_at DefinedTwice (constant_of scope d c).place) (n + j, constant_of scope d c, there source scope d listed j c f, (refl, (n + i, earlier)))
 
 pub enumeration_listed : (source : Source) (t : TypeHere) (d : Enum) (i : ℕ) → slice_get (types source) i ≡ Some t → t.definition ≡ def.Enum d → AreListed (definitions source) t.scope d
 enumeration_listed source t d i e is =

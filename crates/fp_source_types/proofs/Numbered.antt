@@ -25,7 +25,7 @@ use Rattle.fp_meaning.specs.Sites.{Entry, Path, Site, in_optional, is_implied}
 use Rattle.fp_meaning.specs.Values.{IsImplied}
 use Rattle.fp_meaning.proofs.Throughout.{all_items}
 use Rattle.fp_type_forms.specs.Broken.{BrokenByParts, ByOptional, HasBoth, IsNoNumber, TypePartsBroken}
-use Rattle.fp_type_forms.proofs.Only.{no_some}
+use Rattle.fp_type_sizes.proofs.Places.{no_some}
 use Rattle.fp_source_types.proofs.Meant.{AreNumbered}
 
 -- ---- a constant stands behind its enumeration

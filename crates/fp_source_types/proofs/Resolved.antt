@@ -13,7 +13,7 @@ use Rattle.fp_meaning.specs.Values.{Opened, opened, Val, IsValue}
 use Rattle.fp_meaning.proofs.OneValue.{one_value}
 use Rattle.fp_consts.specs.Answered.{StandsFor, StandFor}
 use Rattle.fp_consts.specs.Marked.{AreValues}
-use Rattle.fp_type_forms.proofs.Only.{no_some}
+use Rattle.fp_type_sizes.proofs.Places.{no_some}
 use Rattle.fp_source_types.specs.Resolved.{EachIsGiven, is_opaque, mark_of}
 use Rattle.fp_source_types.specs.Typed.{AreTypesOf}
 

@@ -1,10 +1,6 @@
 -- Where a source breaks no rule of constants and of types, each of its types has a form, a size and a default.
-use Rattle.std.proofs.Common.{◌≡◌, ℕ, zero, suc, ◌+◌, ◌<◌, ◌≤◌, ◌⊎◌, inl, inr, List, [], ◌∷◌, ◌++◌, length, drop, map, flat_map, take, slice_get, Option, Some, None, option_map, refl, sym, ap, subst, ◌∙◌, arith, length-append}
-use Rattle.std.proofs.lemmas.Grind.{flat_map-append}
-use Rattle.std.proofs.lemmas.List.{append-nil, take-append-drop}
+use Rattle.std.proofs.Common.{◌≡◌, ℕ, suc, ◌+◌, ◌<◌, ◌≤◌, ◌⊎◌, inl, inr, List, [], ◌∷◌, length, map, flat_map, take, slice_get, Option, Some, None, option_map, refl, sym, ap, subst, ◌∙◌, arith}
 use Rattle.std.proofs.lemmas.Option.{slice_get-map}
-use Rattle.fp_base.proofs.Lists.{take_next}
-use Rattle.fp_base.proofs.Options.{same_some}
 use Rattle.fp_base.proofs.Spots.{before_or_not, item_below}
 use Rattle.fp_base.specs.declared.place.Place.{Place}
 use Rattle.fp_base.specs.declared.rule.Rule.TheVariants.{ValueTooLarge}
@@ -37,9 +33,8 @@ use Rattle.fp_type_sizes.specs.declared.written.Own.TheVariants as own
 use Rattle.fp_type_sizes.specs.Sizes.{IsOfSize, IsTooLarge, Measures, named}
 use Rattle.fp_type_sizes.proofs.Limits.{HasSize}
 use Rattle.fp_type_forms.specs.Broken.{BrokenByEnum}
-use Rattle.fp_type_forms.specs.Written.{AllAt, AreWritten, EnumeratedIs, FormIs, IsWritten, OwnIs, TypeHere, type_here, type_count, types, types_among, types_before, types_in, types_of}
+use Rattle.fp_type_forms.specs.Written.{AllAt, AreWritten, EnumeratedIs, FormIs, IsWritten, OwnIs, TypeHere, types, types_before, types_of}
 use Rattle.fp_type_forms.proofs.Following.{items_whole}
-use Rattle.fp_type_forms.proofs.Only.{no_some}
 use Rattle.fp_types.specs.Converting.{HasOwn}
 use Rattle.fp_types.specs.Faults.{IsBadDefault}
 use Rattle.fp_types.specs.Unbroken.{AreUnbroken}
@@ -47,86 +42,17 @@ use Rattle.fp_source_types.specs.Broken.{TypesBrokenBy}
 use Rattle.fp_source_types.specs.Listed.{EnumsHaveConstants, HasConstants}
 use Rattle.fp_source_types.specs.Places.{default_place, name_place}
 use Rattle.fp_source_types.proofs.Deep.{IsOf, by_uses}
+use Rattle.fp_source_types.proofs.Counting.{type_of, types_at, before_one}
 use Rattle.fp_source_types.proofs.Defined.{FormSized, default_valued, formed}
 use Rattle.fp_source_types.proofs.Expressed.{Valued}
 use Rattle.fp_source_types.proofs.Meant.{Stands, all_stand, defines_none}
 use Rattle.fp_source_types.proofs.Named.{sited}
 use Rattle.fp_source_types.proofs.Numbered.{are_numbered}
 use Rattle.fp_source_types.proofs.Standing.{AllFrom, IsItem, all_drop, all_front, before, item_of}
-use Rattle.fp_source_types.proofs.WellMade.{related_at}
-
--- ---- how many types stand before a definition
-
-take_front : {A : Type 0} (xs ys : List A) → take (length xs) (xs ++ ys) ≡ xs
-take_front [] ys = refl
-take_front (x ∷ xs) ys = ap (λ l. x ∷ l) (take_front xs ys)
-
-none_more : (n : ℕ) → 0 + n ≡ n
-none_more n = omega arith
-
-count_of : (scope : Path) (d : Def) → type_count (defined (group_of d) scope (name_of d)) ≡ length (types_in scope d)
-count_of scope (def.Constant d) = refl
-count_of scope (def.Abstract d) = refl
-count_of scope (def.Alias d) = refl
-count_of scope (def.Array d) = refl
-count_of scope (def.Struct d) = refl
-count_of scope (def.Enum d) = refl
-count_of scope (def.Port d) = refl
-
-types_counted : (is : List Item) → types_among (flat_map definitions_of is) ≡ length (flat_map types_of is)
-types_counted [] = refl
-types_counted (item.Defined s ∷ is) =
-    ap (λ (n : ℕ). n + types_among (flat_map definitions_of is)) (count_of s.scope s.definition)
-    ∙ ap (λ (n : ℕ). length (types_in s.scope s.definition) + n) (types_counted is) ∙ sym (length-append (types_in s.scope s.definition) (flat_map types_of is))
-types_counted (item.Enumerated e ∷ is) = none_more _ ∙ types_counted is
-types_counted (item.Used since n ∷ is) = types_counted is
-types_counted (item.Written since w ∷ is) = types_counted is
-
-types_at : (is : List Item) (p : ℕ) → types_before (flat_map definitions_of is) (before is p) ≡ length (flat_map types_of (take p is))
-types_at is p =
-    ap (λ (ds : List Definition). types_among (take (before is p) ds))
-    (ap (flat_map definitions_of) (sym (take-append-drop p is)) ∙ flat_map-append definitions_of (take p is) (drop p is))
-    ∙ ap types_among (take_front (flat_map definitions_of (take p is)) (flat_map definitions_of (drop p is))) ∙ types_counted (take p is)
-
-before_one : (is : List Item) (p : ℕ) (i : Item) → slice_get is p ≡ Some i → before is p + length (definitions_of i) ≡ 0 + before is (suc p)
-before_one is p i at =
-    let next : suc p ≡ p + 1 = omega arith in
-    let whole : flat_map definitions_of (take (suc p) is) ≡ flat_map definitions_of (take p is) ++ definitions_of i =
-    ap (λ (n : ℕ). flat_map definitions_of (take n is)) next ∙ ap (flat_map definitions_of) (take_next is p i at) ∙ flat_map-append definitions_of (take p is) (i ∷ [])
-    ∙ ap (λ (ds : List Definition). flat_map definitions_of (take p is) ++ ds) (append-nil (definitions_of i)) in
-    let long : length (flat_map definitions_of (take (suc p) is)) ≡ length (flat_map definitions_of (take p is)) + length (definitions_of i) =
-    ap length whole ∙ length-append (flat_map definitions_of (take p is)) (definitions_of i) in
-    let same : length (flat_map definitions_of (take p is)) + length (definitions_of i) ≡ 0 + length (flat_map definitions_of (take (suc p) is)) = omega arith in
-    same
+use Rattle.fp_source_types.proofs.Related.{related_at, related_to}
 
 not_value : group.Value ≡ group.Kind → ⊥
 not_value e = cc
-
--- a type definition is a type
-record IsHere (scope : Path) (d : Def) : Type 0 where
-  type : TypeHere
-  here : types_in scope d ≡ type ∷ []
-  in_scope : type.scope ≡ scope
-  of_definition : type.definition ≡ d
-
-type_of : (scope : Path) (d : Def) → group_of d ≡ group.Kind → IsHere scope d
-type_of scope (def.Constant d) is = absurd (cc)
-type_of scope (def.Port d) is = absurd (cc)
-type_of scope (def.Abstract d) is = record { type = type_here scope d.name (def.Abstract d) None d.note; here = refl; in_scope = refl; of_definition = refl }
-type_of scope (def.Alias d) is = record { type = type_here scope d.name (def.Alias d) None d.note; here = refl; in_scope = refl; of_definition = refl }
-type_of scope (def.Array d) is = record { type = type_here scope d.name (def.Array d) d.default d.note; here = refl; in_scope = refl; of_definition = refl }
-type_of scope (def.Struct d) is = record { type = type_here scope d.name (def.Struct d) d.default d.note; here = refl; in_scope = refl; of_definition = refl }
-type_of scope (def.Enum d) is = record { type = type_here scope d.name (def.Enum d) d.default d.note; here = refl; in_scope = refl; of_definition = refl }
-
--- what is related to what stands at a place
-related_to : {A B : Type 0} (R : ℕ → A → B → Type 0) (k : ℕ) (xs : List A) (ys : List B) (i j : ℕ) (x : A) → j ≡ k + i → AllAt R k xs ys → slice_get xs i ≡ Some x
-    → (y : B) × (slice_get ys i ≡ Some y) × R j x y
-related_to R k [] ys i j x is all e = no_some e
-related_to R k (z ∷ xs) [] i j x is all e = absurd all
-related_to R k (z ∷ xs) (y ∷ ys) zero j x is all e =
-    let at : k ≡ j = omega arith in
-    (y, refl, subst (λ (n : ℕ). R n x y) at (subst (λ v. R k v y) (same_some e) all.0))
-related_to R k (z ∷ xs) (y ∷ ys) (suc i) j x is all e = related_to R (suc k) xs ys i j x (omega arith) all.1 e
 
 -- an enumeration without constants is written without constants
 no_constants : (source : Source) (scope : Path) (d : Def) (k : Kind) → FormIs source scope d (form.Enum k []) → HasConstants d → ⊥

@@ -19,7 +19,7 @@ use Rattle.fp_meaning.specs.Names.{definitions, definitions_of, mentions, uses_o
 use Rattle.fp_meaning.specs.Origins.{Origin, origins_of}
 use Rattle.fp_meaning.specs.Owners.{owner_of, owners_from}
 use Rattle.fp_meaning.specs.Uses.{Uses, by_name}
-use Rattle.fp_type_forms.proofs.Only.{no_some}
+use Rattle.fp_type_sizes.proofs.Places.{no_some}
 
 plus_none : (n : ℕ) → n + 0 ≡ n
 plus_none n = omega arith
@@ -106,23 +106,33 @@ owner_within is p (item.Enumerated e) at some = within_at is p (item.Enumerated 
 owner_within is p (item.Used since n) at some = let all = before_all is p in omega arith
 owner_within is p (item.Written since w) at some = let all = before_all is p in omega arith
 
-module _ (source : Source) (meanings : List ℕ) (meant : AreMeanings (definitions source) (mentions source) meanings) where
+module _ (source : Source) where
   -- what a use means is used by the definition that has the item with the use
-  pub use_at : (p : ℕ) (i : Item) (j : ℕ) (m : Mention) → slice_get (items source) p ≡ Some i → slice_get (uses_of i) j ≡ Some m
+  pub means_used : (p : ℕ) (i : Item) (j : ℕ) (m : Mention) (number : ℕ) → slice_get (items source) p ≡ Some i → slice_get (uses_of i) j ≡ Some m
+      → Means (definitions source) m.scope m.name m.group number → Uses (items source) (owner_of (0 + before (items source) p) i) number
+  means_used p i j m number at there means =
+      let is = items source in
+      let k : ℕ = length (flat_map uses_of (take p is)) + j in
+      let mentioned : slice_get (mentions source) k ≡ Some m = flat_at uses_of is p i j m at there in
+      let defined : number < length (definitions source) = slice_get_within (definitions source) number means.meant.named.definition means.meant.named.here in
+      let some : 0 < length (definitions source) = omega arith in
+      let none_before : before is p ≡ 0 + before is p = omega arith in
+      let within : owner_of (0 + before is p) i < length (definitions source) =
+      subst (λ (b : ℕ). owner_of b i < length (definitions source)) none_before (owner_within is p i at some) in
+      by_name k m within (owned 0 is p i j at (slice_get_within (uses_of i) j m there)) mentioned means
+
+  -- each use means something
+  pub use_at : (meanings : List ℕ) → AreMeanings (definitions source) (mentions source) meanings → (p : ℕ) (i : Item) (j : ℕ) (m : Mention)
+      → slice_get (items source) p ≡ Some i → slice_get (uses_of i) j ≡ Some m
       → (number : ℕ) × Means (definitions source) m.scope m.name m.group number × Uses (items source) (owner_of (0 + before (items source) p) i) number
-  use_at p i j m at there =
+  use_at meanings meant p i j m at there =
       let is = items source in
       let k : ℕ = length (flat_map uses_of (take p is)) + j in
       let mentioned : slice_get (mentions source) k ≡ Some m = flat_at uses_of is p i j m at there in
       let below : k < length (mentions source) = slice_get_within (mentions source) k m mentioned in
       let n = item_below meanings k (subst (λ (l : ℕ). k < l) (sym meant.each) below) in
       let means = meant.meant k m n.0 mentioned n.1 in
-      let defined : n.0 < length (definitions source) = slice_get_within (definitions source) n.0 means.meant.named.definition means.meant.named.here in
-      let some : 0 < length (definitions source) = omega arith in
-      let none_before : before is p ≡ 0 + before is p = omega arith in
-      let within : owner_of (0 + before is p) i < length (definitions source) =
-      subst (λ (b : ℕ). owner_of b i < length (definitions source)) none_before (owner_within is p i at some) in
-      (n.0, means, by_name k m within (owned 0 is p i j at (slice_get_within (uses_of i) j m there)) mentioned means)
+      (n.0, means, means_used p i j m n.0 at there means)
 
 -- ---- the item that is the definition with a number
 

@@ -1,5 +1,5 @@
 -- What is written of types that break no rule is well written, where each type is given.
-use Rattle.std.proofs.Common.{◌≡◌, ℕ, zero, suc, ◌+◌, ◌<◌, ◌≤◌, inl, inr, Bool, true, false, not, ◌&&◌, ◌||◌, ℤ, pos, int_le, List, [], ◌∷◌, ◌++◌, map, Option, Some, None, option_map, slice_get, refl, sym, ap, ◌∙◌, subst, arith}
+use Rattle.std.proofs.Common.{◌≡◌, ℕ, suc, ◌+◌, ◌<◌, ◌≤◌, inl, inr, Bool, true, false, not, ◌&&◌, ℤ, int_le, List, [], ◌∷◌, ◌++◌, map, Option, Some, None, slice_get, refl, sym, ap, ◌∙◌, subst, arith}
 use Rattle.std.specs.List.{list_all, list_any}
 use Rattle.std.specs.Prelude.{nat_le}
 use Rattle.std.specs.Str.{bytes_eq}
@@ -7,7 +7,7 @@ use Rattle.std.proofs.lemmas.Bool.Decides.{nat_tests}
 use Rattle.std.proofs.lemmas.Option.{slice_get-map, slice_get_within}
 use Rattle.std.proofs.lemmas.Slice.Eq.{bytes_eq-Decides}
 use Rattle.fp_base.proofs.Bools.{join}
-use Rattle.fp_base.proofs.Options.{mapped_some, same_some}
+use Rattle.fp_base.proofs.Options.{mapped_some}
 use Rattle.fp_base.proofs.Spots.{item_below}
 use Rattle.fp_base.specs.declared.refusal.Refusal.{Refusal}
 use Rattle.fp_base.specs.declared.rule.Rule.TheVariants.{BadMember, OutsideType}
@@ -20,7 +20,6 @@ use Rattle.fp_tree.specs.declared.definition.Enum.{Enum}
 use Rattle.fp_tree.specs.declared.definition.Struct.{Struct}
 use Rattle.fp_tree.specs.declared.expression.Expr.{Expr}
 use Rattle.fp_tree.specs.declared.name.Name.{Name}
-use Rattle.fp_tree.specs.declared.type_name.TypeName.{TypeName}
 use Rattle.fp_tree.specs.declared.part.EnumConst.{EnumConst}
 use Rattle.fp_tree.specs.declared.part.Field.{Field as Member}
 use Rattle.fp_tables.specs.Components.{is_from_1_to}
@@ -40,41 +39,22 @@ use Rattle.fp_meaning.specs.Values.{dotted}
 use Rattle.fp_type_sizes.specs.declared.written.WrittenType.{WrittenType}
 use Rattle.fp_type_sizes.specs.Sizes.{HasForm, IsInteger, IsOfSize, MeasuresForm, enum}
 use Rattle.fp_type_sizes.proofs.Limits.{form_measured}
-use Rattle.fp_type_forms.specs.Broken.{BrokenByEnum, HasRange, IsOutside, RepeatsMember, constant_place}
-use Rattle.fp_type_forms.specs.Written.{AllAt, AreWritten, ConstantIs, ConstantsAre, EnumeratedIs, FieldIs, FieldsAre, FormIs, IsArraySize, IsWritten, ReprIs, SizeIs, TypeHere, field_with, types}
-use Rattle.fp_type_forms.proofs.Only.{no_some}
+use Rattle.fp_type_forms.specs.Broken.{BrokenByEnum, HasRange, RepeatsMember, constant_place}
+use Rattle.fp_type_forms.specs.Written.{AllAt, EnumeratedIs, FieldIs, FormIs, IsWritten, ReprIs, SizeIs, TypeHere, types}
+use Rattle.fp_type_forms.proofs.Breaking.{any_holds}
 use Rattle.fp_types.specs.Converting.{DefaultIs, IsWithin}
-use Rattle.fp_types.specs.WellWritten.{AllGiven, AreWellWritten, HasOwnConstants, IsOwnConstant}
+use Rattle.fp_types.specs.WellWritten.{AreWellWritten, HasOwnConstants, IsOwnConstant}
 use Rattle.fp_source_types.specs.Broken.{TypesBroken, TypesBrokenBy}
 use Rattle.fp_source_types.specs.Typed.{AreTypesOf}
 use Rattle.fp_source_types.proofs.Named.{constants_differ, enumeration_listed, sited}
-
--- ---- what stands at a place of two lists that are related place by place
-
-pub related_at : {A B : Type 0} (R : ℕ → A → B → Type 0) (k : ℕ) (xs : List A) (ys : List B) (i j : ℕ) (y : B) → j ≡ k + i → AllAt R k xs ys → slice_get ys i ≡ Some y
-    → (x : A) × (slice_get xs i ≡ Some x) × R j x y
-related_at R k [] [] i j y is all e = no_some e
-related_at R k [] (z ∷ ys) i j y is all e = absurd all
-related_at R k (x ∷ xs) [] i j y is all e = absurd all
-related_at R k (x ∷ xs) (z ∷ ys) zero j y is all e =
-    let at : k ≡ j = omega arith in
-    (x, refl, subst (λ (n : ℕ). R n x y) at (subst (λ v. R k x v) (same_some e) all.0))
-related_at R k (x ∷ xs) (z ∷ ys) (suc i) j y is all e = related_at R (suc k) xs ys i j y (omega arith) all.1 e
+use Rattle.fp_source_types.proofs.Related.{related_at}
 
 -- ---- texts that differ
 
-any_place : {A : Type 0} (p : A → Bool) (xs : List A) → list_any p xs ≡ true → (k : ℕ) × (x : A) × (slice_get xs k ≡ Some x) × (p x ≡ true)
-any_place p [] h = absurd (cc)
-any_place {A = A} p (x ∷ xs) h = go (p x) refl (any_place p xs)
-  where
-    go : (b : Bool) → p x ≡ b → (list_any p xs ≡ true → (k : ℕ) × (y : A) × (slice_get xs k ≡ Some y) × (p y ≡ true)) → (k : ℕ) × (y : A) × (slice_get (x ∷ xs) k ≡ Some y) × (p y ≡ true)
-    go true is rest = (0, x, refl, is)
-    go false is rest = let t = rest (sym (ap (λ (b : Bool). b || list_any p xs) is) ∙ h) in (suc t.0, t.1, t.2, t.3)
-
-same_text : (a b : List ℕ) → bytes_eq a b ≡ true → a ≡ b
+pub same_text : (a b : List ℕ) → bytes_eq a b ≡ true → a ≡ b
 same_text a b e = (bytes_eq-Decides a b).0 e
 
-differ : (ns : List (List ℕ)) → ((i j : ℕ) (n : List ℕ) → i < j → slice_get ns i ≡ Some n → slice_get ns j ≡ Some n → ⊥) → texts_differ ns ≡ true
+pub differ : (ns : List (List ℕ)) → ((i j : ℕ) (n : List ℕ) → i < j → slice_get ns i ≡ Some n → slice_get ns j ≡ Some n → ⊥) → texts_differ ns ≡ true
 differ [] apart = refl
 differ (n ∷ ns) apart =
     join (not (list_any (bytes_eq n) ns)) (texts_differ ns) (none (list_any (bytes_eq n) ns) refl) (differ ns (λ i j m low e f. apart (suc i) (suc j) m (omega arith) e f))
@@ -82,10 +62,10 @@ differ (n ∷ ns) apart =
     none : (b : Bool) → list_any (bytes_eq n) ns ≡ b → not (list_any (bytes_eq n) ns) ≡ true
     none false e = ap not e
     none true e =
-        let p = any_place (bytes_eq n) ns e in
+        let p = any_holds (bytes_eq n) ns e in
         absurd (apart 0 (suc p.0) n (omega arith) refl (p.2 ∙ ap (λ (m : List ℕ). Some m) (sym (same_text n p.1 p.3))))
 
-named_back : {A : Type 0} (name : A → List ℕ) (xs : List A) (k : ℕ) (n : List ℕ) → slice_get (map name xs) k ≡ Some n → (x : A) × (slice_get xs k ≡ Some x) × (name x ≡ n)
+pub named_back : {A : Type 0} (name : A → List ℕ) (xs : List A) (k : ℕ) (n : List ℕ) → slice_get (map name xs) k ≡ Some n → (x : A) × (slice_get xs k ≡ Some x) × (name x ≡ n)
 named_back name xs k n e = mapped_some name (slice_get xs k) n (sym (slice_get-map name xs k) ∙ e)
 
 -- ---- sizes

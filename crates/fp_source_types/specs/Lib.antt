@@ -4,3 +4,4 @@ pub mod Typed
 pub mod Used
 pub mod Listed
 pub mod Resolved
+pub mod Named

@@ -8,7 +8,11 @@ mod places;
 mod resolving;
 mod typing;
 
-pub use laws::{unbroken_types_are_sound, unbroken_types_exist};
+pub use laws::{
+    listed_items_have_constants, names_in_types_are_names, type_names_are_qualified,
+    type_names_differ, unbroken_chains_are_short, unbroken_types_are_sound, unbroken_types_exist,
+    unbroken_values_exist, values_are_of_size,
+};
 pub use marks::TypeMarks;
-pub use resolving::resolve_types;
-pub use typing::types_all;
+pub use resolving::{given_among, resolve_types};
+pub use typing::{types_all, types_in};

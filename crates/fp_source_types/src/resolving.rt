@@ -92,8 +92,8 @@ fn is_opaque(value: &Value) -> bool
     }
 }
 
-/// The types that are given.
-fn given_among(alloc: Global, marks: Row<Option<TypeDef>>) -> Result<Row<TypeDef>, NoMemory>
+/// The types that are given, in their order.
+pub fn given_among(alloc: Global, marks: Row<Option<TypeDef>>) -> Result<Row<TypeDef>, NoMemory>
     ensures { IfOk result (λ given. given ≡ flat_map option_to_list marks) }
 {
     let mut given = Row::with_capacity(alloc, marks.len())?;

@@ -6,11 +6,13 @@ ghost use Rattle.fp_meaning.specs.Meaning.{AreMeanings};
 ghost use Rattle.fp_meaning.specs.Names.{definitions, definitions_of, mentions, uses_of};
 ghost use Rattle.fp_meaning.specs.Origins.{expressions};
 ghost use Rattle.fp_meaning.specs.Uses.{BrokenByChains};
+ghost use Rattle.fp_type_forms.specs.Resolved.{AreItemsOf};
 ghost use Rattle.fp_type_forms.specs.Written.{types_of};
 ghost use Rattle.fp_type_sizes.specs.Found.{AreExtents};
 ghost use Rattle.fp_type_sizes.specs.Large.{IsTypeLarge};
 ghost use Rattle.fp_types.specs.Faults.{IsBadDefault};
-ghost use Rattle.fp_source_types.specs.Broken.{TypesBroken, TypesBrokenBy};
+ghost use Rattle.fp_tree.specs.declared.source.Source.{Source as Files};
+ghost use Rattle.fp_source_types.specs.Broken.{TypesBroken, WholesBroken};
 ghost use Rattle.fp_source_types.specs.Places.{default_place, name_place};
 ghost use Rattle.fp_source_types.specs.Typed.{AreTypesOf};
 
@@ -21,7 +23,7 @@ use fp_base::{NoMemory, Refusal, Value, lesser};
 use fp_layout::{definitions_in, lay_out};
 use fp_meaning::{Item, Marks};
 use fp_tree::{Source, Uses};
-use fp_type_forms::{form_faults, types_written};
+use fp_type_forms::{form_faults_in, resolve_items, types_written_in};
 use fp_type_sizes::{TypeExtent, WrittenType, extents, large_types};
 use fp_types::{bad_defaults, defaults, given};
 use fp_uses::{Users, chain_faults, sorted_uses};
@@ -55,7 +57,25 @@ pub fn types_from(
     ensures at { IfOk result (λ types. AreTypesOf source.now types.at) }
     ensures first { IfOk result (λ types. IsLeast (TypesBroken source.now) types.first) }
 {
-    let written = types_written(alloc, source, uses, values)?;
+    let layout = lay_out(alloc, source)?;
+    let items = layout.items();
+    types_in(alloc, items, uses, values)
+}
+
+/// The types of a source that is laid out flat: the same from its items.
+pub fn types_in(
+    alloc: Global,
+    items: &[Item],
+    uses: &Uses,
+    values: &[Option<Value>],
+) -> Result<TypeMarks, NoMemory>
+    requires meanings { AreMeanings (flat_map definitions_of items.now) (flat_map uses_of items.now) uses.now.meanings }
+    ensures at { IfOk result (λ types. (source : Files) → AreItemsOf source items.now uses.now.meanings values.now → AreTypesOf source types.at) }
+    ensures first { IfOk result (λ types. (source : Files) → AreItemsOf source items.now uses.now.meanings values.now → IsLeast (TypesBroken source) types.first) }
+{
+    let resolved = resolve_items(alloc, items, uses, values)?;
+    let resolutions = resolved.as_slice();
+    let written = types_written_in(alloc, items, resolutions, values)?;
     let types = written.as_slice();
     if types.len() > u32::MAX as usize {
         return Err(NoMemory);
@@ -64,35 +84,31 @@ pub fn types_from(
     let order = ordered.as_slice();
     let measured = extents(alloc, types, order)?;
     let sizes = measured.as_slice();
-    let first = first_broken(alloc, source, uses, values, types, sizes)?;
+    let parts = form_faults_in(alloc, items, sizes, resolutions, values)?;
+    let wholes = wholes_broken(alloc, items, uses, types, sizes)?;
+    let first = lesser(parts, wholes);
     let found = defaults(alloc, types, sizes, order)?;
     let at = given(alloc, types, found.as_slice())?;
     Ok(TypeMarks { at, first })
 }
 
-/// The least rule that is broken by what is written of the types.
-fn first_broken(
+/// The least rule that types break each as a whole, by their names, their sizes and their defaults.
+fn wholes_broken(
     alloc: Global,
-    source: &Source,
+    items: &[Item],
     uses: &Uses,
-    values: &[Option<Value>],
     types: &[WrittenType],
     sizes: &[Option<TypeExtent>],
 ) -> Result<Option<Refusal>, NoMemory>
-    requires meanings { AreMeanings (definitions source.now) (mentions source.now) uses.now.meanings }
-    requires values { AreValues source.now (expressions source.now) values.now }
+    requires meanings { AreMeanings (flat_map definitions_of items.now) (flat_map uses_of items.now) uses.now.meanings }
     requires sizes { AreExtents types.now sizes.now }
-    ensures { IfOk result (IsLeast (TypesBrokenBy source.now types.now)) }
+    ensures { IfOk result (IsLeast (WholesBroken items.now types.now)) }
 {
-    let parts = form_faults(alloc, source, uses, values, types, sizes)?;
-    let layout = lay_out(alloc, source)?;
-    let items = layout.items();
     let chains = chains_broken(alloc, items, uses)?;
     let large = sizes_broken(alloc, items, types, sizes)?;
     let unfit = defaults_broken(alloc, items, types, sizes)?;
     let of_values = lesser(large, unfit);
-    let of_forms = lesser(parts, of_values);
-    Ok(lesser(chains, of_forms))
+    Ok(lesser(chains, of_values))
 }
 
 /// The least of the cycles, and of the chains that are too long, of types.

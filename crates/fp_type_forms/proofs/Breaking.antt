@@ -32,7 +32,7 @@ use Rattle.fp_type_forms.specs.declared.resolving.Resolution.{Resolution}
 use Rattle.fp_type_forms.specs.Broken.{BrokenByForm, BrokenByNumber, BrokenBySize, ByOptional, HasBoth, IsMixed, IsNoNumber, LeastOfAll, is_size, no_number, number_fault, size_fault, value_fault, written_fault}
 use Rattle.fp_type_forms.specs.Written.{IsOnly, primitive}
 use Rattle.fp_type_forms.specs.Resolved.{IsMarkOf, AreResolved, Moves, Takes, marked_value, parts_of_item, value_resolved}
-use Rattle.fp_type_forms.proofs.Only.{no_some}
+use Rattle.fp_type_sizes.proofs.Places.{no_some}
 use Rattle.fp_type_forms.proofs.Taking.{items_from, items_next, taken_as, taken_expression, taken_nothing, taken_then}
 use Rattle.fp_type_forms.proofs.Adding.{parts_resolved}
 
@@ -165,7 +165,7 @@ all_fails {A = A} p (x ∷ xs) h = go (p x) refl (all_fails p xs)
     go false is rest = (0, x, refl, is)
     go true is rest = let t = rest (sym (ap (λ (b : Bool). b && list_all p xs) is) ∙ h) in (suc t.0, t.1, t.2, t.3)
 
-any_holds : {A : Type 0} (p : A → Bool) (xs : List A) → list_any p xs ≡ true → (k : ℕ) × (x : A) × (slice_get xs k ≡ Some x) × (p x ≡ true)
+pub any_holds : {A : Type 0} (p : A → Bool) (xs : List A) → list_any p xs ≡ true → (k : ℕ) × (x : A) × (slice_get xs k ≡ Some x) × (p x ≡ true)
 any_holds p [] h = not_both h refl
 any_holds {A = A} p (x ∷ xs) h = go (p x) refl (any_holds p xs)
   where

@@ -1,5 +1,5 @@
 -- Behind a definition stand its parts.
-use Rattle.std.proofs.Common.{◌≡◌, ℕ, zero, suc, List, [], ◌∷◌, ◌++◌, drop, flat_map, map, slice_get, Option, Some, None, sym, ap, ◌∙◌, subst, append_assoc}
+use Rattle.std.proofs.Common.{◌≡◌, ℕ, zero, suc, List, [], ◌∷◌, ◌++◌, drop, flat_map, slice_get, Option, Some, None, sym, ap, ◌∙◌, append_assoc}
 use Rattle.std.specs.List.{AllByRecursion}
 use Rattle.std.proofs.lemmas.List.{append-nil}
 use Rattle.fp_base.proofs.Lists.{each_append, each_flat, each_of_any, of_item}
@@ -22,7 +22,7 @@ use Rattle.fp_meaning.proofs.Throughout.{all_items}
 
 -- ---- no definition stands among the parts of one
 
-abbrev IsPart : Item → Type 0
+abbrev pub IsPart : Item → Type 0
 IsPart (item.Defined s) = ⊥
 IsPart _ = Unit {0}
 
@@ -52,7 +52,7 @@ both_parts xs ys h k = each_append IsPart xs ys h k
 field_parts : (scope : Path) (f : Field) → AreParts (field_items scope f)
 field_parts scope f = both_parts (in_optional (expression_items 0 scope) f.size) (type_items 0 scope f.of) (expression_parts 0 scope f.size) (form_parts 0 scope f.of.form)
 
-are_parts : (scope : Path) (d : Def) → AreParts (part_items scope d)
+pub are_parts : (scope : Path) (d : Def) → AreParts (part_items scope d)
 are_parts scope (def.Constant d) = tt
 are_parts scope (def.Abstract d) = tt
 are_parts scope (def.Alias d) = form_parts 0 scope d.target.form

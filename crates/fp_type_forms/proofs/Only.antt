@@ -2,11 +2,9 @@
 use Rattle.std.proofs.Common.{◌≡◌, ℕ, suc, ◌+◌, List, [], ◌∷◌, ◌++◌, length, Option, Some, None, option_map, refl, sym, ap, ◌∙◌, subst, arith}
 use Rattle.std.specs.Prelude.{option_and_then}
 use Rattle.fp_base.proofs.Options.{same_some}
+use Rattle.fp_type_sizes.proofs.Places.{no_some}
 use Rattle.fp_type_forms.specs.Written.{IsOnly, AllAt}
 use Rattle.fp_type_forms.specs.Resolved.{both_there, one_more}
-
-pub no_some : {A B : Type 0} {x : A} → None ≡ Some x → B
-no_some e = absurd (cc)
 
 pub only_same : {A : Type 0} (P : A → Type 0) {o q : Option A} → q ≡ o → IsOnly P o → IsOnly P q
 only_same P e h = subst (λ x. IsOnly P x) (sym e) h

@@ -13,6 +13,7 @@ use Rattle.fp_meaning.specs.declared.item.Item.TheVariants as item
 use Rattle.fp_meaning.specs.Names.{Path, definitions, mentioned, mentions, in_optional, uses_of}
 use Rattle.fp_meaning.specs.Origins.{placed, one, expressions, expressions_of}
 use Rattle.fp_meaning.specs.Sites.{Naming}
+use Rattle.fp_consts.proofs.Counted.{past_twice}
 use Rattle.fp_consts.specs.Laid.{past}
 use Rattle.fp_type_forms.specs.declared.resolving.Resolution.{Resolution}
 use Rattle.fp_type_forms.specs.declared.resolving.Resolution.TheVariants as resolution
@@ -39,9 +40,6 @@ flat_there f (z ∷ xs) (suc k) x y ys at is =
 flat_more : {A B : Type 0} (f : A → List B) (xs : List A) (k : ℕ) (x : A) → slice_get xs k ≡ Some x → flat_map f (take (k + 1) xs) ≡ flat_map f (take k xs) ++ f x
 flat_more f xs k x at =
     ap (flat_map f) (take_next xs k x at) ∙ flat_map-append f (take k xs) (x ∷ []) ∙ ap (λ l. flat_map f (take k xs) ++ l) (append-nil (f x))
-
-past_twice : (x y l limit a b c : ℕ) → l ≡ x + y → b ≡ max a (min (a + x) limit) → c ≡ max b (min (b + y) limit) → c ≡ max a (min (a + l) limit)
-past_twice x y l limit a b c e f g = omega arith
 
 past_more : {A B : Type 0} (f : A → List B) (xs : List A) (k : ℕ) (x : A) (limit b c : ℕ) → slice_get xs k ≡ Some x → b ≡ past (length (flat_map f (take k xs))) limit 0
     → c ≡ past (length (f x)) limit b → c ≡ past (length (flat_map f (take (k + 1) xs))) limit 0

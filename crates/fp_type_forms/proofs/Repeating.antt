@@ -23,7 +23,7 @@ use Rattle.fp_type_forms.specs.declared.resolving.Resolution.{Resolution}
 use Rattle.fp_type_forms.specs.Broken.{IsRepeated, is_number, repeat_of}
 use Rattle.fp_type_forms.specs.Written.{ConstantIs, IsOnly}
 use Rattle.fp_type_forms.specs.Resolved.{Takes}
-use Rattle.fp_type_forms.proofs.Only.{no_some}
+use Rattle.fp_type_sizes.proofs.Places.{no_some}
 use Rattle.fp_type_forms.proofs.Taking.{items_from, items_next, taken_as, taken_nothing, taken_then}
 use Rattle.fp_type_forms.proofs.Breaking.{least_of_all, not_both}
 

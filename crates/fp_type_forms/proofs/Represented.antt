@@ -29,7 +29,8 @@ use Rattle.fp_type_forms.specs.Broken.{BrokenByEnum, HasRange, IsBadRepr, IsFloa
 use Rattle.fp_type_forms.specs.Tested.{IsBeyond, beyond_fault, extent_of, is_float, is_no_integer, is_within, range_in, range_of, range_with, repr_fault}
 use Rattle.fp_type_forms.specs.Written.{ConstantIs, IsOnly, KindIs, ReprIs}
 use Rattle.fp_type_forms.proofs.Breaking.{not_both}
-use Rattle.fp_type_forms.proofs.Only.{no_some, only_same}
+use Rattle.fp_type_forms.proofs.Only.{only_same}
+use Rattle.fp_type_sizes.proofs.Places.{no_some}
 
 none_is : {A : Type 0} (o : Option A) → is_none o ≡ true → o ≡ None
 none_is None h = refl

@@ -32,7 +32,8 @@ use Rattle.fp_type_sizes.specs.declared.written.Own.{Own}
 use Rattle.fp_type_forms.specs.declared.resolving.Resolution.{Resolution}
 use Rattle.fp_type_forms.specs.Written.{IsOnly, AllAt, TypeHere, types_before, primitive, NumberIs, IsSizeTo, IsStringSize, KindIs, ConstantIs, EnumeratedIs, FormIs, OwnIs, IsWritten}
 use Rattle.fp_type_forms.specs.Resolved.{IsMarkOf, AreResolved, AreWrittenIn, Takes, Moves, constant_with, kind_resolved, marked_value, number_given, value_resolved, own_with, one_more, both_there}
-use Rattle.fp_type_forms.proofs.Only.{no_some, only_same, only_mapped, only_then, only_both, only_nothing, only_more}
+use Rattle.fp_type_forms.proofs.Only.{only_same, only_mapped, only_then, only_both, only_nothing, only_more}
+use Rattle.fp_type_sizes.proofs.Places.{no_some}
 
 module _ (source : Source) (marks : List (Option Value)) (rs : List Resolution) where
   pub taken_as : {P Q : Type 0} (xs : List Item) (a b : ℕ) → (P → Q) → Takes source marks rs xs a b P → Takes source marks rs xs a b Q

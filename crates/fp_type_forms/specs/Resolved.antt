@@ -96,6 +96,15 @@ pub record IsReady (source : Source) (marks : List (Option Value)) (is : List It
 abbrev pub ResolvesAll : List Item → List ℕ → List ℕ → ℕ → List Resolution → Type 0
 ResolvesAll is meanings ranks limit rs = (source : Source) (marks : List (Option Value)) → IsReady source marks is meanings ranks limit → AreResolved source marks rs is 0
 
+-- items that are a source's, with what its uses mean and the values of its expressions
+pub record AreItemsOf (source : Source) (is : List Item) (meanings : List ℕ) (marks : List (Option Value)) : Type 0 where
+  pub laid : is ≡ layout.items source
+  pub meant : AreMeanings (definitions source) (mentions source) meanings
+  pub valued : AreValues source (expressions source) marks
+
+abbrev pub ResolvesItems : List Item → List ℕ → List (Option Value) → List Resolution → Type 0
+ResolvesItems is meanings marks rs = (source : Source) → AreItemsOf source is meanings marks → AreResolved source marks rs is 0
+
 -- ---- what is read of a resolution
 
 abbrev pub kind_resolved : Option Resolution → Option Kind

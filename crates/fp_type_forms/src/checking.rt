@@ -1,4 +1,4 @@
-ghost use Rattle.std.specs.Prelude.{◌≡◌, IfOk};
+ghost use Rattle.std.specs.Prelude.{List, IfOk};
 ghost use Rattle.fp_base.specs.Least.{Either, IsLeast};
 ghost use Rattle.fp_consts.specs.Marked.{AreValues};
 ghost use Rattle.fp_meaning.specs.Meaning.{AreMeanings};
@@ -9,46 +9,43 @@ ghost use Rattle.fp_type_forms.specs.Broken.{BrokenByItem, FormsBroken, LeastOfA
 ghost use Rattle.fp_type_forms.specs.Resolved.{AreResolved, parts_of_item};
 ghost use Rattle.fp_type_forms.specs.Tested.{LeastOfForms};
 ghost use Rattle.fp_type_sizes.specs.Found.{AreExtents};
+ghost use Rattle.fp_type_sizes.specs.declared.written.WrittenType.{WrittenType};
 
 use crate::faults::fault_in;
-use crate::ranking::ranks_of;
 use crate::repeated::repeated_names;
 use crate::repeats::repeats_among;
 use crate::representations::representation_faults;
-use crate::resolving::{Resolution, resolutions};
+use crate::resolving::{Resolution, resolve_items};
 use fp_base::{NoMemory, Refusal, Value, lesser};
 use fp_layout::lay_out;
 use fp_meaning::Item;
 use fp_tree::{Source, Uses};
-use fp_type_sizes::{TypeExtent, WrittenType};
+use fp_type_sizes::TypeExtent;
 use std::alloc::Global;
 
 /// The least rule that what is written of types breaks: of the parts of types and ports each by itself, and of enumerations; names that a
 /// struct type or any struct expression of the source has twice; representations that are no integer types, and numbers outside them.
-/// `types` is what is written of the types and `extents` how large they are. None exactly where none is broken.
+/// `extents` says how large the types are. None exactly where none is broken.
 pub fn form_faults(
     alloc: Global,
     source: &Source,
     uses: &Uses,
     marks: &[Option<Value>],
-    types: &[WrittenType],
     extents: &[Option<TypeExtent>],
 ) -> Result<Option<Refusal>, NoMemory>
     requires meanings { AreMeanings (definitions source.now) (mentions source.now) uses.now.meanings }
     requires values { AreValues source.now (expressions source.now) marks.now }
-    requires sizes { AreExtents types.now extents.now }
-    ensures { IfOk result (IsLeast (FormsBroken source.now types.now)) }
+    ensures { (types : List WrittenType) → AreExtents types extents.now → IfOk result (IsLeast (FormsBroken source.now types)) }
 {
-    let _types = types;
     let layout = lay_out(alloc, source)?;
     let items = layout.items();
-    let ranks = ranks_of(alloc, items)?;
-    let meanings = uses.meanings.as_slice();
-    let resolved = resolutions(alloc, items, meanings, ranks.as_slice(), marks.len())?;
-    forms_of(alloc, items, extents, resolved.as_slice(), marks)
+    let resolved = resolve_items(alloc, items, uses, marks)?;
+    let resolutions = resolved.as_slice();
+    form_faults_in(alloc, items, extents, resolutions, marks)
 }
 
-fn forms_of(
+/// The same from the items of a source and what they are resolved to.
+pub fn form_faults_in(
     alloc: Global,
     items: &[Item],
     extents: &[Option<TypeExtent>],
@@ -78,10 +75,9 @@ pub fn part_faults(
 {
     let layout = lay_out(alloc, source)?;
     let items = layout.items();
-    let ranks = ranks_of(alloc, items)?;
-    let meanings = uses.meanings.as_slice();
-    let resolved = resolutions(alloc, items, meanings, ranks.as_slice(), marks.len())?;
-    faults_of(alloc, items, resolved.as_slice(), marks)
+    let resolved = resolve_items(alloc, items, uses, marks)?;
+    let resolutions = resolved.as_slice();
+    faults_of(alloc, items, resolutions, marks)
 }
 
 fn faults_of(

@@ -19,6 +19,7 @@ mod resolving;
 mod wholes;
 mod writing;
 
-pub use checking::{form_faults, part_faults};
+pub use checking::{form_faults, form_faults_in, part_faults};
 pub use laws::{one_form, one_written};
-pub use writing::types_written;
+pub use resolving::{Resolution, resolve_items};
+pub use writing::{types_written, types_written_in};

@@ -1,11 +1,13 @@
 ghost use Rattle.std.specs.Prelude.{◌≡◌, [], cond, length, slice_get, IfOk};
 ghost use Rattle.fp_consts.specs.Laid.{past};
 ghost use Rattle.fp_meaning.specs.Origins.{expressions_of};
-ghost use Rattle.fp_type_forms.specs.Resolved.{IsResolvedWith, ResolvesAll, resolved_to, type_meant, type_ranked};
+ghost use Rattle.fp_type_forms.specs.Resolved.{IsResolvedWith, ResolvesAll, ResolvesItems, resolved_to, type_meant, type_ranked};
 
-use fp_base::{NoMemory, Row};
+use crate::ranking::ranks_of;
+use fp_base::{NoMemory, Row, Value};
 use fp_consts::past_item;
 use fp_meaning::Item;
+use fp_tree::Uses;
 use std::alloc::Global;
 
 /// What an item of a source is resolved to.
@@ -26,9 +28,24 @@ pub struct Resolved {
     pub next_mark: usize,
 }
 
+/// The items of a source, each resolved, from what its uses mean and the values of its expressions.
+pub fn resolve_items(
+    alloc: Global,
+    items: &[Item],
+    uses: &Uses,
+    marks: &[Option<Value>],
+) -> Result<Row<Resolution>, NoMemory>
+    ensures { IfOk result (ResolvesItems items.now uses.now.meanings marks.now) }
+{
+    let ranked = ranks_of(alloc, items)?;
+    let ranks = ranked.as_slice();
+    let meanings = uses.meanings.as_slice();
+    resolutions(alloc, items, meanings, ranks, marks.len())
+}
+
 /// The items of a source, each resolved, from what its uses mean, the number of types before each definition, and the number of its
 /// expressions.
-pub fn resolutions(
+fn resolutions(
     alloc: Global,
     items: &[Item],
     meanings: &[u32],

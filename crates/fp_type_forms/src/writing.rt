@@ -6,8 +6,7 @@ ghost use Rattle.fp_meaning.specs.Origins.{expressions};
 ghost use Rattle.fp_type_forms.specs.Resolved.{AddsWritten, WritesAll, one_or_none};
 ghost use Rattle.fp_type_forms.specs.Written.{AreWritten};
 
-use crate::ranking::ranks_of;
-use crate::resolving::{Resolution, resolutions};
+use crate::resolving::{Resolution, resolve_items};
 use crate::wholes::written_in;
 use fp_base::{NoMemory, Row, Value};
 use fp_layout::lay_out;
@@ -29,13 +28,13 @@ pub fn types_written(
 {
     let layout = lay_out(alloc, source)?;
     let items = layout.items();
-    let ranks = ranks_of(alloc, items)?;
-    let meanings = uses.meanings.as_slice();
-    let resolved = resolutions(alloc, items, meanings, ranks.as_slice(), marks.len())?;
-    written_among(alloc, items, resolved.as_slice(), marks)
+    let resolved = resolve_items(alloc, items, uses, marks)?;
+    let resolutions = resolved.as_slice();
+    types_written_in(alloc, items, resolutions, marks)
 }
 
-fn written_among(
+/// The same from the items of a source and what they are resolved to.
+pub fn types_written_in(
     alloc: Global,
     items: &[Item],
     resolutions: &[Resolution],

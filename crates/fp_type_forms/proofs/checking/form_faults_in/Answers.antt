@@ -1,5 +1,5 @@
 use Rattle.fp_type_forms.proofs.Uniting.{forms_least}
-use Rattle.fp_type_forms.proofs.checking.forms_of.Goals as goal
+use Rattle.fp_type_forms.proofs.checking.form_faults_in.Goals as goal
 
 pub returns : goal.returns
 returns c source ws are laid h =

@@ -1,7 +1,7 @@
 use Rattle.std.proofs.Common.{◌≡◌, Some, length, slice_get, refl}
 use Rattle.std.proofs.lemmas.Option.{slice_get_read}
 use Rattle.fp_type_forms.proofs.Adding.{none_written_yet, next_written, all_written}
-use Rattle.fp_type_forms.proofs.writing.written_among.Goals as goal
+use Rattle.fp_type_forms.proofs.writing.types_written_in.Goals as goal
 
 pub loop-index-init : goal.loop-index-init
 loop-index-init c = none_written_yet c.args.marks.now c.args.resolutions.now c.args.items.now c.new-written.result c.new-written.ensures
