@@ -1,0 +1,5 @@
+pub mod Broken
+pub mod Elements
+pub mod Integers
+pub mod Sorted
+pub mod Readable

@@ -1,0 +1,10 @@
+//! The formats of the arrays and of the struct fields of a source, and the first rule that they break.
+#![tactic(auto)]
+
+mod faults;
+mod laws;
+mod reading;
+mod sorts;
+
+pub use faults::{format_faults, formats_broken};
+pub use laws::unbroken_formats_read;
