@@ -1,0 +1,126 @@
+-- The order of definitions by what stands before them, and that it names what is there.
+use Rattle.std.proofs.Common.{◌≡◌, ℕ, ◌+◌, ◌<◌, Bool, true, ◌&&◌, List, [], ◌∷◌, ◌++◌, length, flat_map, refl, sym, ap, ◌∙◌, arith, append_assoc, length-append}
+use Rattle.std.specs.Prelude.{nat_lt}
+use Rattle.std.specs.List.{list_all}
+use Rattle.std.proofs.lemmas.Bool.Decides.{nat_tests}
+use Rattle.std.proofs.lemmas.Grind.{flat_map-append}
+use Rattle.std.proofs.lemmas.List.{append-nil}
+use Rattle.fp_base.proofs.Bools.{both, join}
+use Rattle.fp_tree.specs.declared.definition.Def.{Def}
+use Rattle.fp_tree.specs.declared.definition.Def.TheVariants as def
+use Rattle.fp_tables.specs.Positions.{item_lies}
+use Rattle.fp_tables.specs.declared.model.Item.{Item as Ordered}
+use Rattle.fp_tables.specs.declared.model.Model.{Model}
+use Rattle.fp_meaning.specs.declared.item.Item.{Item}
+use Rattle.fp_meaning.specs.declared.item.Item.TheVariants as item
+use Rattle.fp_meaning.specs.Sites.{Path, site}
+use Rattle.fp_type_forms.specs.Written.{types_in, types_of}
+use Rattle.fp_model.specs.declared.ordering.Counts.{Counts}
+use Rattle.fp_model.specs.Counted.{counted, counted_with, none_before, order_by, order_from, order_with}
+use Rattle.fp_model.specs.Definitions.{constants_in, constants_of, order_behind, order_in, order_of, ports_in, ports_of}
+
+-- how many an item adds
+module _ {A : Type 0} (f : Item → List A) where
+  with_one : (before : List Item) (i : Item) → length (flat_map f (before ++ i ∷ [])) ≡ length (flat_map f before) + length (f i)
+  with_one before i =
+      ap (λ (xs : List A). length xs) (flat_map-append f before (i ∷ []) ∙ ap (λ (xs : List A). flat_map f before ++ xs) (append-nil (f i)))
+      ∙ length-append (flat_map f before) (f i)
+
+  within : (before is : List Item) (i : Item) (n : ℕ) → length (flat_map f (before ++ i ∷ is)) ≡ n → length (f i) ≡ 1 → length (flat_map f before) < n
+  within before is i n e one =
+      let whole : length (flat_map f (before ++ i ∷ is)) ≡ length (flat_map f before ++ (f i ++ flat_map f is)) = ap (λ (xs : List A). length xs) (flat_map-append f before (i ∷ is)) in
+      let long = length-append (flat_map f before) (f i ++ flat_map f is) in
+      let rest = length-append (f i) (flat_map f is) in
+      omega (arith, whole, long, rest, e, one)
+
+abbrev pub so_many : ℕ → ℕ → ℕ → Counts
+so_many a b c = record { constants = a; kinds = b; ports = c }
+
+abbrev pub counts_of : List Item → Counts
+counts_of before = so_many (length (flat_map constants_of before)) (length (flat_map types_of before)) (length (flat_map ports_of before))
+
+same_counts : {a b c d e f : ℕ} → a ≡ b → c ≡ d → e ≡ f → so_many a c e ≡ so_many b d f
+same_counts {b = b} {c = c} {d = d} {e = e} h k l = ap (λ (n : ℕ). so_many n c e) h ∙ ap (λ (n : ℕ). so_many b n e) k ∙ ap (λ (n : ℕ). so_many b d n) l
+
+no_more : (n : ℕ) → n + 0 ≡ n
+no_more n = omega arith
+
+module _ (a b c : ℕ) where
+  counted_definition : (s : Path) (d : Def) → so_many (a + length (constants_in s d)) (b + length (types_in s d)) (c + length (ports_in s d)) ≡ counted (so_many a b c) d
+  counted_definition s (def.Constant d) = same_counts refl (no_more b) (no_more c)
+  counted_definition s (def.Abstract d) = same_counts (no_more a) refl (no_more c)
+  counted_definition s (def.Alias d) = same_counts (no_more a) refl (no_more c)
+  counted_definition s (def.Array d) = same_counts (no_more a) refl (no_more c)
+  counted_definition s (def.Struct d) = same_counts (no_more a) refl (no_more c)
+  counted_definition s (def.Enum d) = same_counts (no_more a) refl (no_more c)
+  counted_definition s (def.Port d) = same_counts (no_more a) (no_more b) refl
+
+  counted_item : (i : Item) → so_many (a + length (constants_of i)) (b + length (types_of i)) (c + length (ports_of i)) ≡ counted_with (so_many a b c) i
+  counted_item (item.Defined s) = counted_definition s.scope s.definition
+  counted_item (item.Enumerated e) = same_counts (no_more a) (no_more b) (no_more c)
+  counted_item (item.Used since n) = same_counts (no_more a) (no_more b) (no_more c)
+  counted_item (item.Written since p) = same_counts (no_more a) (no_more b) (no_more c)
+
+one_counted : (before : List Item) (i : Item) → counts_of (before ++ i ∷ []) ≡ counted_with (counts_of before) i
+one_counted before i =
+    same_counts (with_one constants_of before i) (with_one types_of before i) (with_one ports_of before i)
+    ∙ counted_item (length (flat_map constants_of before)) (length (flat_map types_of before)) (length (flat_map ports_of before)) i
+
+one_order : (before : List Item) (i : Item) → order_with (counts_of before) i ≡ order_of before i
+one_order before (item.Defined s) = of_definition s.scope s.definition
+  where
+    of_definition : (s : Path) (d : Def) → order_by (counts_of before) d ∷ [] ≡ order_in before d ∷ []
+    of_definition s (def.Constant d) = refl
+    of_definition s (def.Abstract d) = refl
+    of_definition s (def.Alias d) = refl
+    of_definition s (def.Array d) = refl
+    of_definition s (def.Struct d) = refl
+    of_definition s (def.Enum d) = refl
+    of_definition s (def.Port d) = refl
+one_order before (item.Enumerated e) = refl
+one_order before (item.Used since n) = refl
+one_order before (item.Written since p) = refl
+
+order_same : (before is : List Item) → order_from (counts_of before) is ≡ order_behind before is
+order_same before [] = refl
+order_same before (i ∷ is) =
+    ap (λ (os : List Ordered). os ++ order_from (counted_with (counts_of before) i) is) (one_order before i)
+    ∙ ap (λ (os : List Ordered). order_of before i ++ os) (ap (λ (n : Counts). order_from n is) (sym (one_counted before i)) ∙ order_same (before ++ i ∷ []) is)
+
+pub order_behind_nothing : (is : List Item) → order_from none_before is ≡ order_behind [] is
+order_behind_nothing is = order_same [] is
+
+-- ---- each names a definition of its sort
+
+all_of_both : {A : Type 0} (p : A → Bool) (xs ys : List A) → list_all p xs ≡ true → list_all p ys ≡ true → list_all p (xs ++ ys) ≡ true
+all_of_both p [] ys h k = k
+all_of_both p (x ∷ xs) ys h k = let b = both (p x) (list_all p xs) h in join (p x) (list_all p (xs ++ ys)) b.0 (all_of_both p xs ys b.1 k)
+
+module _ (m : Model) (all : List Item) (constants : length (flat_map constants_of all) ≡ length m.constants) (types : length (flat_map types_of all) ≡ length m.types)
+    (ports : length (flat_map ports_of all) ≡ length m.ports) where
+  below : (a b : ℕ) → a < b → (nat_lt a b && true) ≡ true
+  below a b h = join (nat_lt a b) true (grind (arith, nat_tests)) refl
+
+  one_lies : (before is : List Item) (i : Item) → before ++ i ∷ is ≡ all → list_all (item_lies m) (order_of before i) ≡ true
+  one_lies before is (item.Defined s) e = of_definition s.scope s.definition e
+    where
+      of_definition : (s : Path) (d : Def) → before ++ item.Defined (site s d) ∷ is ≡ all → list_all (item_lies m) (order_in before d ∷ []) ≡ true
+      of_definition s (def.Constant d) e = below _ _ (within constants_of before is _ _ (ap (λ (xs : List Item). length (flat_map constants_of xs)) e ∙ constants) refl)
+      of_definition s (def.Abstract d) e = below _ _ (within types_of before is _ _ (ap (λ (xs : List Item). length (flat_map types_of xs)) e ∙ types) refl)
+      of_definition s (def.Alias d) e = below _ _ (within types_of before is _ _ (ap (λ (xs : List Item). length (flat_map types_of xs)) e ∙ types) refl)
+      of_definition s (def.Array d) e = below _ _ (within types_of before is _ _ (ap (λ (xs : List Item). length (flat_map types_of xs)) e ∙ types) refl)
+      of_definition s (def.Struct d) e = below _ _ (within types_of before is _ _ (ap (λ (xs : List Item). length (flat_map types_of xs)) e ∙ types) refl)
+      of_definition s (def.Enum d) e = below _ _ (within types_of before is _ _ (ap (λ (xs : List Item). length (flat_map types_of xs)) e ∙ types) refl)
+      of_definition s (def.Port d) e = below _ _ (within ports_of before is _ _ (ap (λ (xs : List Item). length (flat_map ports_of xs)) e ∙ ports) refl)
+  one_lies before is (item.Enumerated x) e = refl
+  one_lies before is (item.Used since n) e = refl
+  one_lies before is (item.Written since p) e = refl
+
+  order_lies_behind : (before is : List Item) → before ++ is ≡ all → list_all (item_lies m) (order_behind before is) ≡ true
+  order_lies_behind before [] e = refl
+  order_lies_behind before (i ∷ is) e =
+      all_of_both (item_lies m) (order_of before i) (order_behind (before ++ i ∷ []) is) (one_lies before is i e)
+      (order_lies_behind (before ++ i ∷ []) is (append_assoc before (i ∷ []) is ∙ e))
+
+  pub order_lies : list_all (item_lies m) (order_behind [] all) ≡ true
+  order_lies = order_lies_behind [] all refl

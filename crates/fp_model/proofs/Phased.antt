@@ -1,0 +1,31 @@
+-- What is the least of phases, and that none of them is broken.
+use Rattle.std.proofs.Common.{inl, inr, [], ◌∷◌, Option, Some, refl}
+use Rattle.fp_base.specs.declared.refusal.Refusal.{Refusal}
+use Rattle.fp_base.specs.Least.{IsLeast, IsUnbroken, Phased}
+use Rattle.fp_base.proofs.Calculus.{least_same}
+use Rattle.fp_model.specs.Phases.{InPhases}
+
+-- that of the first, whatever the later ones break
+pub least_first : {P Q : Refusal → Type 0} (f : Refusal) → IsLeast P (Some f) → IsLeast (Phased P Q) (Some f)
+least_first f l = record { holds = λ g e. inl (l.holds g e); least = λ g. elim [ inl p ↦ l.least g p | inr q ↦ absurd (q.1 f (l.holds f refl)) ] }
+
+-- that of the later ones, where the first isn't broken
+pub least_later : {P Q : Refusal → Type 0} (o : Option Refusal) → IsUnbroken P → IsLeast Q o → IsLeast (Phased P Q) o
+least_later o none l = record { holds = λ g e. inr (l.holds g e, none); least = λ g. elim [ inl p ↦ absurd (none g p) | inr q ↦ l.least g q.0 ] }
+
+-- that of the last
+pub least_last : {P : Refusal → Type 0} (o : Option Refusal) → IsLeast P o → IsLeast (InPhases (P ∷ [])) o
+least_last o l = least_same (λ f p. inl p) (λ f. elim [ inl p ↦ p | inr q ↦ absurd q.0 ]) l
+
+module _ {P Q : Refusal → Type 0} where
+  -- of two phases
+  pub none_in_phases : IsUnbroken P → IsUnbroken Q → IsUnbroken (InPhases (P ∷ Q ∷ []))
+  none_in_phases none no_later f (inl p) = none f p
+  none_in_phases none no_later f (inr (inl q, r)) = no_later f q
+  none_in_phases none no_later f (inr (inr q, r)) = absurd q.0
+
+  pub first_unbroken : IsUnbroken (InPhases (P ∷ Q ∷ [])) → IsUnbroken P
+  first_unbroken none f p = none f (inl p)
+
+  pub last_unbroken : IsUnbroken (InPhases (P ∷ Q ∷ [])) → IsUnbroken Q
+  last_unbroken none f q = none f (inr (inl q, λ g p. none g (inl p)))

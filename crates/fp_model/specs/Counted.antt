@@ -1,0 +1,35 @@
+-- The order of definitions by how many of each sort stand before.
+use Rattle.std.specs.Prelude.{◌+◌, List, [], ◌∷◌, ◌++◌}
+use Rattle.fp_tree.specs.declared.definition.Def.{Def}
+use Rattle.fp_tree.specs.declared.definition.Def.TheVariants as def
+use Rattle.fp_tables.specs.declared.model.Item.{Item as Ordered}
+use Rattle.fp_tables.specs.declared.model.Item.TheVariants as ordered
+use Rattle.fp_meaning.specs.declared.item.Item.{Item}
+use Rattle.fp_meaning.specs.declared.item.Item.TheVariants as item
+use Rattle.fp_model.specs.declared.ordering.Counts.{Counts}
+
+abbrev pub none_before : Counts
+none_before = record { constants = 0; kinds = 0; ports = 0 }
+
+abbrev pub order_by : Counts → Def → Ordered
+order_by n (def.Constant d) = ordered.Constant n.constants
+order_by n (def.Port p) = ordered.Port n.ports
+order_by n _ = ordered.Kind n.kinds
+
+-- with one of that sort more
+abbrev pub counted : Counts → Def → Counts
+counted n (def.Constant d) = record { constants = n.constants + 1; kinds = n.kinds; ports = n.ports }
+counted n (def.Port p) = record { constants = n.constants; kinds = n.kinds; ports = n.ports + 1 }
+counted n _ = record { constants = n.constants; kinds = n.kinds + 1; ports = n.ports }
+
+abbrev pub order_with : Counts → Item → List Ordered
+order_with n (item.Defined s) = order_by n s.definition ∷ []
+order_with n _ = []
+
+abbrev pub counted_with : Counts → Item → Counts
+counted_with n (item.Defined s) = counted n s.definition
+counted_with n _ = n
+
+abbrev pub order_from : Counts → List Item → List Ordered
+order_from n [] = []
+order_from n (i ∷ is) = order_with n i ++ order_from (counted_with n i) is

@@ -1,0 +1,46 @@
+-- The model that a source defines. FPP Language Specification, "Definitions".
+use Rattle.std.specs.Prelude.{◌≡◌, List, [], map, Some}
+use Rattle.fp_tree.specs.declared.source.Source.{Source}
+use Rattle.fp_tables.specs.declared.kind.Constant.{Constant}
+use Rattle.fp_tables.specs.declared.kind.TypeDef.{TypeDef}
+use Rattle.fp_tables.specs.declared.kind.PortDef.{PortDef}
+use Rattle.fp_tables.specs.declared.model.Item.{Item as Ordered}
+use Rattle.fp_tables.specs.declared.model.Model.{Model}
+use Rattle.fp_meaning.specs.Values.{opened, Val}
+use Rattle.fp_type_forms.specs.Written.{AllAt}
+use Rattle.fp_source_types.specs.Typed.{AreTypesOf}
+use Rattle.fp_model.specs.Definitions as written
+use Rattle.fp_model.specs.Definitions.{ConstantHere, qualified}
+
+-- a constant by its qualified name, with the value of its expression and its own annotation
+pub record IsConstant (source : Source) (h : ConstantHere) (c : Constant) : Type 0 where
+  pub name : c.name ≡ qualified h.scope h.constant.name
+  pub value : Val source h.scope (opened h.constant.value) c.value
+  pub note : c.note ≡ h.constant.note
+
+abbrev pub AreConstants : Source → List ConstantHere → List Constant → Type 0
+AreConstants source hs cs = AllAt (λ position. IsConstant source) 0 hs cs
+
+-- the constants, the types, each given, and the ports, all in the order of the source; there is nothing else yet
+pub record Defined (source : Source) (m : Model) : Type 0 where
+  pub constants : AreConstants source (written.constants source) m.constants
+  pub types : AreTypesOf source (map (λ (d : TypeDef). Some d) m.types)
+  pub ports : m.ports ≡ written.ports source
+  pub components : m.components ≡ []
+  pub machines : m.machines ≡ []
+  pub instances : m.instances ≡ []
+  pub topologies : m.topologies ≡ []
+  pub order : m.order ≡ written.order source
+
+-- the model of these lists alone
+abbrev pub model_with : List Constant → List TypeDef → List PortDef → List Ordered → Model
+model_with cs ts ps os = record {
+  constants = cs;
+  types = ts;
+  ports = ps;
+  components = [];
+  machines = [];
+  instances = [];
+  topologies = [];
+  order = os;
+}

@@ -1,0 +1,6 @@
+pub mod Phases
+pub mod Broken
+pub mod Definitions
+pub mod Defined
+pub mod Given
+pub mod Counted
