@@ -22,7 +22,13 @@ pub fn listing(alloc: Global, model: &Model) -> Result<Row<u8>, NoMemory>
     Ok(out)
 }
 
-fn push_item(alloc: Global, model: &Model, item: Item, out: &mut Row<u8>) -> Result<(), NoMemory>
+/// Adds the lines of an item of a model.
+pub fn push_item(
+    alloc: Global,
+    model: &Model,
+    item: Item,
+    out: &mut Row<u8>,
+) -> Result<(), NoMemory>
     ensures { OnOk result (out.new ≡ out.old ++ item_lines model.now item) }
 {
     match item {

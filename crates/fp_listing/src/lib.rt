@@ -8,5 +8,5 @@ mod members;
 mod opcodes;
 mod wires;
 
-pub use items::listing;
+pub use items::{listing, push_item};
 pub use wires::port_lines;

@@ -1,0 +1,5 @@
+use Rattle.fp_fault_places.proofs.Values.{values_placed}
+use Rattle.fp_fault_places.proofs.laws.values_break_at_places.Goals as goal
+
+pub returns : goal.returns
+returns c = values_placed

@@ -1,0 +1,16 @@
+pub mod Absent
+pub mod AmongRead
+pub mod Directories
+pub mod FirstInFiles
+pub mod FoundInFiles
+pub mod GatheredFiles
+pub mod ItemsKept
+pub mod KeptByWalks
+pub mod KnownFiles
+pub mod NamedItems
+pub mod OneWalk
+pub mod PartsHold
+pub mod PartsKept
+pub mod PartsPlaced
+pub mod StandBelow
+pub mod WalkSteps

@@ -1,0 +1,5 @@
+use Rattle.fp_gather.proofs.OneWalk.{one_walk}
+use Rattle.fp_gather.proofs.gathering.laws.one_reading.Goals as goal
+
+pub returns : goal.returns
+returns c = one_walk c.one_unit.ensures c.one_refusal.ensures.none

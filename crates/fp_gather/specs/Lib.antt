@@ -1,0 +1,2 @@
+pub mod gathering
+pub mod FilesRun

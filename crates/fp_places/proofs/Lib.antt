@@ -1,0 +1,5 @@
+pub mod Definitions
+pub mod Expressions
+pub mod Members
+pub mod Tokens
+pub mod Walks

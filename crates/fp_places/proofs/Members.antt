@@ -1,0 +1,123 @@
+-- The places of the items of a member of a file, in any scope, are such where tokens begin.
+use Rattle.std.proofs.Common.{◌≡◌, ℕ, zero, suc, List, [], ◌∷◌, ◌++◌, subst, sym, refl}
+use Rattle.std.specs.List.{AllByRecursion as Each, Contains}
+use Rattle.fp_base.specs.declared.place.Place.{Place}
+use Rattle.fp_base.specs.declared.place.Span.{Span}
+use Rattle.fp_lexer.specs.declared.token.Token.{Token}
+use Rattle.fp_tree.specs.declared.name.Name.{Name}
+use Rattle.fp_tree.specs.declared.name.Qual.{Qual}
+use Rattle.fp_tree.specs.declared.name.Str.{Str}
+use Rattle.fp_tree.specs.declared.member.Member.{Member}
+use Rattle.fp_tree.specs.declared.member.Module.{Module, out-Module}
+use Rattle.fp_tree.specs.declared.member.Member.TheVariants as node
+use Rattle.fp_meaning.specs.declared.item.Item.{Item}
+use Rattle.fp_meaning.specs.Sites.{Path}
+use Rattle.fp_meaning.specs.Layout.{in_member, in_members}
+use Rattle.fp_meaning.proofs.Walks.{module_gives, definition_gives, include_gives, locate_gives}
+use Rattle.fp_grammar.specs.Grammar.{Language}
+use Rattle.fp_parse_pieces.specs.Kinds.{k_open_brace}
+use Rattle.fp_parse_pieces.specs.Lists.{joined, or_none}
+use Rattle.fp_parse_defs.specs.Definitions.{definition}
+use Rattle.fp_parse_defs.specs.Reading.{limit}
+use Rattle.fp_parse_parts.specs.declared.bare.BareMember.{BareMember}
+use Rattle.fp_parse_parts.specs.declared.bare.BareMember.TheVariants as bare
+use Rattle.fp_parse_parts.specs.declared.bare.ModelMember.{ModelMember}
+use Rattle.fp_parse_parts.specs.declared.bare.ModelMember.TheVariants as model
+use Rattle.fp_parse_parts.specs.Members.{semicolons, definition_begins, definition_goes_on, definition_member, made_include, include, made_locate, locate, model_member, noted_definition, noted_member, with_member, member_of, members_of, made_module, module_of, modules, members}
+use Rattle.fp_parse_parts.specs.Omitted.{unbuilt}
+use Rattle.fp_parse_parts.specs.Units.{SpellsUnit}
+use Rattle.fp_base.proofs.Lists.{each_contained, each_flat, each_push, each_weaker, of_contained}
+use Rattle.fp_sites.specs.Sites.{BeginsToken}
+use Rattle.fp_sites.proofs.Preserving.{LanguageGives, gives_anything, gives_map, gives_seq, gives_alt, gives_optional, gives_ref, gives_seal, gives_after}
+use Rattle.fp_sites.proofs.Lists.{each_or_none, gives_some_of}
+use Rattle.fp_sites.proofs.ModelWalks.{machine_gives, component_gives, interface_gives, instance_gives, topology_gives}
+use Rattle.fp_places.specs.Places.{places_of}
+use Rattle.fp_places.proofs.Tokens.{Begins, Yields}
+use Rattle.fp_places.proofs.Definitions.{StandOf, definition_placed, definition_yields}
+
+module _ (G : Place → Type 0) (expressions : ℕ) where
+  abbrev Given : List Item → Type 0
+  Given is = Each (StandOf G) is
+
+  -- a member, in any scope
+  abbrev pub Placed : Member → Type 0
+  Placed m = (scope : Path) → Given (in_member scope m)
+
+  -- and in any annotation
+  abbrev PlacedBare : BareMember → Type 0
+  PlacedBare m = (note : List ℕ) → Placed (noted_member m note)
+
+  same : (is js : List Item) → is ≡ js → Given js → Given is
+  same is js e h = subst Given (sym e) h
+
+  pub all_placed : (ms : List Member) → Each Placed ms → (scope : Path) → Given (in_members scope ms)
+  all_placed ms hs scope = each_flat (StandOf G) (in_member scope) ms (each_weaker Placed (λ m. Given (in_member scope m)) (λ m h. h scope) ms hs)
+
+  module_placed : (m : Module) → Each Placed (out-Module m).members → Placed (node.Module m)
+  module_placed m hs scope = same _ _ (module_gives scope m) (all_placed (out-Module m).members hs (scope ++ (out-Module m).name.text ∷ []))
+
+  definition_member_yields : Yields G (definition_member expressions) PlacedBare
+  definition_member_yields = gives_map PlacedBare bare.Def
+      (λ d h note scope. same _ _ (definition_gives scope (noted_definition d note)) (definition_placed G scope (noted_definition d note) (h note)))
+      (gives_seal {a = definition expressions} definition_begins definition_goes_on (definition_yields G expressions))
+
+  model_placed : (m : ModelMember) → PlacedBare (bare.Model m)
+  model_placed (model.Machine x) note scope = same _ _ (machine_gives scope _) tt
+  model_placed (model.Component x) note scope = same _ _ (component_gives scope _) tt
+  model_placed (model.Interface x) note scope = same _ _ (interface_gives scope _) tt
+  model_placed (model.Instance x) note scope = same _ _ (instance_gives scope _) tt
+  model_placed (model.Topology x) note scope = same _ _ (topology_gives scope _) tt
+
+  -- whatever words are left out
+  model_member_yields : (omitted : List ℕ) → Yields G (model_member omitted expressions) PlacedBare
+  model_member_yields omitted = gives_map PlacedBare bare.Model (λ m h. model_placed m) gives_anything
+
+  include_placed : (p : Span × Str) → Unit {0} → PlacedBare (made_include p)
+  include_placed (at, file) h note scope = same _ _ (include_gives scope _) tt
+
+  include_yields : Yields G include PlacedBare
+  include_yields = gives_map PlacedBare made_include include_placed gives_anything
+
+  locate_placed : (p : Span × (Qual × (Span × Str))) → Unit {0} → PlacedBare (made_locate p)
+  locate_placed (at, (of, (before_file, file))) h note scope = same _ _ (locate_gives scope _) tt
+
+  locate_yields : Yields G locate PlacedBare
+  locate_yields = gives_map PlacedBare made_locate locate_placed gives_anything
+
+  moduled_placed : (p : Span × (Name × (List Member × Span))) → Unit {0} × (Unit {0} × (Each Placed p.1.1.0 × Unit {0})) → PlacedBare (made_module p)
+  moduled_placed (at, (name, (inner, closing))) h note = module_placed _ h.1.1.0
+
+  -- of what modules are
+  abbrev PlacedAll : Language Token BareMember → Type 0
+  PlacedAll language = LanguageGives (Begins G) language PlacedBare
+
+  member_yields : (omitted : List ℕ) (inner : Language Token BareMember) → PlacedAll inner → Yields G (member_of omitted expressions inner) PlacedBare
+  member_yields omitted inner given =
+      gives_alt (gives_ref _ given) (gives_alt include_yields (gives_alt locate_yields (gives_alt definition_member_yields (model_member_yields omitted))))
+
+  members_yield : (omitted : List ℕ) (inner : Language Token BareMember) → PlacedAll inner → Yields G (members_of omitted expressions inner) (Each Placed)
+  members_yield omitted inner given = gives_map (Each Placed) or_none (each_or_none Placed)
+      (gives_optional (gives_some_of PlacedBare (Each Placed) with_member (λ ms m lines h k. each_push Placed ms (noted_member m (joined lines)) h (k (joined lines))) semicolons [] tt (member_yields omitted inner given)))
+
+  module_yields : (omitted : List ℕ) (inner : Language Token BareMember) → PlacedAll inner → Yields G (module_of omitted expressions inner) PlacedBare
+  module_yields omitted inner given =
+      gives_map PlacedBare made_module moduled_placed
+      (gives_seq gives_anything (gives_seq gives_anything (gives_after k_open_brace (gives_seq (members_yield omitted inner given) gives_anything))))
+
+  modules_placed : (omitted : List ℕ) (depth : ℕ) → PlacedAll (modules omitted expressions depth)
+  modules_placed omitted zero = λ w m s h. absurd s
+  modules_placed omitted (suc depth) = (module_yields omitted (modules omitted expressions depth) (modules_placed omitted depth)).given
+
+  pub all_yield : (omitted : List ℕ) (depth : ℕ) → Yields G (members omitted expressions depth) (Each Placed)
+  all_yield omitted depth = members_yield omitted (modules omitted expressions depth) (modules_placed omitted depth)
+
+-- each token begins where it does
+all_begin : (tokens : List Token) → Each (Begins (BeginsToken tokens)) tokens
+all_begin tokens = each_contained (Begins (BeginsToken tokens)) tokens (λ t there. (t, there, refl))
+
+pub placing : (tokens : List Token) (ms : List Member) (scope : Path) (i : Item) (place : Place)
+    → SpellsUnit tokens ms → Contains (in_members scope ms) i → Contains (places_of i) place → BeginsToken tokens place
+placing tokens ms scope i place spelled there among =
+    let all = (all_yield (BeginsToken tokens) limit unbuilt limit).given tokens ms spelled (all_begin tokens) in
+    of_contained (BeginsToken tokens) (places_of i) place
+    (of_contained (StandOf (BeginsToken tokens)) (in_members scope ms) i (all_placed (BeginsToken tokens) limit ms all scope) there) among
