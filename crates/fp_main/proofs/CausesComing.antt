@@ -6,14 +6,15 @@ use Rattle.fp_tree.specs.declared.source.Source.{Source}
 use Rattle.fp_base.specs.Least.{IsUnbroken}
 use Rattle.fp_outside.specs.Counts.{Rose, last_count}
 use Rattle.fp_outside.specs.declared.files.HeldFile.{HeldFile}
-use Rattle.fp_main.proofs.Absent.{gone_not_stopped}
+use Rattle.fp_gather.proofs.Absent.{gone_not_stopped}
 use Rattle.fp_main.specs.Causes.{EndsAs, Asked, Sound, SoundSink, UsageComes, ReadFaultComes, NoFileComes, WriteFaultComes, RefusedComes, DoneComes}
 use Rattle.fp_main.specs.Delivery.{SinkRun, Delivered}
-use Rattle.fp_main.specs.FilesRun.{FilesRun}
+use Rattle.fp_gather.specs.FilesRun.{FilesRun}
 use Rattle.fp_main.specs.Output.{IsDue, DueListing, DueRefused, DueUsage, DueReadFault, DueNoFile, IsRead, Output}
 use Rattle.fp_main.specs.Words.{AsksFor, IsForm, IsWrong, ReadsWords}
-use Rattle.fp_main.specs.gathering.Gathered.{SourceBroken, source_of}
-use Rattle.fp_main.specs.gathering.Walks.{NoFile as IsMissing, NoReadFault, Outcome, Stops, Walked, WalksFiles, Went, nothing_read}
+use Rattle.fp_gather.specs.gathering.Gathered.{source_of}
+use Rattle.fp_main.specs.Broken.{SourceBroken}
+use Rattle.fp_gather.specs.gathering.Walks.{NoFile as IsMissing, NoReadFault, Outcome, Stops, Walked, WalksFiles, Went, nothing_read}
 use Rattle.fp_main.specs.declared.words.Command.{Command}
 use Rattle.fp_main.specs.declared.words.Command.TheVariants.{Check}
 use Rattle.fp_main.specs.declared.status.Status.{Status}

@@ -2,9 +2,9 @@
 use Rattle.std.proofs.Common.{◌≡◌, ◌⊎◌, ℕ, List, [], length, inl, inr, sym, ◌∙◌, ap, subst, arith}
 use Rattle.fp_main.specs.Causes.{UsageMeans, ReadFaultMeans, NoFileMeans, RefusedMeans, DoneMeans, WriteFaultMeans, NoMemoryMeans, IsNoRun}
 use Rattle.fp_main.specs.Delivery.{SinkRun, Adds, IsWhole, OutFailed, DiagFailed, Delivered}
-use Rattle.fp_main.specs.FilesRun.{FilesRun}
+use Rattle.fp_gather.specs.FilesRun.{FilesRun}
 use Rattle.fp_main.specs.Output.{IsDue, Output}
-use Rattle.fp_main.proofs.Absent.{missing}
+use Rattle.fp_gather.proofs.Absent.{missing}
 use Rattle.fp_main.specs.declared.status.Status.{Status}
 use Rattle.fp_main.specs.declared.status.Status.TheVariants.{Done, Refused, Usage, ReadFault, WriteFault, NoFile, Stuck, Spent, Asserted, NoMemory, NoTopology}
 
@@ -68,7 +68,7 @@ module _ (words : List (List ℕ)) (files : FilesRun) (out diag : SinkRun) (stat
   pub done_means : DoneMeans words files out diag status
   done_means e =
       let c = called_as Done (λ f. cc) e in
-      (c.0.walked, c.0.source, c.0.read, c.0.check, c.0.unbroken, adds_as _ _ out c.1.written c.0.listed, adds_as _ _ diag c.1.said c.0.silent)
+      (c.0.walked, c.0.source, c.0.read, c.0.check, c.0.unbroken, (c.0.model, c.0.defined, adds_as _ _ out c.1.written c.0.listed), adds_as _ _ diag c.1.said c.0.silent)
 
   pub no_memory_means : NoMemoryMeans out diag status
   no_memory_means e =

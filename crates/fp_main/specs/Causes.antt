@@ -6,15 +6,18 @@ use Rattle.fp_tree.specs.declared.source.Source.{Source}
 use Rattle.fp_base.specs.Least.{IsLeast, IsUnbroken}
 use Rattle.fp_outside.specs.Counts.{last_count}
 use Rattle.fp_outside.specs.declared.files.HeldFile.{HeldFile}
+use Rattle.fp_model.specs.Defined.{Defined}
+use Rattle.fp_tables.specs.declared.model.Model.{Model}
 use Rattle.fp_main.specs.Delivery.{SinkRun, Adds, OutFailed, DiagFailed}
 use Rattle.fp_main.specs.Delivery as delivery
-use Rattle.fp_main.specs.FilesRun.{FilesRun, NoFault, NoMiss, Holds}
+use Rattle.fp_gather.specs.FilesRun.{FilesRun, NoFault, NoMiss, Holds}
+use Rattle.fp_main.specs.Broken.{SourceBroken}
 use Rattle.fp_main.specs.Lines.{usage_line, refusal_line, read_fault_line, no_file_line, no_memory_line}
-use Rattle.fp_main.specs.Listing.{listing_of}
+use Rattle.fp_main.specs.Listing.{checked_listing}
 use Rattle.fp_main.specs.Output.{IsRead, IsDue}
 use Rattle.fp_main.specs.Words.{AsksFor, IsCheck, IsWrong}
-use Rattle.fp_main.specs.gathering.Gathered.{IsAbsent, IsUnread, SourceBroken, StandsAmong, name_of, names_read, source_of}
-use Rattle.fp_main.specs.gathering.Walks.{NoFile as IsMissing, Outcome, Stops, Walked, WalksFiles, Went, nothing_read}
+use Rattle.fp_gather.specs.gathering.Gathered.{IsAbsent, IsUnread, StandsAmong, name_of, names_read, source_of}
+use Rattle.fp_gather.specs.gathering.Walks.{NoFile as IsMissing, Outcome, Stops, Walked, WalksFiles, Went, nothing_read}
 use Rattle.fp_main.specs.declared.status.Status.{Status}
 use Rattle.fp_main.specs.declared.status.Status.TheVariants.{Done, Refused, Usage, ReadFault, WriteFault, NoFile, Stuck, Spent, Asserted, NoMemory, NoTopology}
 
@@ -65,7 +68,7 @@ RefusedMeans words files out diag status =
 abbrev pub DoneMeans : List (List ℕ) → FilesRun → SinkRun → SinkRun → Status → Type 0
 DoneMeans words files out diag status =
     status ≡ Done → (walked : Walked) × (source : Source) × (read : IsRead words files walked source) × IsCheck words read.names × IsUnbroken (SourceBroken walked source)
-    × Adds (listing_of source) out × Adds [] diag
+    × ((model : Model) × Defined source model × Adds (checked_listing model) out) × Adds [] diag
 
 -- out has a proper front of the output that was due, and diag the line that says so, or a proper front of it; or out has nothing,
 -- and diag a proper front of the line that was due

@@ -1,10 +1,8 @@
-pub mod gathering
+pub mod Broken
 pub mod Causes
 pub mod Delivery
-pub mod FilesRun
 pub mod Lines
 pub mod Listing
 pub mod Output
-pub mod Phases
 pub mod Statuses
 pub mod Words

@@ -3,12 +3,16 @@ use Rattle.std.specs.Prelude.{ℕ, ◌≡◌, List, [], Some}
 use Rattle.fp_base.specs.declared.refusal.Refusal.{Refusal}
 use Rattle.fp_tree.specs.declared.source.Source.{Source}
 use Rattle.fp_base.specs.Least.{IsLeast, IsUnbroken}
+use Rattle.fp_model.specs.Broken.{ModelBroken}
+use Rattle.fp_model.specs.Defined.{Defined}
+use Rattle.fp_tables.specs.declared.model.Model.{Model}
 use Rattle.fp_main.specs.Delivery.{SinkRun, Delivered}
-use Rattle.fp_main.specs.FilesRun.{FilesRun, NoFault, NoMiss}
-use Rattle.fp_main.specs.gathering.Gathered.{AreRead, IsAbsent, IsUnread, SourceBroken, StandsAmong, name_of, names_read}
-use Rattle.fp_main.specs.gathering.Walks.{Walked}
+use Rattle.fp_gather.specs.FilesRun.{FilesRun, NoFault, NoMiss}
+use Rattle.fp_gather.specs.gathering.Gathered.{AreRead, IsAbsent, IsUnread, StandsAmong, name_of, names_read}
+use Rattle.fp_gather.specs.gathering.Walks.{Walked}
+use Rattle.fp_main.specs.Broken.{SourceBroken}
 use Rattle.fp_main.specs.Lines.{usage_line, refusal_line, read_fault_line, no_file_line, no_memory_line}
-use Rattle.fp_main.specs.Listing.{listing_of}
+use Rattle.fp_main.specs.Listing.{checked_listing}
 use Rattle.fp_main.specs.Words.{AsksFor, IsCheck, IsWrong}
 use Rattle.fp_main.specs.declared.status.Status.{Status}
 use Rattle.fp_main.specs.declared.status.Status.TheVariants.{Done, Refused, Usage, ReadFault, NoFile, NoMemory}
@@ -60,21 +64,23 @@ pub record DueRefused (words : List (List ℕ)) (files : FilesRun) (output line 
   pub says : SaysBroken (SourceBroken walked source) (names_read walked) output line
   pub among : StandsAmong (names_read walked) says.refusal
 
--- the listing of what the source defines
+-- the listing of the model that the source defines
 pub record DueListing (words : List (List ℕ)) (files : FilesRun) (output line : List ℕ) : Type 0 where
   pub walked : Walked
   pub source : Source
   pub read : IsRead words files walked source
   pub check : IsCheck words read.names
   pub unbroken : IsUnbroken (SourceBroken walked source)
-  pub listed : output ≡ listing_of source
+  pub model : Model
+  pub defined : Defined source model
+  pub listed : output ≡ checked_listing model
   pub silent : line ≡ []
 
--- what `check` has to write for a source of which this is broken
-abbrev pub IsDueFor : (Refusal → Type 0) → Source → Status → List ℕ → List ℕ → Type 0
-IsDueFor broken source Done output line = IsUnbroken broken × (output ≡ listing_of source) × (line ≡ [])
-IsDueFor broken source Refused output line = SaysBroken broken source.names output line
-IsDueFor broken source _ output line = ⊥
+-- what `check` has to write for a source by its rules of names and of values
+abbrev pub IsDueFor : Source → Status → List ℕ → List ℕ → Type 0
+IsDueFor source Done output line = IsUnbroken (ModelBroken source) × ((model : Model) × Defined source model × (output ≡ checked_listing model)) × (line ≡ [])
+IsDueFor source Refused output line = SaysBroken (ModelBroken source) source.names output line
+IsDueFor source _ output line = ⊥
 
 -- what has to be written for each status, where every write succeeds
 abbrev pub IsDue : List (List ℕ) → FilesRun → Status → List ℕ → List ℕ → Type 0

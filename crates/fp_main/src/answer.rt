@@ -1,21 +1,28 @@
 ghost use Rattle.std.specs.Prelude.{◌≡◌, [], map, List, ℕ, IfOk};
 ghost use Rattle.std.specs.String.{string_bytes};
-ghost use Rattle.fp_base.specs.Least.{IsLeast};
-ghost use Rattle.fp_main.specs.FilesRun.{files_run};
+ghost use Rattle.fp_source_types.specs.Listed.{EnumsHaveConstants};
+ghost use Rattle.fp_source_types.specs.Named.{DefinitionsAreNamed, FieldsAreNamed};
+ghost use Rattle.fp_gather.specs.FilesRun.{files_run};
+ghost use Rattle.fp_gather.specs.gathering.Gathered.{name_of as name_in};
+ghost use Rattle.fp_main.specs.Lines.{refusal_line as line_of};
+ghost use Rattle.fp_main.specs.Listing.{checked_listing as listing_of};
 ghost use Rattle.fp_main.specs.Output.{IsDue, IsDueFor};
-ghost use Rattle.fp_main.specs.Phases.{first_of};
+ghost use Rattle.fp_main.specs.declared.status.Status.TheVariants.{Done, Refused};
 ghost use Rattle.fp_main.specs.Words.{IsCheck, IsWrong};
-ghost use Rattle.fp_main.specs.gathering.Gathered.{AreJudged, SourceBroken};
-ghost use Rattle.fp_main.specs.gathering.Walks.{Walked};
 
-use crate::gathering::{Gathered, Halt, gather, in_files_read};
-use crate::lines::{name_of, no_file_line, read_fault_line, refusal_line, usage_line};
-use crate::listing::listing;
+use crate::lines::{no_file_line, read_fault_line, refusal_line, usage_line};
+use crate::listing::checked_listing;
 use crate::status::Status;
 use crate::words::{Command, read_words};
-use fp_base::{NoMemory, Refusal, Row, earlier, lesser};
-use fp_names::name_faults;
+use fp_base::{NoMemory, Refusal, Row, Stop};
+use fp_enum_sites::enumerations_have_constants;
+use fp_fault_places::values_break_at_places;
+use fp_gather::{Halt, gather, in_files_read, name_of, names_are_names, places_in_files};
+use fp_model::resolve;
 use fp_outside::Files;
+use fp_source_types::listed_items_have_constants;
+use fp_tables::Model;
+use fp_tree::Source;
 use std::alloc::Global;
 
 /// What a call has to write, and its status where every write succeeds.
@@ -37,41 +44,38 @@ fn said(alloc: Global, status: Status, line: Row<u8>) -> Due
     }
 }
 
-/// That of the earliest phase that has one.
-fn first_of(phases: &[Option<Refusal>]) -> Option<Refusal>
-    ensures { result ≡ first_of phases.now }
+/// What is due for a source that breaks no rule.
+fn listed(alloc: Global, model: &Model) -> Result<Due, NoMemory>
+    ensures { IfOk result (λ due. due ≡ record { status = Done; output = listing_of model.now; line = [] }) }
 {
-    match phases.split_first() {
-        None => None,
-        Some((first, later)) => earlier(*first, first_of(later)),
-    }
+    let output = checked_listing(alloc, model)?;
+    Ok(Due {
+        status: Status::Done,
+        output,
+        line: Row::new(alloc),
+    })
 }
 
-/// The first rule that files and their source break, phase by phase.
-fn first_broken(alloc: Global, gathered: &Gathered) -> Result<Option<Refusal>, NoMemory>
-    ensures { IfOk result (λ first. (walked : Walked) → AreJudged walked gathered.now → IsLeast (SourceBroken walked gathered.now.source) first) }
+/// What is due for a source that breaks a rule: in the file of the rule.
+fn refused(alloc: Global, source: &Source, refusal: Refusal) -> Result<Due, NoMemory>
+    ensures { IfOk result (λ due. due ≡ record { status = Refused; output = []; line = line_of (name_in source.now.names refusal.place.file) refusal.place refusal.rule }) }
 {
-    let names = name_faults(alloc, &gathered.source)?;
-    let includes = lesser(gathered.includes, names);
-    Ok(first_of(&[gathered.tokens, gathered.grammar, includes]))
+    let name = name_of(source.names.as_slice(), refusal.place.file);
+    let line = refusal_line(alloc, name, refusal)?;
+    Ok(said(alloc, Status::Refused, line))
 }
 
-/// What `check` has to write for what files give: the listing of their source, or the rule that is broken first.
-fn check(alloc: Global, gathered: &Gathered) -> Result<Due, NoMemory>
-    ensures { IfOk result (λ due. (walked : Walked) → AreJudged walked gathered.now → IsDueFor (SourceBroken walked gathered.now.source) gathered.now.source due.status due.output due.line) }
+/// What `check` has to write for a source that breaks no rule before those of names: its listing, or the rule that is broken first.
+fn check(alloc: Global, source: &Source) -> Result<Due, NoMemory>
+    requires names { DefinitionsAreNamed source.now }
+    requires fields { FieldsAreNamed source.now }
+    requires enumerations { EnumsHaveConstants source.now }
+    ensures { IfOk result (λ due. IsDueFor source.now due.status due.output due.line) }
 {
-    let source = &gathered.source;
-    match first_broken(alloc, gathered)? {
-        None => Ok(Due {
-            status: Status::Done,
-            output: listing(alloc, source)?,
-            line: Row::new(alloc),
-        }),
-        Some(refusal) => {
-            let name = name_of(source.names.as_slice(), refusal.place.file);
-            let line = refusal_line(alloc, name, refusal)?;
-            Ok(said(alloc, Status::Refused, line))
-        }
+    match resolve(alloc, source) {
+        Ok(model) => listed(alloc, &model),
+        Err(Stop::Broken(refusal)) => refused(alloc, source, refusal),
+        Err(Stop::NoMemory) => Err(NoMemory),
     }
 }
 
@@ -81,8 +85,18 @@ fn answer_check<F: Files>(alloc: Global, names: &[String], files: &mut F) -> Res
 {
     // for the file in which a rule is broken
     in_files_read();
+    places_in_files();
+    values_break_at_places();
+    // for what a source is asked to have
+    names_are_names();
+    enumerations_have_constants();
+    listed_items_have_constants();
     match gather(alloc, names, files) {
-        Ok(gathered) => check(alloc, &gathered),
+        Ok(source) => check(alloc, &source),
+        Err(Halt::Broken { refusal, file }) => {
+            let line = refusal_line(alloc, file.as_str(), refusal)?;
+            Ok(said(alloc, Status::Refused, line))
+        }
         Err(Halt::NoFile(name)) => {
             let line = no_file_line(alloc, name.as_str())?;
             Ok(said(alloc, Status::NoFile, line))

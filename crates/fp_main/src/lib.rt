@@ -3,7 +3,6 @@
 
 mod answer;
 mod deliver;
-mod gathering;
 mod laws;
 mod lines;
 mod listing;
@@ -11,7 +10,6 @@ mod serving;
 mod status;
 mod words;
 
-pub use gathering::{in_files_read, one_reading};
 pub use laws::worked_lines;
 pub use serving::serve;
 pub use status::Status;

@@ -1,9 +1,8 @@
 ghost use Rattle.std.specs.Prelude.{◌≡◌, ◌++◌, codes, IfOk, OnOk};
 ghost use Rattle.std.specs.Prelude.{decimal};
-ghost use Rattle.fp_main.specs.gathering.Gathered.{name_of};
 ghost use Rattle.fp_main.specs.Lines.{usage_line, refusal_line, read_fault_line, no_file_line};
 
-use fp_base::{NoMemory, Refusal, Row, Text};
+use fp_base::{NoMemory, Refusal, Row};
 use itoa::{Buffer, Integer};
 use std::alloc::Global;
 
@@ -20,18 +19,6 @@ pub fn push_text(line: &mut Row<u8>, text: &str) -> Result<(), NoMemory>
     ensures { OnOk result (line.new ≡ line.old ++ text.now) }
 {
     line.extend_from_slice(text.as_bytes())
-}
-
-/// The name of the file with a number.
-pub fn name_of(names: &[Text], number: u32) -> &str
-    ensures { result.now ≡ name_of names.now number }
-{
-    let at = number as usize;
-    if at < names.len() {
-        names[at].as_str()
-    } else {
-        ""
-    }
 }
 
 pub fn usage_line(alloc: Global, word: u64) -> Result<Row<u8>, NoMemory>

@@ -1,7 +1,7 @@
 ghost use Rattle.std.specs.Prelude.{◌≡◌, ℕ, map};
 ghost use Rattle.std.specs.String.{string_bytes};
 ghost use Rattle.fp_main.specs.Delivery.{sink_run};
-ghost use Rattle.fp_main.specs.FilesRun.{files_run};
+ghost use Rattle.fp_gather.specs.FilesRun.{files_run};
 ghost use Rattle.fp_main.specs.Output.{Output};
 ghost use Rattle.fp_main.specs.Words.{IsWrong};
 ghost use Rattle.fp_main.specs.Causes.{UsageMeans, ReadFaultMeans, NoFileMeans, RefusedMeans, DoneMeans, WriteFaultMeans, NoMemoryMeans, IsNoRun};
@@ -9,9 +9,9 @@ ghost use Rattle.fp_main.specs.Causes.{UsageComes, ReadFaultComes, NoFileComes, 
 
 use crate::answer::answer;
 use crate::deliver::deliver;
-use crate::gathering::one_reading;
 use crate::status::Status;
 use fp_base::NoMemory;
+use fp_gather::one_reading;
 use fp_outside::{Files, Gate, Sink};
 use std::alloc::Global;
 use std::sync::Wait;

@@ -1,6 +1,30 @@
+use Rattle.std.proofs.Common.{List, ℕ, ap, refl, sym, subst, ◌∙◌}
 use Rattle.fp_base.proofs.Options.{if_ok_then}
-use Rattle.fp_main.proofs.Dues.{due_source}
+use Rattle.fp_gather.specs.FilesRun.{files_run}
+use Rattle.fp_main.proofs.Dues.{due_broken, due_source}
+use Rattle.fp_main.proofs.Givens.{definitions_named, enumerations_listed, fields_named}
+use Rattle.fp_main.specs.Lines.{refusal_line}
+use Rattle.fp_main.specs.Output.{IsDue}
+use Rattle.fp_main.specs.declared.answer.Due.{Due}
 use Rattle.fp_main.proofs.answer.answer_check.Goals as goal
 
+pub check-requires-clause-names : goal.check-requires-clause-names
+check-requires-clause-names g c = definitions_named c.names_are_names.ensures _ _ c.in-Ok.source c.in-Ok.ensures
+
+pub check-requires-clause-fields : goal.check-requires-clause-fields
+check-requires-clause-fields g c = fields_named c.names_are_names.ensures _ _ c.in-Ok.source c.in-Ok.ensures
+
+pub check-requires-clause-enumerations : goal.check-requires-clause-enumerations
+check-requires-clause-enumerations g c =
+    enumerations_listed c.enumerations_have_constants.ensures c.listed_items_have_constants.ensures _ _ c.in-Ok.source c.in-Ok.ensures
+
 pub returns-in-Ok : goal.returns-in-Ok
-returns-in-Ok g c words check = if_ok_then c.check.result _ _ (λ due given. due_source words _ _ check c.in_files_read.ensures _ due c.in-Ok.ensures given) c.check.ensures
+returns-in-Ok g c words check =
+    if_ok_then c.check.result _ _
+    (λ due d. due_source words _ _ check c.in_files_read.ensures c.places_in_files.ensures c.values_break_at_places.ensures _ due.status due.output due.line c.in-Ok.ensures d) c.check.ensures
+
+pub returns-in_ok-line-in-Err-Broken : goal.returns-in_ok-line-in-Err-Broken
+returns-in_ok-line-in-Err-Broken g c words check =
+    subst (λ (due : Due). IsDue words (files_run g.F.Files.told g.F.Files.faults g.F.Files.misses c.args.files.now c.gather.new.files) due.status due.output due.line) (sym c.said.ensures)
+    (due_broken words _ _ check _ c.in-Err-Broken.refusal c.in-Err-Broken.file _ _ c.in-Err-Broken.field-0-is c.in-Err-Broken.ensures refl
+    (c.in_ok-line-in-Err-Broken.ensures ∙ ap (λ (name : List ℕ). refusal_line name c.in-Err-Broken.refusal.place c.in-Err-Broken.refusal.rule) c.as_str.ensures))

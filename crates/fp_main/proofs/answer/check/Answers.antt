@@ -1,21 +1,10 @@
-use Rattle.std.proofs.Common.{ℕ, List, refl, sym, ap, subst, ◌∙◌}
-use Rattle.fp_base.proofs.Calculus.{least_along, none_broken}
-use Rattle.fp_main.specs.Lines.{refusal_line}
-use Rattle.fp_main.specs.Output.{IsDueFor}
-use Rattle.fp_main.specs.gathering.Gathered.{SourceBroken, name_of}
-use Rattle.fp_main.specs.declared.answer.Due.{Due}
+use Rattle.fp_base.proofs.Options.{if_ok_then}
+use Rattle.fp_main.proofs.Dues.{due_listed, due_refused}
 use Rattle.fp_main.proofs.answer.check.Goals as goal
 
-pub returns-in_ok-listing-in-None : goal.returns-in_ok-listing-in-None
-returns-in_ok-listing-in-None c = λ walked k. (none_broken (least_along c.in-None.is (c.in_ok-first_broken.ensures walked k)), c.in_ok-listing-in-None.ensures, c.new.ensures)
+pub returns-in-Ok : goal.returns-in-Ok
+returns-in-Ok c = if_ok_then c.listed.result _ _ (λ due is. due_listed c.args.source.now c.in-Ok.model due is c.in-Ok.ensures.unbroken c.in-Ok.ensures.defined) c.listed.ensures
 
-pub returns-in_ok-line-in-Some : goal.returns-in_ok-line-in-Some
-returns-in_ok-line-in-Some c = λ walked k.
-    subst (λ (due : Due). IsDueFor (SourceBroken walked c.args.gathered.now.source) c.args.gathered.now.source due.status due.output due.line) (sym c.said.ensures) (record {
-      refusal = c.in-Some.refusal;
-      first = least_along c.in-Some.is (c.in_ok-first_broken.ensures walked k);
-      silent = refl;
-      said = c.in_ok-line-in-Some.ensures
-          ∙ ap (λ (name : List ℕ). refusal_line name c.in-Some.refusal.place c.in-Some.refusal.rule)
-          (c.name_of-name.ensures ∙ ap (λ (names : List (List ℕ)). name_of names c.in-Some.refusal.place.file) c.as_slice.ensures);
-    })
+pub returns-in-Err-Broken : goal.returns-in-Err-Broken
+returns-in-Err-Broken c =
+    if_ok_then c.refused.result _ _ (λ due is. due_refused c.args.source.now c.in-Err-Broken.refusal due is (rw c.in-Err-Broken.field-0-is at c.in-Err-Broken.ensures.stop)) c.refused.ensures

@@ -3,8 +3,7 @@ use Rattle.std.specs.Fmt.{digits}
 use Rattle.fp_main.proofs.laws.worked_lines.Goals as goal
 
 pub returns-clause-listing : goal.returns-clause-listing
-unfolding digits
-returns-clause-listing c d name value = rw (name, value) refl
+returns-clause-listing c p name = rw name refl
 
 pub returns-clause-refusal : goal.returns-clause-refusal
 unfolding digits

@@ -1,5 +1,0 @@
-use Rattle.fp_main.proofs.OneWalk.{one_walk}
-use Rattle.fp_main.proofs.gathering.laws.one_reading.Goals as goal
-
-pub returns : goal.returns
-returns c = one_walk c.one_unit.ensures c.one_refusal.ensures.none
