@@ -1,0 +1,16 @@
+pub mod Among
+pub mod AtAll
+pub mod AtEach
+pub mod AtPlace
+pub mod Counting
+pub mod Found
+pub mod Guarded
+pub mod Idle
+pub mod Keyed
+pub mod Owning
+pub mod Pairing
+pub mod Refusals
+pub mod Refusing
+pub mod Repeated
+pub mod Stopping
+pub mod Whole

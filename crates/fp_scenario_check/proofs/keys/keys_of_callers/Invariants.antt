@@ -1,0 +1,7 @@
+use Rattle.std.proofs.Common.{◌≡◌, [], map, take}
+use Rattle.fp_scenario.specs.declared.scenario.CallerText.{CallerText}
+use Rattle.fp_scenario_check.specs.Keys.{texts_of}
+use Rattle.fp_scenario_check.proofs.keys.keys_of_callers.Given as goal
+
+abbrev pub invariant-loop-text : goal.invariant-loop-text
+invariant-loop-text l = map texts_of l.keys.items ≡ map (λ (x : CallerText). (x.name, [], [])) (take l.text-index l.texts)
