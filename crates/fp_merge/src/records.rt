@@ -32,20 +32,19 @@ pub fn merge(
 {
     let _ = tables;
     let _ = program;
-    let Kept {
-        histories,
-        traces: _,
-    } = kept;
+    let Kept { histories, traces } = kept;
+    // Every entry of a trace stands in a history, too: its memory serves for what is made here.
+    drop(traces);
     merging();
     in_order(alloc, histories)
 }
 
-/// All entries, by stamp and then actor.
+/// All entries, by stamp and then actor. They are large, so that their keys are sorted, and each moves once.
 fn in_order(alloc: Global, histories: Row<Row<Entry>>) -> Result<Row<Entry>, NoMemory>
     ensures { IfOk result (λ es. IsSortedBy entry_lt es × IsStableBy entry_lt (joined histories) es) }
 {
     let mut entries = join(alloc, histories)?.into_vec();
-    entries.sort_by_key(|entry| (entry.stamp, entry.actor))?;
+    entries.sort_by_cached_key(|entry| (entry.stamp, entry.actor))?;
     Ok(Row::from_vec(entries))
 }
 
@@ -53,9 +52,17 @@ fn in_order(alloc: Global, histories: Row<Row<Entry>>) -> Result<Row<Entry>, NoM
 fn join(alloc: Global, histories: Row<Row<Entry>>) -> Result<Row<Entry>, NoMemory>
     ensures { IfOk result (λ es. es ≡ joined histories) }
 {
-    let mut entries = Row::new(alloc);
+    let mut entries = Row::with_capacity(alloc, entry_count(histories.as_slice()))?;
     for history in histories.into_vec() {
         entries.append(history)?;
     }
     Ok(entries)
+}
+
+fn entry_count(histories: &[Row<Entry>]) -> usize {
+    let mut count = 0_usize;
+    for history in histories {
+        count = count.saturating_add(history.len());
+    }
+    count
 }

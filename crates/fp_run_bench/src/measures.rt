@@ -2,7 +2,7 @@ ghost use Rattle.std.specs.Prelude.{Some};
 ghost use Rattle.fp_tables.specs.Sound.{IsSoundFor};
 ghost use Rattle.fp_tables.specs.SoundPrograms.{IsSoundProgram};
 
-use crate::merging::{time_merge, time_sort};
+use crate::merging::{time_merge, time_sort, time_traces};
 use crate::plain::run_plain;
 use crate::runners::{run_steps, run_whole};
 use crate::shapes::Shape;
@@ -67,28 +67,45 @@ fn time<R: Clock>(
     Ok(times.get(ROUNDS / 2).copied().unwrap_or(0))
 }
 
-/// The median of merging and of sorting as many numbers.
+/// What is measured of merging: the call, the part of it that gives traces back, and a sort of as many numbers.
+#[derive(Clone, Copy)]
+struct Merges {
+    merge: u128,
+    traces: u128,
+    sort: u128,
+}
+
+fn median_of(times: &[u128]) -> u128 {
+    times.get(ROUNDS / 2).copied().unwrap_or(0)
+}
+
+/// The medians of merging, in microseconds.
 fn time_merges<R: Clock>(
     rt: &R,
     alloc: Global,
     entries: usize,
     tables: &Tables,
     program: &Program,
-) -> io::Result<(u128, u128)>
+) -> io::Result<Merges>
     requires sound { IsSoundFor tables.now.model (Some tables.now.topology) }
     requires good { IsSoundProgram tables.now program.now }
 {
     let mut merges = Vec::with_capacity(alloc, ROUNDS)?;
+    let mut traces = Vec::with_capacity(alloc, ROUNDS)?;
     let mut sorts = Vec::with_capacity(alloc, ROUNDS)?;
     for _ in 0..ROUNDS {
         merges.push(time_merge(rt, alloc, tables, program)?)?;
+        traces.push(time_traces(rt, alloc, tables, program)?)?;
         sorts.push(time_sort(rt, alloc, entries)?)?;
     }
     merges.sort()?;
+    traces.sort()?;
     sorts.sort()?;
-    let merge = merges.get(ROUNDS / 2).copied().unwrap_or(0);
-    let sort = sorts.get(ROUNDS / 2).copied().unwrap_or(0);
-    Ok((merge, sort))
+    Ok(Merges {
+        merge: median_of(merges.as_slice()),
+        traces: median_of(traces.as_slice()),
+        sort: median_of(sorts.as_slice()),
+    })
 }
 
 fn measure<R: Clock + Print>(
@@ -105,14 +122,25 @@ fn measure<R: Clock + Print>(
     let steps = time(rt, alloc, How::Steps, shape, tables, program)?;
     let whole = time(rt, alloc, How::Whole, shape, tables, program)?;
     let plain = time(rt, alloc, How::Plain, shape, tables, program)?;
-    let (merge, sort) = time_merges(rt, alloc, entries, tables, program)?;
+    let merges = time_merges(rt, alloc, entries, tables, program)?;
     let each = steps.saturating_mul(1000) / (entries as u128).max(1);
     let more = whole.saturating_mul(100) / plain.max(1);
-    let again = merge.saturating_mul(100) / sort.max(1);
     println!(rt;
         "  {entries} entries; steps {steps} us, {each} ns each; whole run {whole} us, plain program {plain} us, percent of it {more}"
     )?;
-    println!(rt; "  merge {merge} us, sort of as many numbers {sort} us, percent of it {again}")
+    tell_merges(rt, merges)
+}
+
+fn tell_merges<R: Print>(rt: &R, merges: Merges) -> io::Result<()> {
+    let Merges {
+        merge,
+        traces,
+        sort,
+    } = merges;
+    let percent = merge.saturating_mul(100) / sort.max(1);
+    println!(rt;
+        "  merge {merge} us, of which traces are given back in {traces} us; sort of as many numbers {sort} us, percent of it {percent}"
+    )
 }
 
 fn count<R: Print>(
@@ -183,8 +211,17 @@ fn chain(instances: u32, calls: u32) -> Shape {
     Shape::Chain { instances, calls }
 }
 
+/// Has the C library keep as much memory as it can once it has it, so that small runs and large ones find it there. By itself it
+/// gives memory back to the system above a bound that depends on the largest block so far, which the large runs alone pass.
+fn keep_memory(alloc: Global) -> io::Result<()> {
+    let block: Vec<u64> = Vec::with_capacity(alloc, 4_000_000)?;
+    drop(block);
+    Ok(())
+}
+
 /// Measures runs of few and many entries, by few and many actors.
 pub fn measure_runs<R: Clock + Print>(rt: &R, alloc: Global) -> io::Result<()> {
+    keep_memory(alloc)?;
     let few = Shape::Alone {
         calls: 100,
         inner: 9,

@@ -53,6 +53,27 @@ pub fn time_merge<R: Clock>(
     Ok(time)
 }
 
+/// How many microseconds it takes to give back the traces that were kept of a whole run, which is a part of merging.
+pub fn time_traces<R: Clock>(
+    rt: &R,
+    alloc: Global,
+    tables: &Tables,
+    program: &Program,
+) -> io::Result<u128>
+    requires sound { IsSoundFor tables.now.model (Some tables.now.topology) }
+    requires good { IsSoundProgram tables.now program.now }
+{
+    let Ok(kept) = kept_of(alloc, tables, program) else {
+        return Err(io::Error::from(AllocError));
+    };
+    let Kept { histories, traces } = kept;
+    let start = Instant::now(rt)?;
+    drop(traces);
+    let time = start.elapsed(rt)?.as_micros();
+    drop(histories);
+    Ok(time)
+}
+
 /// How many microseconds it takes to sort as many numbers, which rise and fall.
 pub fn time_sort<R: Clock>(rt: &R, alloc: Global, count: usize) -> io::Result<u128> {
     let mut numbers = Vec::with_capacity(alloc, count)?;
