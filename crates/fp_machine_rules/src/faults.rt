@@ -30,6 +30,17 @@ pub fn machine_faults(alloc: Global, machine: &LaidMachine) -> Result<Option<Ref
     }
 }
 
+/// The least rule that a machine breaks as a whole, by the number of its initial transitions and its size. It is read without recursion, and
+/// nothing that names mean counts for it.
+pub fn as_whole(alloc: Global, place: Place, items: &[Item]) -> Result<Option<Refusal>, NoMemory>
+    requires laid { IsLaid items.now }
+    requires short { length items.now < 2 ^ 32 }
+    ensures { IfOk result (IsLeast (BrokenAsWhole place items.now)) }
+{
+    let gathered = gather(alloc, items)?;
+    whole_fault(alloc, place, items, &gathered)
+}
+
 fn fault_as_whole(
     alloc: Global,
     machine: &LaidMachine,

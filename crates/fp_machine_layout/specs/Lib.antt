@@ -1,0 +1,5 @@
+pub mod Found
+pub mod Layout
+pub mod Outline
+pub mod Scopes
+pub mod Steps
