@@ -1,9 +1,11 @@
 use crate::conversion::of_types;
+use crate::formats::broken_formats;
+use crate::resolved::resolved_types;
 use crate::scenarios::of_scenario;
 use crate::serving::{code, left, written};
 use crate::sources::{
     broken_constants, broken_forms, broken_names, broken_parts, broken_types, count, definitions,
-    evaluated, examined, found, meanings, values,
+    evaluated, found, meanings, values,
 };
 use crate::used::{broken_uses, flagged};
 use crate::written_types::{given_types, written_types};
@@ -37,12 +39,13 @@ fn of_constants(alloc: Global, case: &Case, question: &str) -> Option<Result<Tex
         "on cycles" => Some(flagged(alloc, case, false)),
         "heads of long chains" => Some(flagged(alloc, case, true)),
         "broken uses" => Some(broken_uses(alloc, case)),
-        "examined" => Some(examined(alloc, case)),
         "written types" => Some(written_types(alloc, case)),
         "broken parts" => Some(broken_parts(alloc, case)),
         "broken forms" => Some(broken_forms(alloc, case)),
         "given types" => Some(given_types(alloc, case)),
+        "resolved types" => Some(resolved_types(alloc, case)),
         "broken types" => Some(broken_types(alloc, case)),
+        "broken formats" => Some(broken_formats(alloc, case)),
         _ => None,
     }
 }

@@ -4,6 +4,8 @@
 
 mod asked;
 mod conversion;
+mod formats;
+mod resolved;
 mod scenarios;
 mod serving;
 mod sources;

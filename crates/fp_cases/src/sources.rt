@@ -1,14 +1,13 @@
 use crate::conversion::MANY;
 use fp_base::{NoMemory, Row, Stop, Text, Value};
 use fp_case_texts::{Case, first_broken, numeral, printed, push_line};
-use fp_consts::{evaluate, evaluate_all, examine};
+use fp_consts::{evaluate, evaluate_all};
 use fp_lexer::lex;
 use fp_meaning::{Group, Marks};
 use fp_names::{collect, name_faults, uses};
-use fp_parse_defs::parse_expr;
 use fp_parse_parts::{Inside, Members, parse};
 use fp_source_types::{TypeMarks, types_all};
-use fp_tree::{Expr, Source, Unit, Values};
+use fp_tree::{Source, Unit, Values};
 use fp_type_forms::{form_faults, part_faults, types_written};
 use fp_type_sizes::{WrittenType, extents, own_order, uses_earlier};
 use std::alloc::Global;
@@ -131,7 +130,7 @@ pub fn broken_forms(alloc: Global, case: &Case) -> Result<Text, Stop> {
     }
     let order = own_order(alloc, types)?;
     let sizes = extents(alloc, types, order.as_slice())?;
-    let first = form_faults(alloc, &source, &meant, values, types, sizes.as_slice())?;
+    let first = form_faults(alloc, &source, &meant, values, sizes.as_slice())?;
     Ok(first_broken(alloc, first)?)
 }
 
@@ -197,24 +196,4 @@ pub fn evaluated(alloc: Global, case: &Case) -> Result<Text, Stop> {
         push_line(&mut out, printed(alloc, value)?.as_str())?;
     }
     Ok(out)
-}
-
-/// The expression that a source is.
-fn expression_of(alloc: Global, case: &Case) -> Result<Expr, Stop> {
-    let tokens = lex(alloc, 0, case.source())?;
-    if tokens.len() == 0 || tokens.len() >= MANY {
-        return Err(Stop::NoMemory);
-    }
-    let (expression, _) = parse_expr(alloc, &tokens, 0)?;
-    Ok(expression)
-}
-
-/// The value of an expression that uses no name, or what is broken first in it.
-pub fn examined(alloc: Global, case: &Case) -> Result<Text, Stop> {
-    let expression = expression_of(alloc, case)?;
-    let found = examine(alloc, &expression, &[], &[], 0)?;
-    match found.value {
-        Some(measured) => Ok(printed(alloc, &measured.value)?),
-        None => Ok(first_broken(alloc, found.first)?),
-    }
 }

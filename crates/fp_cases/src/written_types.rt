@@ -24,9 +24,14 @@ pub fn given_types(alloc: Global, case: &Case) -> Result<Text, Stop> {
 }
 
 fn given_line(alloc: Global, given: &Option<TypeDef>) -> Result<Text, NoMemory> {
-    let Some(given) = given else {
-        return Text::from_str(alloc, "none");
-    };
+    match given {
+        Some(given) => type_line(alloc, given),
+        None => Text::from_str(alloc, "none"),
+    }
+}
+
+/// A type with its default.
+pub fn type_line(alloc: Global, given: &TypeDef) -> Result<Text, NoMemory> {
     let mut out = given.name.copy(alloc)?;
     add_form(alloc, &given.form, &mut out)?;
     let default = printed(alloc, &given.default)?;
