@@ -23,6 +23,7 @@ fn of_item(item: &Item, found: &mut Row<usize>) -> Result<(), NoMemory>
     match item {
         Item::Defined(sited) => found.push(constants(sited.definition())),
         Item::Enumerated(_) => found.push(0),
+        Item::Declared(_) => found.push(0),
         Item::Used { .. } => Ok(()),
         Item::Written { .. } => Ok(()),
     }

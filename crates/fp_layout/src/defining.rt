@@ -66,6 +66,10 @@ fn of_item(alloc: Global, item: &Item, found: &mut Row<Definition>) -> Result<()
             define(alloc, group, name_of(definition), sited.scope(), found)
         }
         Item::Enumerated(listed) => enumerate(alloc, listed, found),
+        Item::Declared(declared) => {
+            let group = declared.group();
+            define(alloc, group, declared.name(), declared.scope(), found)
+        }
         Item::Used { .. } => Ok(()),
         Item::Written { .. } => Ok(()),
     }

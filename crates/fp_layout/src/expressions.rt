@@ -1,17 +1,17 @@
 ghost use Rattle.std.specs.Prelude.{◌≡◌, ◌++◌, ◌∷◌, [], flat_map, map, IfOk, OnOk};
 ghost use Rattle.std.specs.Option.{option_copied};
-ghost use Rattle.fp_tree.specs.declared.name.Name.{Name as Named};
+ghost use Rattle.fp_tree.specs.declared.name.Name.{Name as Single};
 ghost use Rattle.fp_meaning.specs.declared.group.Group.TheVariants.{Value};
-ghost use Rattle.fp_meaning.specs.Names.{in_assignment, in_expression, in_form, in_optional, mentioned};
+ghost use Rattle.fp_meaning.specs.Names.{in_assignment, in_expression, in_form, in_optional, mention_of, mentioned};
 
 use fp_base::{NoMemory, Row, Text};
-use fp_meaning::{Group, Mention, copy_scope};
+use fp_meaning::{Group, Mention, Named, copy_scope};
 use fp_tree::{Assignment, Expr, Form, Name, Qual};
 use std::alloc::Global;
 
 /// The texts of names.
 fn texts_of(alloc: Global, names: &[Name]) -> Result<Row<Text>, NoMemory>
-    ensures { IfOk result (λ row. row ≡ map (λ (n : Named). n.text) names.now) }
+    ensures { IfOk result (λ row. row ≡ map (λ (n : Single). n.text) names.now) }
 {
     let mut row = Row::new(alloc);
     for name in names {
@@ -20,20 +20,33 @@ fn texts_of(alloc: Global, names: &[Name]) -> Result<Row<Text>, NoMemory>
     Ok(row)
 }
 
-/// Adds a use in a scope.
-pub fn mention(
+/// Adds a use that stands in no expression.
+pub fn mention_named(alloc: Global, name: &Named, found: &mut Row<Mention>) -> Result<(), NoMemory>
+    ensures { OnOk result (found.new ≡ found.old ++ mention_of name.now ∷ []) }
+{
+    let scope = copy_scope(alloc, name.scope())?;
+    let texts = texts_of(alloc, name.names())?;
+    found.push(Mention {
+        group: name.group(),
+        scope,
+        name: texts,
+        place: name.place(),
+    })
+}
+
+/// Adds the use of a value in a scope.
+fn mention(
     alloc: Global,
-    group: Group,
     name: &Qual,
     scope: &Row<Text>,
     found: &mut Row<Mention>,
 ) -> Result<(), NoMemory>
-    ensures { OnOk result (found.new ≡ found.old ++ mentioned group scope.now name.now ∷ []) }
+    ensures { OnOk result (found.new ≡ found.old ++ mentioned Value scope.now name.now ∷ []) }
 {
     let scope = copy_scope(alloc, scope)?;
     let texts = texts_of(alloc, name.names.as_slice())?;
     found.push(Mention {
-        group,
+        group: Group::Value,
         scope,
         name: texts,
         place: name.at.first,
@@ -67,7 +80,7 @@ fn of_form(
         Form::Float => Ok(()),
         Form::Text(_) => Ok(()),
         Form::Truth(_) => Ok(()),
-        Form::Use(name) => mention(alloc, Group::Value, name, scope, found),
+        Form::Use(name) => mention(alloc, name, scope, found),
         Form::Minus(operand) => of_expression(alloc, operand.get(), scope, found),
         Form::Parentheses(inner) => of_expression(alloc, inner.get(), scope, found),
         Form::Binary { left, right, .. } => {

@@ -1,7 +1,7 @@
 ghost use Rattle.std.specs.Prelude.{◌≡◌, ◌++◌, flat_map, IfOk, OnOk};
 ghost use Rattle.fp_meaning.specs.Names.{mentions, uses_of};
 
-use crate::expressions::{mention, of_expression, of_optional};
+use crate::expressions::{mention_named, of_expression, of_optional};
 use crate::laying::lay_out;
 use fp_base::{NoMemory, Row};
 use fp_meaning::{Item, Mention};
@@ -34,7 +34,8 @@ pub fn of_item(alloc: Global, item: &Item, found: &mut Row<Mention>) -> Result<(
     match item {
         Item::Defined(sited) => of_optional(alloc, sited.value(), sited.scope(), found),
         Item::Enumerated(listed) => of_optional(alloc, listed.value(), listed.scope(), found),
-        Item::Used { name, .. } => mention(alloc, name.group(), name.name(), name.scope(), found),
+        Item::Declared(_) => Ok(()),
+        Item::Used { name, .. } => mention_named(alloc, name, found),
         Item::Written { expression, .. } => {
             of_expression(alloc, expression.expression(), expression.scope(), found)
         }

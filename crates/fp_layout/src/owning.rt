@@ -52,6 +52,7 @@ fn owner(item: &Item, number: usize) -> usize
     match item {
         Item::Defined(_) => number,
         Item::Enumerated(_) => number,
+        Item::Declared(_) => number,
         Item::Used { since, .. } => number.saturating_sub(1).saturating_sub(*since),
         Item::Written { since, .. } => number.saturating_sub(1).saturating_sub(*since),
     }
@@ -63,6 +64,7 @@ fn number_behind(item: &Item, number: usize) -> Result<usize, NoMemory>
     match item {
         Item::Defined(_) => one_more(number),
         Item::Enumerated(_) => one_more(number),
+        Item::Declared(_) => one_more(number),
         Item::Used { .. } => Ok(number),
         Item::Written { .. } => Ok(number),
     }

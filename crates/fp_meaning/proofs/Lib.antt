@@ -4,3 +4,4 @@ pub mod Meanings
 pub mod OneValue
 pub mod OneOrigin
 mod Worked
+pub mod Since

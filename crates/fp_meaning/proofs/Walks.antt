@@ -2,6 +2,11 @@
 use Rattle.std.proofs.Common.{◌≡◌, List, [], ◌∷◌, ◌++◌, flat_map, sym, ap, ◌∙◌}
 use Rattle.std.proofs.lemmas.List.Folds.{flat_map-map}
 use Rattle.fp_tree.specs.declared.definition.Def.{Def}
+use Rattle.fp_tree.specs.declared.machine.Machine.{Machine}
+use Rattle.fp_tree.specs.declared.component.Component.{Component}
+use Rattle.fp_tree.specs.declared.component.Interface.{Interface}
+use Rattle.fp_tree.specs.declared.instance.Instance.{Instance}
+use Rattle.fp_tree.specs.declared.topology.Topology.{Topology}
 use Rattle.fp_tree.specs.declared.member.Include.{Include}
 use Rattle.fp_tree.specs.declared.member.Locate.{Locate}
 use Rattle.fp_tree.specs.declared.member.Member.{fold-Member, fold-roll-Member}
@@ -15,7 +20,7 @@ use Rattle.fp_tree.specs.declared.expression.Form.TheOpen as form
 use Rattle.fp_tree.specs.declared.expression.Form.TheVariants.{Array, rolls-Array, Struct, rolls-Struct}
 use Rattle.fp_meaning.specs.declared.names.Mention.{Mention}
 use Rattle.fp_meaning.specs.declared.item.Item.{Item}
-use Rattle.fp_meaning.specs.Layout.{member_step, module_step, in_member, in_members, items_in}
+use Rattle.fp_meaning.specs.Layout.{member_step, module_step, in_member, in_members, items_in, machine_items, component_items, interface_items, instance_items, topology_items}
 use Rattle.fp_meaning.specs.Names.{Path, form_step, assignment_step, expression_step, in_form, in_expression, in_assignment}
 
 -- a module gives what its members give behind its name
@@ -32,6 +37,32 @@ pub definition_gives : (scope : Path) (d : Def) → in_member scope (node.Def d)
 definition_gives scope d =
     ap (in_member scope) (sym (node.rolls-Def d))
     ∙ ap (λ (f : Path → List Item). f scope) (fold-roll-Member (Path → List Item) (Path → List Item) member_step module_step (member.Def d))
+
+-- so do a machine, a component, an interface, an instance and a topology
+pub machine_gives : (scope : Path) (d : Machine) → in_member scope (node.Machine d) ≡ machine_items scope d
+machine_gives scope d =
+    ap (in_member scope) (sym (node.rolls-Machine d))
+    ∙ ap (λ (f : Path → List Item). f scope) (fold-roll-Member (Path → List Item) (Path → List Item) member_step module_step (member.Machine d))
+
+pub component_gives : (scope : Path) (d : Component) → in_member scope (node.Component d) ≡ component_items scope d
+component_gives scope d =
+    ap (in_member scope) (sym (node.rolls-Component d))
+    ∙ ap (λ (f : Path → List Item). f scope) (fold-roll-Member (Path → List Item) (Path → List Item) member_step module_step (member.Component d))
+
+pub interface_gives : (scope : Path) (d : Interface) → in_member scope (node.Interface d) ≡ interface_items scope d
+interface_gives scope d =
+    ap (in_member scope) (sym (node.rolls-Interface d))
+    ∙ ap (λ (f : Path → List Item). f scope) (fold-roll-Member (Path → List Item) (Path → List Item) member_step module_step (member.Interface d))
+
+pub instance_gives : (scope : Path) (d : Instance) → in_member scope (node.Instance d) ≡ instance_items scope d
+instance_gives scope d =
+    ap (in_member scope) (sym (node.rolls-Instance d))
+    ∙ ap (λ (f : Path → List Item). f scope) (fold-roll-Member (Path → List Item) (Path → List Item) member_step module_step (member.Instance d))
+
+pub topology_gives : (scope : Path) (d : Topology) → in_member scope (node.Topology d) ≡ topology_items scope d
+topology_gives scope d =
+    ap (in_member scope) (sym (node.rolls-Topology d))
+    ∙ ap (λ (f : Path → List Item). f scope) (fold-roll-Member (Path → List Item) (Path → List Item) member_step module_step (member.Topology d))
 
 -- others give nothing
 pub include_gives : (scope : Path) (i : Include) → in_member scope (node.Include i) ≡ []

@@ -1,4 +1,5 @@
 pub mod Sites
+pub mod Read
 pub mod Layout
 pub mod Names
 pub mod Meaning

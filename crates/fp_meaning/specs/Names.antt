@@ -13,12 +13,12 @@ use Rattle.fp_tree.specs.declared.expression.Form.TheOpen as form
 use Rattle.fp_tree.specs.declared.expression.Assignment.{Assignment, Assignment-F, fold-Assignment}
 use Rattle.fp_tree.specs.declared.part.EnumConst.{EnumConst}
 use Rattle.fp_meaning.specs.declared.group.Group.{Group}
-use Rattle.fp_meaning.specs.declared.group.Group.TheVariants.{Kind, Value, Port}
+use Rattle.fp_meaning.specs.declared.group.Group.TheVariants.{Kind, Value, Port, Component, Instance, Topology, Machine, Interface}
 use Rattle.fp_meaning.specs.declared.item.Item.{Item}
 use Rattle.fp_meaning.specs.declared.item.Item.TheVariants as item
 use Rattle.fp_meaning.specs.declared.names.Definition.{Definition}
 use Rattle.fp_meaning.specs.declared.names.Mention.{Mention}
-use Rattle.fp_meaning.specs.Sites.{value_in}
+use Rattle.fp_meaning.specs.Sites.{value_in, ModelDef, machine, component, interface, instance, topology, Naming, naming}
 use Rattle.fp_meaning.specs.Layout.{items}
 pub use Rattle.fp_meaning.specs.Sites.{Path, in_optional}
 
@@ -30,6 +30,20 @@ group_of (def.Array d) = Kind
 group_of (def.Struct d) = Kind
 group_of (def.Enum d) = Kind
 group_of (def.Port d) = Port
+
+abbrev pub model_group : ModelDef → Group
+model_group (machine d) = Machine
+model_group (component d) = Component
+model_group (interface d) = Interface
+model_group (instance d) = Instance
+model_group (topology d) = Topology
+
+abbrev pub model_name : ModelDef → Name
+model_name (machine d) = d.name
+model_name (component d) = d.name
+model_name (interface d) = d.name
+model_name (instance d) = d.name
+model_name (topology d) = d.name
 
 abbrev pub name_of : Def → Name
 name_of (def.Constant d) = d.name
@@ -51,15 +65,19 @@ constant_of scope e c = defined Value (scope ++ e.name.text ∷ []) c.name
 abbrev pub definitions_of : Item → List Definition
 definitions_of (item.Defined s) = defined (group_of s.definition) s.scope (name_of s.definition) ∷ []
 definitions_of (item.Enumerated e) = constant_of e.scope e.enumeration e.constant ∷ []
+definitions_of (item.Declared d) = defined (model_group d.definition) d.scope (model_name d.definition) ∷ []
 definitions_of (item.Used since n) = []
 definitions_of (item.Written since p) = []
 
 abbrev pub definitions : Source → List Definition
 definitions source = flat_map definitions_of (items source)
 
+abbrev pub mention_of : Naming → Mention
+mention_of n = record { group = n.group; scope = n.scope; name = map (λ (x : Name). x.text) n.names; place = n.place }
+
 -- a use in a scope
 abbrev pub mentioned : Group → Path → Qual → Mention
-mentioned group scope name = record { group = group; scope = scope; name = map (λ (n : Name). n.text) name.names; place = name.at.first }
+mentioned group scope name = mention_of (naming group scope name)
 
 -- the uses in a scope; a name in an expression is a value's
 module _ (scope : Path) where
@@ -94,7 +112,8 @@ module _ (scope : Path) where
 abbrev pub uses_of : Item → List Mention
 uses_of (item.Defined s) = in_optional (in_expression s.scope) (value_in s.definition)
 uses_of (item.Enumerated e) = in_constant e.scope e.constant
-uses_of (item.Used since n) = mentioned n.group n.scope n.name ∷ []
+uses_of (item.Declared d) = []
+uses_of (item.Used since n) = mention_of n ∷ []
 uses_of (item.Written since p) = in_expression p.scope p.expression
 
 abbrev pub mentions : Source → List Mention

@@ -18,6 +18,7 @@ one scope e = placed scope e ∷ []
 abbrev pub expressions_of : Item → List Placed
 expressions_of (item.Defined s) = in_optional (one s.scope) (value_in s.definition)
 expressions_of (item.Enumerated e) = in_optional (one e.scope) e.constant.value
+expressions_of (item.Declared d) = []
 expressions_of (item.Used since n) = []
 expressions_of (item.Written since p) = placed p.scope p.expression ∷ []
 
@@ -39,6 +40,7 @@ origin_with scope (Some e) = Constant scope e
 abbrev pub origins_of : Item → List Origin
 origins_of (item.Defined s) = origin_with s.scope (value_in s.definition) ∷ []
 origins_of (item.Enumerated e) = Enumerated e.scope e.enumeration e.position e.constant ∷ []
+origins_of (item.Declared d) = NoValue ∷ []
 origins_of (item.Used since n) = []
 origins_of (item.Written since p) = []
 

@@ -10,6 +10,7 @@ use Rattle.fp_meaning.specs.Names.{definitions_of, uses_of}
 abbrev pub owner_of : ℕ → Item → ℕ
 owner_of number (item.Defined s) = number
 owner_of number (item.Enumerated e) = number
+owner_of number (item.Declared d) = number
 owner_of number (item.Used since n) = number - 1 - since
 owner_of number (item.Written since p) = number - 1 - since
 
@@ -26,5 +27,6 @@ constants_in _ = 0
 abbrev pub counts_of : Item → List ℕ
 counts_of (item.Defined s) = constants_in s.definition ∷ []
 counts_of (item.Enumerated e) = 0 ∷ []
+counts_of (item.Declared d) = 0 ∷ []
 counts_of (item.Used since n) = []
 counts_of (item.Written since p) = []

@@ -11,4 +11,5 @@ pub enum Group {
     Topology,
     /// State machines.
     Machine,
+    Interface,
 }

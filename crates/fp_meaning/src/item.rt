@@ -1,11 +1,16 @@
 ghost use Rattle.std.specs.Prelude.{◌≡◌, IfOk};
 ghost use Rattle.std.specs.Option.{option_copied};
-ghost use Rattle.fp_meaning.specs.Sites.{entry, is_implied, naming, placed, site, value_in};
+ghost use Rattle.fp_meaning.specs.Names.{model_group, model_name};
+ghost use Rattle.fp_meaning.specs.Read.{declared_there, read};
+ghost use Rattle.fp_meaning.specs.Sites.{entry, is_implied, naming, placed, port_naming, site, value_in};
 
 use crate::group::Group;
 use crate::scopes::Scope;
-use fp_base::{NoMemory, Row, Text};
-use fp_tree::{Def, Enum, EnumConst, Expr, Qual};
+use fp_base::{NoMemory, Place, Row, Text};
+use fp_tree::{
+    Component, Def, Enum, EnumConst, Expr, Instance, Interface, Machine, Name, PortUse, Qual,
+    Topology,
+};
 use std::marker::Model;
 
 /// A definition in its scope.
@@ -149,25 +154,107 @@ impl<'a> Listed<'a> {
     }
 }
 
+/// A definition beside those of constants, types and ports.
+#[derive(Clone, Copy)]
+pub enum ModelDef<'a> {
+    Machine(&'a Machine),
+    Component(&'a Component),
+    Interface(&'a Interface),
+    Instance(&'a Instance),
+    Topology(&'a Topology),
+}
+
+/// Such a definition in its scope.
+#[derive(Drop)]
+pub struct Declared<'a> {
+    scope: Scope,
+    definition: ModelDef<'a>,
+}
+
+impl<'a> Model for Declared<'a> {
+    ghost use Rattle.std.specs.Coded.{codes};
+    ghost use Rattle.fp_tree.specs.contracts.component.Component as components;
+    ghost use Rattle.fp_tree.specs.contracts.component.Interface as interfaces;
+    ghost use Rattle.fp_tree.specs.contracts.instance.Instance as instances;
+    ghost use Rattle.fp_tree.specs.contracts.machine.Machine as machines;
+    ghost use Rattle.fp_tree.specs.contracts.topology.Topology as topologies;
+    ghost use Rattle.fp_meaning.specs.Read.{read};
+    ghost use Rattle.fp_meaning.specs.Sites.{Declaration};
+
+    ghost Value = { Declaration };
+
+    ghost coded = { Prim.hlevel (codes, machines.the_row.coded, components.the_row.coded, interfaces.the_row.coded, instances.the_row.coded, topologies.the_row.coded) };
+
+    ghost view = { λ d. record { scope = d.scope; definition = read d.definition } };
+}
+
+impl<'a> Declared<'a> {
+    pub fn of(scope: &Scope, definition: ModelDef<'a>) -> Result<Declared<'a>, NoMemory>
+        ensures { IfOk result (λ declared. declared ≡ declared_there scope.now definition.entry) }
+    {
+        let scope = scope.share()?;
+        Ok(Declared { scope, definition })
+    }
+
+    pub fn scope(&self) -> &Row<Text>
+        ensures { result.now ≡ self.now.scope }
+    {
+        self.scope.names()
+    }
+
+    pub fn definition(&self) -> ModelDef<'a>
+        ensures { read result ≡ self.now.definition }
+    {
+        self.definition
+    }
+
+    /// The group in which its name is defined.
+    pub fn group(&self) -> Group
+        ensures { result ≡ model_group self.now.definition }
+    {
+        match self.definition {
+            ModelDef::Machine(_) => Group::Machine,
+            ModelDef::Component(_) => Group::Component,
+            ModelDef::Interface(_) => Group::Interface,
+            ModelDef::Instance(_) => Group::Instance,
+            ModelDef::Topology(_) => Group::Topology,
+        }
+    }
+
+    pub fn name(&self) -> &'a Name
+        ensures { result.now ≡ model_name self.now.definition }
+    {
+        match self.definition {
+            ModelDef::Machine(machine) => &machine.name,
+            ModelDef::Component(component) => &component.name,
+            ModelDef::Interface(interface) => &interface.name,
+            ModelDef::Instance(instance) => &instance.name,
+            ModelDef::Topology(topology) => &topology.name,
+        }
+    }
+}
+
 /// The use of a name that stands in no expression, with the group in which it is looked up.
 #[derive(Drop)]
 pub struct Named<'a> {
     group: Group,
     scope: Scope,
-    name: &'a Qual,
+    names: &'a [Name],
+    place: Place,
 }
 
 impl<'a> Model for Named<'a> {
     ghost use Rattle.std.specs.Coded.{codes};
-    ghost use Rattle.fp_tree.specs.contracts.name.Qual as qualified;
+    ghost use Rattle.fp_base.specs.contracts.place.Place as places;
+    ghost use Rattle.fp_tree.specs.contracts.name.Name as single;
     ghost use Rattle.fp_meaning.specs.contracts.group.Group as groups;
     ghost use Rattle.fp_meaning.specs.Sites.{Naming};
 
     ghost Value = { Naming };
 
-    ghost coded = { Prim.hlevel (codes, groups.the_row.coded, qualified.the_row.coded) };
+    ghost coded = { Prim.hlevel (codes, groups.the_row.coded, single.the_row.coded, places.the_row.coded) };
 
-    ghost view = { λ n. record { group = n.group; scope = n.scope; name = n.name.now } };
+    ghost view = { λ n. record { group = n.group; scope = n.scope; names = n.names.now; place = n.place } };
 }
 
 impl<'a> Named<'a> {
@@ -175,7 +262,26 @@ impl<'a> Named<'a> {
         ensures { IfOk result (λ named. named ≡ naming group scope.now name.now) }
     {
         let scope = scope.share()?;
-        Ok(Named { group, scope, name })
+        Ok(Named {
+            group,
+            scope,
+            names: name.names.as_slice(),
+            place: name.at.first,
+        })
+    }
+
+    /// The instance that the use of a port names.
+    pub fn of_port_use(scope: &Scope, port: &'a PortUse) -> Result<Named<'a>, NoMemory>
+        ensures { IfOk result (λ named. named ≡ port_naming scope.now port.now) }
+    {
+        let scope = scope.share()?;
+        let names = port.of.names.as_slice();
+        Ok(Named {
+            group: Group::Instance,
+            scope,
+            names: &names[..names.len().saturating_sub(1)],
+            place: port.at.first,
+        })
     }
 
     pub fn group(&self) -> Group
@@ -190,10 +296,16 @@ impl<'a> Named<'a> {
         self.scope.names()
     }
 
-    pub fn name(&self) -> &'a Qual
-        ensures { result.now ≡ self.now.name }
+    pub fn names(&self) -> &'a [Name]
+        ensures { result.now ≡ self.now.names }
     {
-        self.name
+        self.names
+    }
+
+    pub fn place(&self) -> Place
+        ensures { result ≡ self.now.place }
+    {
+        self.place
     }
 }
 
@@ -241,10 +353,12 @@ impl<'a> Located<'a> {
 /// definition that has it.
 #[derive(Drop)]
 pub enum Item<'a> {
-    /// A definition; the expression of a constant is its own.
+    /// A definition of a constant, a type or a port; the expression of a constant is its own.
     Defined(Sited<'a>),
     /// A constant of an enumeration, with the expression that may be written there.
     Enumerated(Listed<'a>),
+    /// A definition of any other kind.
+    Declared(Declared<'a>),
     Used {
         since: usize,
         name: Named<'a>,

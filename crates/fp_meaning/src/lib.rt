@@ -9,7 +9,7 @@ mod names;
 mod scopes;
 
 pub use group::Group;
-pub use item::{Item, Listed, Located, Named, Sited};
+pub use item::{Declared, Item, Listed, Located, ModelDef, Named, Sited};
 pub use laws::{one_meaning, one_scope, one_value, undefined_or_wrong_kind, worked_source};
 pub use marks::Marks;
 pub use names::{Definition, Mention};
