@@ -1,5 +1,5 @@
 -- A name or an expression that stands beside the values of definitions belongs to a definition that has no value.
-use Rattle.std.proofs.Common.{◌≡◌, ℕ, suc, ◌+◌, ◌-◌, List, [], ◌∷◌, ◌++◌, length, map, flat_map, slice_get, Option, Some, None, refl, sym, ap, subst, ◌∙◌, arith, length-append, append_assoc}
+use Rattle.std.proofs.Common.{◌≡◌, ℕ, suc, ◌+◌, ◌-◌, List, [], ◌∷◌, ◌++◌, length, flat_map, slice_get, Some, refl, sym, ap, subst, ◌∙◌, arith, length-append, append_assoc}
 use Rattle.std.proofs.lemmas.List.{append-nil}
 use Rattle.std.proofs.lemmas.Grind.{flat_map-append}
 use Rattle.fp_base.proofs.Lists.{get_front, get_last}
@@ -7,17 +7,12 @@ use Rattle.fp_tree.specs.declared.source.Source.{Source}
 use Rattle.fp_tree.specs.declared.definition.Def.{Def}
 use Rattle.fp_tree.specs.declared.definition.Def.TheVariants as def
 use Rattle.fp_tree.specs.declared.definition.Enum.{Enum}
-use Rattle.fp_tree.specs.declared.expression.Expr.{Expr}
-use Rattle.fp_tree.specs.declared.type_name.TypeName.{TypeName}
-use Rattle.fp_tree.specs.declared.type_name.TypeForm.{TypeForm}
-use Rattle.fp_tree.specs.declared.type_name.TypeForm.TheVariants as type
 use Rattle.fp_tree.specs.declared.part.EnumConst.{EnumConst}
-use Rattle.fp_tree.specs.declared.part.Field.{Field}
-use Rattle.fp_tree.specs.declared.part.Formal.{Formal}
 use Rattle.fp_meaning.specs.declared.item.Item.{Item}
 use Rattle.fp_meaning.specs.declared.item.Item.TheVariants as item
 use Rattle.fp_meaning.specs.Sites.{Path, in_optional}
-use Rattle.fp_meaning.specs.Layout.{expression_items, type_form_items, type_items, field_items, formal_items, constant_items, enum_items, items_in, items}
+use Rattle.fp_meaning.specs.Layout.{expression_items, type_items, field_items, formal_items, constant_items, enum_items, items_in, items}
+use Rattle.fp_meaning.proofs.Since.{AllSince, since_both, since_optional, since_form, since_type, since_fields, since_formals}
 use Rattle.fp_meaning.proofs.Throughout.{all_items}
 use Rattle.fp_meaning.specs.Origins.{Origin, NoValue, origins_of}
 
@@ -28,6 +23,7 @@ AreApart before (item.Used since n ∷ is) = (slice_get before (length before - 
 AreApart before (item.Written since p ∷ is) = (slice_get before (length before - 1 - since) ≡ Some NoValue) × AreApart before is
 AreApart before (item.Defined s ∷ is) = AreApart (before ++ origins_of (item.Defined s)) is
 AreApart before (item.Enumerated e ∷ is) = AreApart (before ++ origins_of (item.Enumerated e)) is
+AreApart before (item.Declared d ∷ is) = AreApart (before ++ origins_of (item.Declared d)) is
 
 apart_both : (before : List Origin) (xs ys : List Item) → AreApart before xs → AreApart (before ++ flat_map origins_of xs) ys → AreApart before (xs ++ ys)
 apart_both before [] ys h k = subst (λ (os : List Origin). AreApart os ys) (append-nil before) k
@@ -39,23 +35,11 @@ apart_both before (item.Defined s ∷ xs) ys h k =
 apart_both before (item.Enumerated e ∷ xs) ys h k =
     apart_both (before ++ origins_of (item.Enumerated e)) xs ys h
     (subst (λ (os : List Origin). AreApart os ys) (sym (append_assoc before (origins_of (item.Enumerated e)) (flat_map origins_of xs))) k)
+apart_both before (item.Declared d ∷ xs) ys h k =
+    apart_both (before ++ origins_of (item.Declared d)) xs ys h
+    (subst (λ (os : List Origin). AreApart os ys) (sym (append_assoc before (origins_of (item.Declared d)) (flat_map origins_of xs))) k)
 
 -- ---- within one definition
-
--- all are names or expressions, so many definitions behind the one that has them
-abbrev AllSince : ℕ → List Item → Type 0
-AllSince since [] = Unit {0}
-AllSince since (item.Used m n ∷ is) = (m ≡ since) × AllSince since is
-AllSince since (item.Written m p ∷ is) = (m ≡ since) × AllSince since is
-AllSince since (item.Defined s ∷ is) = ⊥
-AllSince since (item.Enumerated e ∷ is) = ⊥
-
-since_both : (since : ℕ) (xs ys : List Item) → AllSince since xs → AllSince since ys → AllSince since (xs ++ ys)
-since_both since [] ys h k = k
-since_both since (item.Used m n ∷ xs) ys h k = (h.0, since_both since xs ys h.1 k)
-since_both since (item.Written m p ∷ xs) ys h k = (h.0, since_both since xs ys h.1 k)
-since_both since (item.Defined s ∷ xs) ys h k = absurd h
-since_both since (item.Enumerated e ∷ xs) ys h k = absurd h
 
 since_apart : (before : List Origin) (since : ℕ) (xs : List Item) → slice_get before (length before - 1 - since) ≡ Some NoValue → AllSince since xs → AreApart before xs
 since_apart before since [] at h = tt
@@ -65,6 +49,7 @@ since_apart before since (item.Written m p ∷ xs) at h =
     (subst (λ (k : ℕ). slice_get before (length before - 1 - k) ≡ Some NoValue) (sym h.0) at, since_apart before since xs at h.1)
 since_apart before since (item.Defined s ∷ xs) at h = absurd h
 since_apart before since (item.Enumerated e ∷ xs) at h = absurd h
+since_apart before since (item.Declared d ∷ xs) at h = absurd h
 
 no_origins : (since : ℕ) (xs : List Item) → AllSince since xs → flat_map origins_of xs ≡ []
 no_origins since [] h = refl
@@ -72,39 +57,7 @@ no_origins since (item.Used m n ∷ xs) h = no_origins since xs h.1
 no_origins since (item.Written m p ∷ xs) h = no_origins since xs h.1
 no_origins since (item.Defined s ∷ xs) h = absurd h
 no_origins since (item.Enumerated e ∷ xs) h = absurd h
-
-since_optional : (since : ℕ) (scope : Path) (o : Option Expr) → AllSince since (in_optional (expression_items since scope) o)
-since_optional since scope None = tt
-since_optional since scope (Some e) = (refl, tt)
-
-since_form : (since : ℕ) (scope : Path) (f : TypeForm) → AllSince since (type_form_items since scope f)
-since_form since scope (type.Text size) = since_optional since scope size
-since_form since scope (type.Use name) = (refl, tt)
-since_form since scope type.U8 = tt
-since_form since scope type.U16 = tt
-since_form since scope type.U32 = tt
-since_form since scope type.U64 = tt
-since_form since scope type.I8 = tt
-since_form since scope type.I16 = tt
-since_form since scope type.I32 = tt
-since_form since scope type.I64 = tt
-since_form since scope type.F32 = tt
-since_form since scope type.F64 = tt
-since_form since scope type.Bool = tt
-
-since_type : (scope : Path) (o : Option TypeName) → AllSince 0 (in_optional (type_items 0 scope) o)
-since_type scope None = tt
-since_type scope (Some t) = since_form 0 scope t.form
-
-since_fields : (scope : Path) (fs : List Field) → AllSince 0 (flat_map (field_items scope) fs)
-since_fields scope [] = tt
-since_fields scope (f ∷ fs) =
-    since_both 0 (field_items scope f) (flat_map (field_items scope) fs)
-    (since_both 0 (in_optional (expression_items 0 scope) f.size) (type_items 0 scope f.of) (since_optional 0 scope f.size) (since_form 0 scope f.of.form)) (since_fields scope fs)
-
-since_formals : (scope : Path) (fs : List Formal) → AllSince 0 (flat_map (formal_items scope) fs)
-since_formals scope [] = tt
-since_formals scope (f ∷ fs) = since_both 0 (formal_items scope f) (flat_map (formal_items scope) fs) (since_form 0 scope f.of.form) (since_formals scope fs)
+no_origins since (item.Declared d ∷ xs) h = absurd h
 
 constants_apart : (before : List Origin) (scope : Path) (e : Enum) (position : ℕ) (cs : List EnumConst) → AreApart before (constant_items scope e position cs)
 constants_apart before scope e position [] = tt
@@ -178,4 +131,5 @@ def_apart before scope (def.Port d) =
 
 pub source_apart : (source : Source) → AreApart [] (items source)
 source_apart source =
-    all_items (λ is. (before : List Origin) → AreApart before is) (λ before. tt) (λ xs ys h k before. apart_both before xs ys (h before) (k _)) (λ scope d before. def_apart before scope d) source []
+    all_items (λ is. (before : List Origin) → AreApart before is) (λ before. tt) (λ xs ys h k before. apart_both before xs ys (h before) (k _)) (λ scope d before. def_apart before scope d)
+    (λ scope d is h before. parts_apart before is h) source []

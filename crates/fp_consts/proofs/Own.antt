@@ -47,6 +47,7 @@ item_uses (item.Enumerated e) origin gives = with_value e.constant.value ∙ ap 
     with_value : (o : Option Expr) → in_optional (in_expression e.scope) o ≡ in_optional in_placed (placed_optional e.scope o)
     with_value None = refl
     with_value (Some x) = refl
+item_uses (item.Declared d) origin gives = ap uses_there (the_head gives)
 item_uses (item.Used since n) origin gives = cc
 item_uses (item.Written since w) origin gives = cc
 
@@ -73,21 +74,18 @@ in_replicate (suc n) x (suc k) v e = in_replicate n x k v e
 many_at : (n x k v : ℕ) → slice_get (replicate n x) k ≡ Some v → k < n
 many_at n x k v e = let lt = slice_get_within (replicate n x) k v e in let long = length-replicate n x in omega arith
 
+here_at : (xs : List Origin) (x : Origin) (ys : List Origin) → slice_get (xs ++ (x ∷ ys)) (length xs) ≡ Some x
+here_at [] x ys = refl
+here_at (y ∷ xs) x ys = here_at xs x ys
+
 -- the first item's uses are those of an origin that its owner has
 here_by : (before rest : List Origin) (i : Item) (is : List Item) → AreApart before (i ∷ is) → (o : Origin)
     → slice_get (before ++ (origins_of i ++ rest)) (owner_of (length before) i) ≡ Some o → (o ≡ NoValue → ⊥) → uses_of i ≡ uses_there o
 here_by before rest (item.Defined s) is apart o at valued =
     item_uses (item.Defined s) o (ap (λ (x : Origin). x ∷ []) (same_some (sym (here_at before (origin_with s.scope (value_in s.definition)) rest) ∙ at)))
-  where
-    here_at : (xs : List Origin) (x : Origin) (ys : List Origin) → slice_get (xs ++ (x ∷ ys)) (length xs) ≡ Some x
-    here_at [] x ys = refl
-    here_at (y ∷ xs) x ys = here_at xs x ys
 here_by before rest (item.Enumerated e) is apart o at valued =
     item_uses (item.Enumerated e) o (ap (λ (x : Origin). x ∷ []) (same_some (sym (here_at before (Enumerated e.scope e.enumeration e.position e.constant) rest) ∙ at)))
-  where
-    here_at : (xs : List Origin) (x : Origin) (ys : List Origin) → slice_get (xs ++ (x ∷ ys)) (length xs) ≡ Some x
-    here_at [] x ys = refl
-    here_at (y ∷ xs) x ys = here_at xs x ys
+here_by before rest (item.Declared d) is apart o at valued = absurd (valued (same_some (sym at ∙ here_at before NoValue rest)))
 here_by before rest (item.Used since n) is apart o at valued =
     absurd (valued (sym (same_some (sym (get_front before rest (length before - 1 - since) NoValue apart.0) ∙ at))))
 here_by before rest (item.Written since w) is apart o at valued =
@@ -97,12 +95,14 @@ here_by before rest (item.Written since w) is apart o at valued =
 rest_apart : (before : List Origin) (i : Item) (is : List Item) → AreApart before (i ∷ is) → AreApart (before ++ origins_of i) is
 rest_apart before (item.Defined s) is h = h
 rest_apart before (item.Enumerated e) is h = h
+rest_apart before (item.Declared d) is h = h
 rest_apart before (item.Used since n) is h = subst (λ (os : List Origin). AreApart os is) (sym (append-nil before)) h.1
 rest_apart before (item.Written since w) is h = subst (λ (os : List Origin). AreApart os is) (sym (append-nil before)) h.1
 
 as_many : (i : Item) → length (definitions_of i) ≡ length (origins_of i)
 as_many (item.Defined s) = refl
 as_many (item.Enumerated e) = refl
+as_many (item.Declared d) = refl
 as_many (item.Used since n) = refl
 as_many (item.Written since w) = refl
 
@@ -168,6 +168,8 @@ counted_from (item.Defined s ∷ is) zero n o c at lt =
 counted_from (item.Defined s ∷ is) (suc user) n o c at lt = counted_from is user n o c at lt
 counted_from (item.Enumerated e ∷ is) zero n o c at lt = let count : 0 ≡ n = same_some c in absurd (omega arith)
 counted_from (item.Enumerated e ∷ is) (suc user) n o c at lt = counted_from is user n o c at lt
+counted_from (item.Declared d ∷ is) zero n o c at lt = sym (same_some at)
+counted_from (item.Declared d ∷ is) (suc user) n o c at lt = counted_from is user n o c at lt
 
 -- ---- a use of a definition that has a value
 

@@ -134,6 +134,11 @@ spot_of (variant.Enumerated e ∷ ps) index limit from zero origin fits at =
 spot_of (variant.Enumerated e ∷ ps) index limit from (suc number) origin fits at =
     let t = within_all (variant.Enumerated e) ps from limit fits in
     further (variant.Enumerated e) ps index limit from (suc number) number origin t.0 refl refl (one_before number) (spot_of ps (suc index) limit (from + length (uses_of (variant.Enumerated e))) number origin t.1 at)
+spot_of (variant.Declared d ∷ ps) index limit from zero origin fits at =
+    here (variant.Declared d) ps index limit from origin (within_all (variant.Declared d) ps from limit fits).0 refl refl (alone at)
+spot_of (variant.Declared d ∷ ps) index limit from (suc number) origin fits at =
+    let t = within_all (variant.Declared d) ps from limit fits in
+    further (variant.Declared d) ps index limit from (suc number) number origin t.0 refl refl (one_before number) (spot_of ps (suc index) limit (from + length (uses_of (variant.Declared d))) number origin t.1 at)
 
 -- the uses of an item that is a definition have it as their owner
 get_replicate : (n x k : ℕ) → k < n → slice_get (replicate n x) k ≡ Some x
@@ -144,6 +149,7 @@ get_replicate (suc n) x (suc k) h = get_replicate n x k (omega arith)
 owns_itself : (number : ℕ) (p : Item) (origin : Origin) → origins_of p ≡ origin ∷ [] → owner_of number p ≡ number
 owns_itself number (variant.Defined s) origin gives = refl
 owns_itself number (variant.Enumerated e) origin gives = refl
+owns_itself number (variant.Declared d) origin gives = refl
 owns_itself number (variant.Used since n) origin gives = cc
 owns_itself number (variant.Written since w) origin gives = cc
 
@@ -269,6 +275,7 @@ module _ (source : Source) (items : List Item) (firsts spots meanings order : Li
   as_many (variant.Written since w ∷ ps) = as_many ps
   as_many (variant.Defined s ∷ ps) = ap (λ (n : ℕ). suc n) (as_many ps)
   as_many (variant.Enumerated e ∷ ps) = ap (λ (n : ℕ). suc n) (as_many ps)
+  as_many (variant.Declared d ∷ ps) = ap (λ (n : ℕ). suc n) (as_many ps)
 
   origins_length : length (flat_map definitions_of items) ≡ length (origins source)
   origins_length = as_many items ∙ ap (λ (os : List Origin). length os) all_origins

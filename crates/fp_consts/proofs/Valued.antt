@@ -12,7 +12,7 @@ use Rattle.fp_meaning.specs.Names.{in_expression, in_optional}
 use Rattle.fp_meaning.specs.Origins.{Origin, Enumerated, origins}
 use Rattle.fp_meaning.specs.Values.{dotted, number_in, opened, constant_value, IsImplied, Val}
 use Rattle.fp_meaning.specs.declared.item.Item.TheVariants as item
-use Rattle.fp_meaning.specs.Sites.{Site, Entry, is_implied, value_in}
+use Rattle.fp_meaning.specs.Sites.{Site, Entry, Declaration, is_implied, value_in}
 use Rattle.fp_consts.specs.declared.measured.Measured.{Measured}
 use Rattle.fp_consts.specs.declared.found.Examination.{Examination}
 use Rattle.fp_consts.specs.Examined.{AreGiven, Examines, GivesValue, IsExact, leaf_of, plain}
@@ -143,6 +143,11 @@ settled_by table numbers e from found examined source scope given =
 
 pub settled_to_none : (table : List (Option Measured)) (numbers : List ℕ) (from : ℕ) → SettlesWith table numbers None from None
 settled_to_none table numbers from source scope given = record { measured = none_measured; holds = λ v h. cc; only = λ v h. absurd h }
+
+-- a definition of a machine, a component, an interface, an instance or a topology has no value
+pub declared_settled : (table : List (Option Measured)) (numbers : List ℕ) (d : Declaration) (from : ℕ) → Settles table numbers (item.Declared d) from None
+declared_settled table numbers d from source origin same given =
+    subst (λ (x : Origin). IsSettled source x None) (the_head same) (settled_to_none table numbers from source d.scope given)
 
 -- what is settled is the definition's value
 pub settled_exact : (source : Source) (number : ℕ) (origin : Origin) (o : Option Measured) → slice_get (origins source) number ≡ Some origin → IsSettled source origin o

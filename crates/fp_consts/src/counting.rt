@@ -72,6 +72,7 @@ pub fn past_item(item: &Item, next: usize, limit: usize) -> usize
     match item {
         Item::Defined(sited) => past_optional(sited.value(), next, limit),
         Item::Enumerated(listed) => past_optional(listed.value(), next, limit),
+        Item::Declared(_) => next,
         Item::Used { .. } => past_use(next, limit),
         Item::Written { expression, .. } => past_expression(expression.expression(), next, limit),
     }

@@ -28,6 +28,7 @@ pub fn settled(
             let number = number_of(alloc, listed, table, meanings, next)?;
             enumerated(alloc, listed, number)
         }
+        Item::Declared(_) => Ok(None),
         Item::Used { .. } => Ok(None),
         Item::Written { .. } => Ok(None),
     }

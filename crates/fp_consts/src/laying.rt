@@ -43,6 +43,7 @@ fn with_item(before: Laid, index: usize, item: &Item, limit: usize) -> Result<La
     match item {
         Item::Defined(_) => with_definition(before, index, end),
         Item::Enumerated(_) => with_definition(before, index, end),
+        Item::Declared(_) => with_definition(before, index, end),
         Item::Used { .. } => Ok(moved(before, end)),
         Item::Written { .. } => Ok(moved(before, end)),
     }

@@ -58,6 +58,7 @@ fn with_item(
     match item {
         Item::Defined(sited) => with_optional(alloc, sited.value(), before, table, meanings),
         Item::Enumerated(listed) => with_optional(alloc, listed.value(), before, table, meanings),
+        Item::Declared(_) => Ok(before),
         Item::Used { .. } => Ok(past_use(before, meanings)),
         Item::Written { expression, .. } => with_expression(
             alloc,
@@ -84,7 +85,7 @@ fn with_optional(
     }
 }
 
-/// Past the use of a type.
+/// Past a use that stands in no expression.
 fn past_use(before: Marking, meanings: &[u32]) -> Marking
     ensures at { result.at ≡ before.at }
     ensures first { result.first ≡ before.first }

@@ -7,7 +7,7 @@ use Rattle.fp_base.proofs.Lists.{take_next}
 use Rattle.fp_base.specs.declared.refusal.Refusal.{Refusal}
 use Rattle.fp_base.specs.declared.rule.Rule.TheVariants.{DefinedTwice, Undefined, WrongKindOfName}
 use Rattle.fp_meaning.specs.declared.group.Group.{Group}
-use Rattle.fp_meaning.specs.declared.group.Group.TheVariants.{Kind, Value, Port, Component, Instance, Topology, Machine}
+use Rattle.fp_meaning.specs.declared.group.Group.TheVariants.{Kind, Value, Port, Component, Instance, Topology, Machine, Interface}
 use Rattle.fp_meaning.specs.declared.names.Definition.{Definition}
 use Rattle.fp_meaning.specs.declared.names.Mention.{Mention}
 use Rattle.fp_meaning.specs.Names.{Path}
@@ -64,36 +64,38 @@ told_as false P Q to back p = λ q. p (back q)
 
 module _ (P : Group → Type 0) where
   abbrev Any : Type 0
-  Any = (((((P Kind ⊎ P Value) ⊎ P Port) ⊎ P Component) ⊎ P Instance) ⊎ P Topology) ⊎ P Machine
+  Any = ((((((P Kind ⊎ P Value) ⊎ P Port) ⊎ P Component) ⊎ P Instance) ⊎ P Topology) ⊎ P Machine) ⊎ P Interface
 
   some_of : Any → (g : Group) × P g
-  some_of (inl (inl (inl (inl (inl (inl p)))))) = (Kind, p)
-  some_of (inl (inl (inl (inl (inl (inr p)))))) = (Value, p)
-  some_of (inl (inl (inl (inl (inr p))))) = (Port, p)
-  some_of (inl (inl (inl (inr p)))) = (Component, p)
-  some_of (inl (inl (inr p))) = (Instance, p)
-  some_of (inl (inr p)) = (Topology, p)
-  some_of (inr p) = (Machine, p)
+  some_of (inl (inl (inl (inl (inl (inl (inl p))))))) = (Kind, p)
+  some_of (inl (inl (inl (inl (inl (inl (inr p))))))) = (Value, p)
+  some_of (inl (inl (inl (inl (inl (inr p)))))) = (Port, p)
+  some_of (inl (inl (inl (inl (inr p))))) = (Component, p)
+  some_of (inl (inl (inl (inr p)))) = (Instance, p)
+  some_of (inl (inl (inr p))) = (Topology, p)
+  some_of (inl (inr p)) = (Machine, p)
+  some_of (inr p) = (Interface, p)
 
   any_of : (g : Group) → P g → Any
-  any_of Kind p = inl (inl (inl (inl (inl (inl p)))))
-  any_of Value p = inl (inl (inl (inl (inl (inr p)))))
-  any_of Port p = inl (inl (inl (inl (inr p))))
-  any_of Component p = inl (inl (inl (inr p)))
-  any_of Instance p = inl (inl (inr p))
-  any_of Topology p = inl (inr p)
-  any_of Machine p = inr p
+  any_of Kind p = inl (inl (inl (inl (inl (inl (inl p))))))
+  any_of Value p = inl (inl (inl (inl (inl (inl (inr p))))))
+  any_of Port p = inl (inl (inl (inl (inl (inr p)))))
+  any_of Component p = inl (inl (inl (inl (inr p))))
+  any_of Instance p = inl (inl (inl (inr p)))
+  any_of Topology p = inl (inl (inr p))
+  any_of Machine p = inl (inr p)
+  any_of Interface p = inr p
 
   none_of : (a : Bool) → MatchBool a ((g : Group) × P g) ((g : Group) × P g → ⊥) → MatchBool a ((g : Group) × P g) ((g : Group) → P g → ⊥)
   none_of true h = h
   none_of false h = λ g p. h (g, p)
 
-  pub any_told : (a b c d e f g : Bool) → MatchBool a (P Kind) (P Kind → ⊥) → MatchBool b (P Value) (P Value → ⊥) → MatchBool c (P Port) (P Port → ⊥)
+  pub any_told : (a b c d e f g h : Bool) → MatchBool a (P Kind) (P Kind → ⊥) → MatchBool b (P Value) (P Value → ⊥) → MatchBool c (P Port) (P Port → ⊥)
       → MatchBool d (P Component) (P Component → ⊥) → MatchBool e (P Instance) (P Instance → ⊥) → MatchBool f (P Topology) (P Topology → ⊥) → MatchBool g (P Machine) (P Machine → ⊥)
-      → MatchBool ((((((a || b) || c) || d) || e) || f) || g) ((x : Group) × P x) ((x : Group) → P x → ⊥)
-  any_told a b c d e f g ha hb hc hd he hf hg =
+      → MatchBool h (P Interface) (P Interface → ⊥) → MatchBool (((((((a || b) || c) || d) || e) || f) || g) || h) ((x : Group) × P x) ((x : Group) → P x → ⊥)
+  any_told a b c d e f g h ha hb hc hd he hf hg hh =
       none_of _ (told_as _ Any ((x : Group) × P x) some_of (λ t. any_of t.0 t.1)
-      (or_told _ g _ _ (or_told _ f _ _ (or_told _ e _ _ (or_told _ d _ _ (or_told _ c _ _ (or_told a b _ _ ha hb) hc) hd) he) hf) hg))
+      (or_told _ h _ _ (or_told _ g _ _ (or_told _ f _ _ (or_told _ e _ _ (or_told _ d _ _ (or_told _ c _ _ (or_told a b _ _ ha hb) hc) hd) he) hf) hg) hh))
 
 -- a use that means nothing in its group
 module _ (ds : List Definition) (m : Mention) where

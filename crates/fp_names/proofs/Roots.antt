@@ -2,15 +2,15 @@
 use Rattle.std.proofs.Common.{◌≡◌, ℕ, zero, suc, List, [], ◌∷◌, ◌++◌, slice_get, Some, inl, refl, sym, ap, subst, ◌∙◌}
 use Rattle.fp_base.proofs.Options.{same_some}
 use Rattle.fp_meaning.specs.declared.group.Group.{Group}
-use Rattle.fp_meaning.specs.declared.group.Group.TheVariants.{Kind, Value, Port, Component, Instance, Topology, Machine}
+use Rattle.fp_meaning.specs.declared.group.Group.TheVariants.{Kind, Value, Port, Component, Instance, Topology, Machine, Interface}
 use Rattle.fp_meaning.specs.Names.{Path}
 use Rattle.fp_names.specs.declared.tree.Node.{Node}
 use Rattle.fp_names.specs.Tree.{root, Spot, spot, IsTable, AreRoots}
 use Rattle.fp_names.proofs.Lists.{not_nil, nil_parts}
 use Rattle.fp_names.proofs.Growing.{none_some}
 
-abbrev seven : List Spot
-seven = spot Kind [] ∷ spot Value [] ∷ spot Port [] ∷ spot Component [] ∷ spot Instance [] ∷ spot Topology [] ∷ spot Machine [] ∷ []
+abbrev eight : List Spot
+eight = spot Kind [] ∷ spot Value [] ∷ spot Port [] ∷ spot Component [] ∷ spot Instance [] ∷ spot Topology [] ∷ spot Machine [] ∷ spot Interface [] ∷ []
 
 abbrev IsRooted : ℕ → Spot → Type 0
 IsRooted j s = (j ≡ root s.group) × (s.names ≡ [])
@@ -18,7 +18,7 @@ IsRooted j s = (j ≡ root s.group) × (s.names ≡ [])
 moved : (j : ℕ) (a s : Spot) → Some a ≡ Some s → IsRooted j a → IsRooted j s
 moved j a s e r = subst (λ (x : Spot). IsRooted j x) (same_some e) r
 
-rooted : (j : ℕ) (s : Spot) → slice_get seven j ≡ Some s → IsRooted j s
+rooted : (j : ℕ) (s : Spot) → slice_get eight j ≡ Some s → IsRooted j s
 rooted zero s e = moved 0 _ s e (refl, refl)
 rooted (suc zero) s e = moved 1 _ s e (refl, refl)
 rooted (suc (suc zero)) s e = moved 2 _ s e (refl, refl)
@@ -26,9 +26,10 @@ rooted (suc (suc (suc zero))) s e = moved 3 _ s e (refl, refl)
 rooted (suc (suc (suc (suc zero)))) s e = moved 4 _ s e (refl, refl)
 rooted (suc (suc (suc (suc (suc zero))))) s e = moved 5 _ s e (refl, refl)
 rooted (suc (suc (suc (suc (suc (suc zero)))))) s e = moved 6 _ s e (refl, refl)
-rooted (suc (suc (suc (suc (suc (suc (suc j))))))) s e = cc
+rooted (suc (suc (suc (suc (suc (suc (suc zero))))))) s e = moved 7 _ s e (refl, refl)
+rooted (suc (suc (suc (suc (suc (suc (suc (suc j)))))))) s e = cc
 
-rooted_here : (g : Group) → slice_get seven (root g) ≡ Some (spot g [])
+rooted_here : (g : Group) → slice_get eight (root g) ≡ Some (spot g [])
 rooted_here Kind = refl
 rooted_here Value = refl
 rooted_here Port = refl
@@ -36,13 +37,14 @@ rooted_here Component = refl
 rooted_here Instance = refl
 rooted_here Topology = refl
 rooted_here Machine = refl
+rooted_here Interface = refl
 
 no_definition : {A : Type 0} (k : ℕ) (x : A) → slice_get [] k ≡ Some x → ⊥
 no_definition k x e = cc
 
 pub roots_table : (nodes : List Node) → AreRoots nodes → IsTable [] nodes
 roots_table nodes r = (
-  seven,
+  eight,
   record {
     tree = record {
       each = r.each;

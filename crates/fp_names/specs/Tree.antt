@@ -3,7 +3,7 @@ use Rattle.std.specs.Str.{bytes_eq}
 use Rattle.std.specs.Prelude.{◌≡◌, ℕ, ◌+◌, ◌⊎◌, cond, List, [], ◌∷◌, ◌++◌, length, slice_get, Option, Some, None}
 use Rattle.std.specs.HashMap.{get_by_text}
 use Rattle.fp_meaning.specs.declared.group.Group.{Group}
-use Rattle.fp_meaning.specs.declared.group.Group.TheVariants.{Kind, Value, Port, Component, Instance, Topology, Machine}
+use Rattle.fp_meaning.specs.declared.group.Group.TheVariants.{Kind, Value, Port, Component, Instance, Topology, Machine, Interface}
 use Rattle.fp_meaning.specs.declared.names.Definition.{Definition}
 use Rattle.fp_meaning.specs.Meaning.{IsNamed, IsKnown, IsFirst}
 use Rattle.fp_meaning.specs.Names.{Path}
@@ -18,6 +18,7 @@ root Component = 3
 root Instance = 4
 root Topology = 5
 root Machine = 6
+root Interface = 7
 
 abbrev pub next_of : Option Node → List ℕ → Option ℕ
 next_of None text = None
@@ -123,9 +124,9 @@ pub record LeadsOn (before after : Node) (name : List ℕ) (to : ℕ) : Type 0 w
   pub next : (other : List ℕ) → get_by_text after.next other ≡ cond (bytes_eq name other) (Some to) (get_by_text before.next other)
   pub meaning : after.meaning ≡ before.meaning
 
--- seven nodes from which no name leads on, and which say nothing
+-- eight nodes from which no name leads on, and which say nothing
 pub record AreRoots (nodes : List Node) : Type 0 where
-  pub each : length nodes ≡ 7
+  pub each : length nodes ≡ 8
   pub steps : (k : ℕ) (name : List ℕ) → step nodes k name ≡ None
   pub meanings : (k : ℕ) → meaning_at nodes k ≡ None
 

@@ -68,7 +68,8 @@ fn means_something(names: &Names, mention: &Mention) -> bool
     let instance = means(names, mention, Group::Instance);
     let topology = means(names, mention, Group::Topology);
     let machine = means(names, mention, Group::Machine);
-    kind | value | port | component | instance | topology | machine
+    let interface = means(names, mention, Group::Interface);
+    kind | value | port | component | instance | topology | machine | interface
 }
 
 fn means(names: &Names, mention: &Mention, group: Group) -> bool

@@ -29,11 +29,12 @@ pub fn root_of(group: Group) -> usize
         Group::Instance => 4,
         Group::Topology => 5,
         Group::Machine => 6,
+        Group::Interface => 7,
     }
 }
 
 /// How many groups there are.
-const GROUPS: usize = 7;
+const GROUPS: usize = 8;
 
 /// The nodes of the empty names.
 pub fn roots(alloc: Global) -> Result<Vec<Node>, NoMemory>

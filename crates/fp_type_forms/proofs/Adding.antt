@@ -13,7 +13,7 @@ use Rattle.fp_type_sizes.specs.declared.written.WrittenType.{WrittenType}
 use Rattle.fp_type_forms.specs.declared.resolving.Resolution.{Resolution}
 use Rattle.fp_type_forms.specs.Written.{AllAt, IsWritten, TypeHere, types_of}
 use Rattle.fp_type_forms.specs.Resolved.{AddsWritten, AreResolved, AreWrittenIn, WritesAll, one_or_none, parts_of_item}
-use Rattle.fp_type_forms.proofs.Following.{items_whole}
+use Rattle.fp_type_forms.proofs.Following.{items_whole, items_owned}
 use Rattle.fp_type_forms.proofs.Only.{all_joined}
 
 module _ (source : Source) (marks : List (Option Value)) (rs : List Resolution) where
@@ -35,6 +35,11 @@ module _ (source : Source) (marks : List (Option Value)) (rs : List Resolution) 
       (subst (λ (l : List Item). AreResolved source marks rs l (k + 1)) (ap (λ (l : List Item). drop (suc k) l) laid ∙ t.1)
       (resolved_behind is (suc k) 0 (k + 1) (omega arith) h))
   parts_resolved is k (item.Enumerated e) laid at h = tt
+  parts_resolved is k (item.Declared d) laid at h =
+      let t = items_owned source k d (ap (λ (l : List Item). slice_get l k) (sym laid) ∙ at) in
+      resolved_front (layout.model_own_items d.scope d.definition) t.0 (k + 1)
+      (subst (λ (l : List Item). AreResolved source marks rs l (k + 1)) (ap (λ (l : List Item). drop (suc k) l) laid ∙ t.1)
+      (resolved_behind is (suc k) 0 (k + 1) (omega arith) h))
   parts_resolved is k (item.Used since n) laid at h = tt
   parts_resolved is k (item.Written since p) laid at h = tt
 

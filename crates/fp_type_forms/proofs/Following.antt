@@ -16,14 +16,16 @@ use Rattle.fp_tree.specs.declared.part.Field.{Field}
 use Rattle.fp_tree.specs.declared.part.Formal.{Formal}
 use Rattle.fp_meaning.specs.declared.item.Item.{Item}
 use Rattle.fp_meaning.specs.declared.item.Item.TheVariants as item
-use Rattle.fp_meaning.specs.Sites.{Path, Site, in_optional}
-use Rattle.fp_meaning.specs.Layout.{expression_items, type_form_items, type_items, field_items, formal_items, constant_items, part_items, items_in, items}
-use Rattle.fp_meaning.proofs.Throughout.{all_items}
+use Rattle.fp_meaning.specs.Sites.{Path, Site, ModelDef, machine, component, interface, instance, topology, Declaration, declaration, in_optional}
+use Rattle.fp_meaning.specs.Layout.{component_scope, own_items, interface_part_items, topology_member_items, model_own_items, expression_items, type_form_items, type_items, field_items, formal_items, constant_items, part_items, items_in, items}
+use Rattle.fp_meaning.proofs.Since.{AllSince, since_each, since_behavior, since_own, since_interface, since_instance, since_topology}
+use Rattle.fp_meaning.proofs.Throughout.{all_items, all_exactly}
 
 -- ---- no definition stands among the parts of one
 
 abbrev pub IsPart : Item → Type 0
 IsPart (item.Defined s) = ⊥
+IsPart (item.Declared d) = ⊥
 IsPart _ = Unit {0}
 
 abbrev AreParts : List Item → Type 0
@@ -73,17 +75,23 @@ are_parts scope (def.Port d) =
 
 -- ---- behind each definition of a list stand its parts
 
+module _ {A : Type 0} (put : A → Item) (parts : A → List Item) where
+  abbrev AreFollowed : List Item → Type 0
+  AreFollowed is = (k : ℕ) (x : A) → slice_get is k ≡ Some (put x) → (rest : List Item) × (drop (suc k) is ≡ parts x ++ rest)
+
+  followed_nothing : AreFollowed []
+  followed_nothing k x at = absurd (cc)
+
+  followed_joined : (xs ys : List Item) → AreFollowed xs → AreFollowed ys → AreFollowed (xs ++ ys)
+  followed_joined [] ys h g k x at = g k x at
+  followed_joined (i ∷ xs) ys h g zero x at = let t = h zero x at in (t.0 ++ ys, ap (λ (l : List Item). l ++ ys) t.1 ∙ append_assoc (parts x) t.0 ys)
+  followed_joined (i ∷ xs) ys h g (suc k) x at = followed_joined xs ys (λ j. h (suc j)) g k x at
+
 abbrev pub AreWhole : List Item → Type 0
 AreWhole is = (k : ℕ) (s : Site) → slice_get is k ≡ Some (item.Defined s) → (rest : List Item) × (drop (suc k) is ≡ part_items s.scope s.definition ++ rest)
 
-whole_nothing : AreWhole []
-whole_nothing k s at = absurd (cc)
-
-whole_joined : (xs ys : List Item) → AreWhole xs → AreWhole ys → AreWhole (xs ++ ys)
-whole_joined [] ys h g k s at = g k s at
-whole_joined (x ∷ xs) ys h g zero s at =
-    let t = h zero s at in (t.0 ++ ys, ap (λ (l : List Item). l ++ ys) t.1 ∙ append_assoc (part_items s.scope s.definition) t.0 ys)
-whole_joined (x ∷ xs) ys h g (suc k) s at = whole_joined xs ys (λ j. h (suc j)) g k s at
+abbrev pub AreOwned : List Item → Type 0
+AreOwned is = (k : ℕ) (d : Declaration) → slice_get is k ≡ Some (item.Declared d) → (rest : List Item) × (drop (suc k) is ≡ model_own_items d.scope d.definition ++ rest)
 
 same_site : {s t : Site} → ◌≡◌ {A = Option Item} (Some (item.Defined s)) (Some (item.Defined t)) → s ≡ t
 same_site e = cc
@@ -93,5 +101,44 @@ whole_definition scope d zero s at =
     ([], sym (append-nil (part_items scope d)) ∙ ap (λ (t : Site). part_items t.scope t.definition ++ []) (same_site at))
 whole_definition scope d (suc k) s at = absurd (of_item IsPart (part_items scope d) k (item.Defined s) (are_parts scope d) at)
 
+-- nor among what belongs to another definition
+since_parts : (since : ℕ) (is : List Item) → AllSince since is → AreParts is
+since_parts since [] h = tt
+since_parts since (item.Used m n ∷ is) h = (tt, since_parts since is h.1)
+since_parts since (item.Written m p ∷ is) h = (tt, since_parts since is h.1)
+since_parts since (item.Defined s ∷ is) h = absurd h
+since_parts since (item.Enumerated e ∷ is) h = absurd h
+since_parts since (item.Declared d ∷ is) h = absurd h
+
+whole_declared : (scope : Path) (d : ModelDef) (is : List Item) → AllSince 0 is → AreWhole (item.Declared (declaration scope d) ∷ is)
+whole_declared scope d is h zero s at = absurd (cc)
+whole_declared scope d is h (suc k) s at = absurd (of_item IsPart is k (item.Defined s) (since_parts 0 is h) at)
+
 pub items_whole : (source : Source) → AreWhole (items source)
-items_whole source = all_items AreWhole whole_nothing whole_joined whole_definition source
+items_whole source =
+    all_items AreWhole (followed_nothing item.Defined (λ s. part_items s.scope s.definition)) (followed_joined item.Defined (λ s. part_items s.scope s.definition)) whole_definition whole_declared source
+
+-- behind each other definition stands what belongs to it
+same_declaration : {d e : Declaration} → ◌≡◌ {A = Option Item} (Some (item.Declared d)) (Some (item.Declared e)) → d ≡ e
+same_declaration e = cc
+
+owned_definition : (scope : Path) (d : Def) → AreOwned (items_in scope d)
+owned_definition scope d zero e at = absurd (cc)
+owned_definition scope d (suc k) e at = absurd (of_item IsPart (part_items scope d) k (item.Declared e) (are_parts scope d) at)
+
+own_since : (scope : Path) (d : ModelDef) → AllSince 0 (model_own_items scope d)
+own_since scope (machine d) = since_behavior scope d.behavior
+own_since scope (component d) = since_each (own_items (component_scope scope d)) (since_own (component_scope scope d)) d.parts
+own_since scope (interface d) = since_each (interface_part_items scope) (since_interface scope) d.parts
+own_since scope (instance d) = since_instance scope d
+own_since scope (topology d) = since_each (topology_member_items scope) (since_topology scope) d.members
+
+owned_declared : (scope : Path) (d : ModelDef) → AreOwned (item.Declared (declaration scope d) ∷ model_own_items scope d)
+owned_declared scope d zero e at =
+    ([], sym (append-nil (model_own_items scope d)) ∙ ap (λ (t : Declaration). model_own_items t.scope t.definition ++ []) (same_declaration at))
+owned_declared scope d (suc k) e at =
+    absurd (of_item IsPart (model_own_items scope d) k (item.Declared e) (since_parts 0 (model_own_items scope d) (own_since scope d)) at)
+
+pub items_owned : (source : Source) → AreOwned (items source)
+items_owned source =
+    all_exactly AreOwned (followed_nothing item.Declared (λ d. model_own_items d.scope d.definition)) (followed_joined item.Declared (λ d. model_own_items d.scope d.definition)) owned_definition owned_declared source

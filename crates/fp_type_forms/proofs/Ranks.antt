@@ -1,11 +1,12 @@
 -- How many types stand before each definition.
-use Rattle.std.proofs.Common.{◌≡◌, Bool, cond, ℕ, zero, suc, ◌+◌, ◌≤◌, List, [], ◌∷◌, ◌++◌, length, flat_map, take, slice_get, Some, refl, sym, ap, ◌∙◌, subst, arith}
+use Rattle.std.proofs.Common.{◌≡◌, Bool, false, cond, ℕ, zero, suc, ◌+◌, ◌≤◌, List, [], ◌∷◌, ◌++◌, length, flat_map, take, slice_get, Some, refl, sym, ap, ◌∙◌, subst, arith}
 use Rattle.std.proofs.lemmas.List.{append-nil, take_all}
 use Rattle.std.proofs.lemmas.Grind.{flat_map-append}
 use Rattle.fp_base.proofs.Lists.{take_next}
 use Rattle.fp_meaning.specs.declared.item.Item.{Item}
 use Rattle.fp_meaning.specs.declared.names.Definition.{Definition}
-use Rattle.fp_meaning.specs.Names.{definitions_of}
+use Rattle.fp_meaning.specs.Names.{definitions_of, model_group}
+use Rattle.fp_meaning.specs.Sites.{ModelDef, machine, component, interface, instance, topology}
 use Rattle.fp_type_forms.specs.declared.ranking.Ranking.{Ranking}
 use Rattle.fp_type_forms.specs.Written.{is_kind, type_count, types_among, types_before}
 use Rattle.fp_type_forms.specs.Resolved.{IsRankedWith, ranks_from}
@@ -48,6 +49,14 @@ module _ (is : List Item) where
 
   pub all_ranked : (k : ℕ) (r : Ranking) → length is ≤ k → AreRankedFirst is k r → r.ranks ≡ ranks_from 0 (flat_map definitions_of is)
   all_ranked k r past h = h.ranks ∙ ap (λ (l : List Item). ranks_from 0 (flat_map definitions_of l)) (take_all k is past)
+
+-- machines, components, interfaces, instances and topologies are no types
+pub never_kind : (d : ModelDef) → is_kind (model_group d) ≡ false
+never_kind (machine d) = refl
+never_kind (component d) = refl
+never_kind (interface d) = refl
+never_kind (instance d) = refl
+never_kind (topology d) = refl
 
 -- with an item more
 pub ranked_definition : (i : Item) (d : Definition) (before after : Ranking) (b : Bool) → definitions_of i ≡ d ∷ [] → is_kind d.group ≡ b

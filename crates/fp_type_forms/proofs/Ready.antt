@@ -8,9 +8,12 @@ use Rattle.fp_base.proofs.Options.{same_some}
 use Rattle.fp_base.specs.declared.value.Value.{Value}
 use Rattle.fp_tree.specs.declared.source.Source.{Source}
 use Rattle.fp_tree.specs.declared.expression.Expr.{Expr}
+use Rattle.fp_meaning.specs.declared.group.Group.{Group}
+use Rattle.fp_meaning.specs.declared.group.Group.TheVariants as group
+use Rattle.fp_meaning.specs.declared.names.Definition.{Definition}
 use Rattle.fp_meaning.specs.declared.item.Item.{Item}
 use Rattle.fp_meaning.specs.declared.item.Item.TheVariants as item
-use Rattle.fp_meaning.specs.Names.{Path, definitions, mentioned, mentions, in_optional, uses_of}
+use Rattle.fp_meaning.specs.Names.{Path, definitions, mention_of, mentions, in_optional, uses_of}
 use Rattle.fp_meaning.specs.Origins.{placed, one, expressions, expressions_of}
 use Rattle.fp_meaning.specs.Sites.{Naming}
 use Rattle.fp_consts.proofs.Counted.{past_twice}
@@ -18,7 +21,7 @@ use Rattle.fp_consts.specs.Laid.{past}
 use Rattle.fp_type_forms.specs.declared.resolving.Resolution.{Resolution}
 use Rattle.fp_type_forms.specs.declared.resolving.Resolution.TheVariants as resolution
 use Rattle.fp_type_forms.specs.declared.resolving.Resolved.{Resolved}
-use Rattle.fp_type_forms.specs.Resolved.{IsMarkOf, IsResolved, AreResolved, IsReady, IsResolvedWith, ResolvesAll, resolved_to, type_meant, type_ranked}
+use Rattle.fp_type_forms.specs.Resolved.{IsMarkOf, IsResolved, AreResolved, IsReady, IsResolvedWith, ResolvesAll, meant_in, numbered_in, ranks_from, resolved_to, type_ranked, use_resolved}
 use Rattle.fp_type_forms.proofs.Ranks.{rank_there}
 
 get_behind : {A : Type 0} (xs ys : List A) (n j : ℕ) → j ≡ length xs + n → slice_get (xs ++ ys) j ≡ slice_get ys n
@@ -50,6 +53,13 @@ past_more f xs k x limit b c at h g =
 reached : (n limit j : ℕ) → j ≡ max 0 (min (0 + n) limit) → n < limit → j ≡ n
 reached n limit j e low = omega arith
 
+-- what stands at the number that a use means
+numbered_use : (g : Group) (ds : List Definition) (ranks : List ℕ) (number : ℕ) (d : Definition) → ranks ≡ ranks_from 0 ds → slice_get ds number ≡ Some d
+    → numbered_in g ranks number ≡ use_resolved g ds number
+numbered_use group.Kind ds ranks number d ranked at =
+    ap (λ (l : List ℕ). type_ranked (slice_get l number)) ranked ∙ ap type_ranked (rank_there ds 0 number d at) ∙ ap (λ (j : ℕ). resolution.Type j) (omega arith)
+numbered_use g ds ranks number d ranked at = refl
+
 module _ (source : Source) (marks : List (Option Value)) where
   pub resolved_more : (rs : List Resolution) (r : Resolution) (is : List Item) (i : Item) (at : ℕ) → length rs ≡ at + length is → AreResolved source marks rs is at
       → IsResolved source marks i r → AreResolved source marks (rs ++ r ∷ []) (is ++ i ∷ []) at
@@ -74,11 +84,11 @@ module _ (source : Source) (marks : List (Option Value)) where
         let here : slice_get marks n ≡ Some (get_or marks n None) = slice_get-get_or marks n None low in
         (mark, refl, (get_or marks n None, ap (slice_get marks) same ∙ here, ready.valued.exact n (placed scope e) (get_or marks n None) there here))
 
-    type_there : (since : ℕ) (n : Naming) (use_ : ℕ) → slice_get is k ≡ Some (item.Used since n) → use_ ≡ past (length (flat_map uses_of (take k is))) (length meanings) 0
-        → IsResolved source marks (item.Used since n) (type_meant ranks (slice_get meanings use_))
-    type_there since n use_ at far =
+    use_there : (since : ℕ) (n : Naming) (use_ : ℕ) → slice_get is k ≡ Some (item.Used since n) → use_ ≡ past (length (flat_map uses_of (take k is))) (length meanings) 0
+        → IsResolved source marks (item.Used since n) (meant_in n.group ranks (slice_get meanings use_))
+    use_there since n use_ at far =
         let m = length (flat_map uses_of (take k is)) in
-        let mention = mentioned n.group n.scope n.name in
+        let mention = mention_of n in
         let there : slice_get (mentions source) m ≡ Some mention =
         ap (λ (l : List Item). slice_get (flat_map uses_of l) m) (sym ready.laid) ∙ flat_there uses_of is k (item.Used since n) mention [] at refl in
         let within = slice_get_within (mentions source) m mention there in
@@ -86,13 +96,11 @@ module _ (source : Source) (marks : List (Option Value)) where
         let low : m < length meanings = omega arith in
         let same : use_ ≡ m = reached m (length meanings) use_ far low in
         let here : slice_get meanings m ≡ Some (get_or meanings m 0) = slice_get-get_or meanings m 0 low in
-        let means = ready.meant.meant m mention (get_or meanings m 0) there here in
-        let rank = rank_there (definitions source) 0 (get_or meanings m 0) means.meant.named.definition means.meant.named.here in (
+        let means = ready.meant.meant m mention (get_or meanings m 0) there here in (
           get_or meanings m 0,
           means,
-          ap (λ (j : ℕ). type_meant ranks (slice_get meanings j)) same ∙ ap (type_meant ranks) here
-              ∙ ap (λ (l : List ℕ). type_ranked (slice_get l (get_or meanings m 0))) ready.ranked ∙ ap type_ranked rank
-              ∙ ap (λ (j : ℕ). resolution.Type j) (omega arith),
+          ap (λ (j : ℕ). meant_in n.group ranks (slice_get meanings j)) same ∙ ap (meant_in n.group ranks) here
+              ∙ numbered_use n.group (definitions source) ranks (get_or meanings m 0) means.meant.named.definition ready.ranked means.meant.named.here,
         )
 
     resolved_here : (i : Item) (use_ mark : ℕ) → slice_get is k ≡ Some i → use_ ≡ past (length (flat_map uses_of (take k is))) (length meanings) 0
@@ -103,7 +111,8 @@ module _ (source : Source) (marks : List (Option Value)) where
         go : (o : Option Expr) → e.constant.value ≡ o → IsMarkOf source marks e.scope o (resolution.Expression mark)
         go None is_ = tt
         go (Some x) is_ = mark_there (item.Enumerated e) e.scope x mark at (ap (in_optional (one e.scope)) is_) behind
-    resolved_here (item.Used since n) use_ mark at far behind = type_there since n use_ at far
+    resolved_here (item.Declared d) use_ mark at far behind = tt
+    resolved_here (item.Used since n) use_ mark at far behind = use_there since n use_ at far
     resolved_here (item.Written since p) use_ mark at far behind = mark_there (item.Written since p) p.scope p.expression mark at refl behind
 
 -- of the first so many items

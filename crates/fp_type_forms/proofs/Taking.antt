@@ -1,5 +1,5 @@
 -- What is read of items that are resolved, one part after another.
-use Rattle.std.proofs.Common.{◌≡◌, Bool, true, false, cond, ℕ, suc, ◌+◌, ◌≤◌, ℤ, pos, List, [], ◌∷◌, ◌++◌, length, flat_map, take, slice_get, Option, Some, None, option_map, refl, sym, ap, ◌∙◌, subst, arith, append_assoc}
+use Rattle.std.proofs.Common.{◌≡◌, Bool, true, false, cond, ℕ, suc, ◌+◌, ◌≤◌, ℤ, pos, List, [], ◌∷◌, ◌++◌, length, map, flat_map, take, slice_get, Option, Some, None, option_map, refl, sym, ap, ◌∙◌, subst, arith, append_assoc}
 use Rattle.std.specs.Prelude.{option_and_then}
 use Rattle.std.proofs.lemmas.List.{append-nil, take_all, length-take-le}
 use Rattle.std.proofs.lemmas.Option.{slice_get_within}
@@ -7,6 +7,7 @@ use Rattle.fp_base.proofs.Lists.{take_next}
 use Rattle.fp_base.proofs.Options.{same_some}
 use Rattle.fp_base.specs.declared.value.Value.{Value}
 use Rattle.fp_tree.specs.declared.source.Source.{Source}
+use Rattle.fp_tree.specs.declared.name.Name.{Name}
 use Rattle.fp_tree.specs.declared.name.Qual.{Qual}
 use Rattle.fp_tree.specs.declared.definition.Def.{Def}
 use Rattle.fp_tree.specs.declared.definition.Enum.{Enum}
@@ -17,23 +18,31 @@ use Rattle.fp_tree.specs.declared.type_name.TypeForm.TheVariants as type
 use Rattle.fp_tables.specs.declared.kind.Constant.{Constant}
 use Rattle.fp_tables.specs.declared.kind.Kind.{Kind}
 use Rattle.fp_tables.specs.declared.kind.Kind.TheVariants as kind
+use Rattle.fp_meaning.specs.declared.group.Group.{Group}
 use Rattle.fp_meaning.specs.declared.group.Group.TheVariants as group
+use Rattle.fp_meaning.specs.declared.names.Definition.{Definition}
 use Rattle.fp_meaning.specs.declared.item.Item.{Item}
 use Rattle.fp_meaning.specs.declared.item.Item.TheVariants as item
 use Rattle.fp_meaning.specs.Meaning.{Means}
 use Rattle.fp_meaning.specs.Layout.{constant_items, expression_items, type_form_items}
 use Rattle.fp_meaning.specs.Names.{Path, definitions}
-use Rattle.fp_meaning.specs.Sites.{entry, is_implied}
+use Rattle.fp_meaning.specs.Sites.{Naming, entry, in_optional, is_implied}
 use Rattle.fp_meaning.proofs.Meanings.{one_meaning}
 use Rattle.fp_meaning.specs.Values.{number_in, dotted, opened, names_of, IsImplied, Val}
 use Rattle.fp_consts.proofs.Valued.{implied_when, implied_then}
 use Rattle.fp_type_sizes.specs.declared.written.WrittenType.{WrittenType}
 use Rattle.fp_type_sizes.specs.declared.written.Own.{Own}
 use Rattle.fp_type_forms.specs.declared.resolving.Resolution.{Resolution}
-use Rattle.fp_type_forms.specs.Written.{IsOnly, AllAt, TypeHere, types_before, primitive, NumberIs, IsSizeTo, IsStringSize, KindIs, ConstantIs, EnumeratedIs, FormIs, OwnIs, IsWritten}
-use Rattle.fp_type_forms.specs.Resolved.{IsMarkOf, AreResolved, AreWrittenIn, Takes, Moves, constant_with, kind_resolved, marked_value, number_given, value_resolved, own_with, one_more, both_there}
+use Rattle.fp_type_forms.specs.declared.resolving.Resolution.TheVariants as resolution
+use Rattle.fp_type_forms.specs.Written.{IsOnly, AllAt, TypeHere, is_kind, types_before, primitive, NumberIs, IsSizeTo, IsStringSize, KindIs, ConstantIs, EnumeratedIs, FormIs, OwnIs, IsWritten}
+use Rattle.fp_type_forms.specs.Resolved.{IsMarkOf, AreResolved, AreWrittenIn, Takes, Moves, UseMeans, WhereWritten, constant_with, kind_resolved, marked_value, number_given, number_meant, use_resolved, value_resolved, own_with, one_more, both_there}
 use Rattle.fp_type_forms.proofs.Only.{only_same, only_mapped, only_then, only_both, only_nothing, only_more}
 use Rattle.fp_type_sizes.proofs.Places.{no_some}
+
+-- the use of anything but a type
+meant_by : (g : Group) (ds : List Definition) (number : ℕ) → is_kind g ≡ false → use_resolved g ds number ≡ resolution.Meant number
+meant_by group.Kind ds number other = absurd (cc)
+meant_by g ds number other = refl
 
 module _ (source : Source) (marks : List (Option Value)) (rs : List Resolution) where
   pub taken_as : {P Q : Type 0} (xs : List Item) (a b : ℕ) → (P → Q) → Takes source marks rs xs a b P → Takes source marks rs xs a b Q
@@ -46,6 +55,13 @@ module _ (source : Source) (marks : List (Option Value)) (rs : List Resolution) 
 
   pub taken_nothing : {P : Type 0} (a : ℕ) → P → Takes source marks rs [] a a P
   taken_nothing a p others h = (p, h)
+
+  -- where a part is left out
+  pub taken_unwritten : {A B : Type 0} (f : A → List Item) (P : A → B → Type 0) (o : Option A) (a : ℕ) → o ≡ None
+      → Takes source marks rs (in_optional f o) a a (IsOnly (WhereWritten P o) None)
+  taken_unwritten f P o a is =
+      subst (λ x. Takes source marks rs (in_optional f x) a a (IsOnly (WhereWritten P x) None)) (sym is)
+      (taken_nothing a (record { holds = λ y e. no_some e; only = λ y h. absurd h }))
 
   -- all of it
   pub taken_all : {P : Type 0} (xs : List Item) (a b : ℕ) → Takes source marks rs xs a b P → AreResolved source marks rs xs a → P
@@ -129,6 +145,26 @@ module _ (source : Source) (marks : List (Option Value)) (rs : List Resolution) 
             ap (λ (n : ℕ). Some (kind.Named (types_before (definitions source) n))) (one_meaning (definitions source) scope (names_of q) group.Kind number t.0 m t.1)
             ∙ ap (λ (y : Kind). Some y) (sym t.2);
       }
+
+-- ---- the uses of other names
+
+module _ (source : Source) (marks : List (Option Value)) (rs : List Resolution) (n : Naming) where
+  only_meant : (number : ℕ) → UseMeans source n number → IsOnly (UseMeans source n) (Some number)
+  only_meant number m = record {
+    holds = λ x e. subst (λ (k : ℕ). UseMeans source n k) (same_some e) m;
+    only = λ x t.
+        ap (λ (k : ℕ). Some k) (one_meaning (definitions source) n.scope (map (λ (y : Name). y.text) n.names) n.group number x m t);
+  }
+
+  pub taken_meant : (since a b : ℕ) (k : Option ℕ) → is_kind n.group ≡ false → k ≡ number_meant (slice_get rs a) → Moves rs a b
+      → Takes source marks rs (item.Used since n ∷ []) a b (IsOnly (UseMeans source n) k)
+  taken_meant since a b k other is moves others h =
+      let r = h.0.0 in
+      let at : slice_get rs a ≡ Some r = h.0.1 in
+      let number = h.0.2.0 in
+      let meant : r ≡ resolution.Meant number = h.0.2.2 ∙ meant_by n.group (definitions source) number other in
+      let found : k ≡ Some number = is ∙ ap number_meant (at ∙ ap (λ (x : Resolution). Some x) meant) in
+      (only_same (UseMeans source n) found (only_meant number h.0.2.1), subst (λ (j : ℕ). AreResolved source marks rs others j) (sym (moves r at)) h.1)
 
 -- ---- parts that follow one another
 

@@ -88,6 +88,7 @@ value_from d f h = absurd h
 expression_from : (i : Item) (f : Refusal) → InSome (λ k. ByExpression) (expressions_of i) f → NamesByItem i f
 expression_from (item.Defined s) f t = value_from s.definition f (optional_from s.scope (value_in s.definition) f t)
 expression_from (item.Enumerated e) f t = optional_from e.scope e.constant.value f t
+expression_from (item.Declared d) f t = no_some t.2
 expression_from (item.Used since n) f t = no_some t.2
 expression_from (item.Written since p) f t = some_one ByExpression (placed p.scope p.expression) f t
 
@@ -104,6 +105,7 @@ module _ (source : Source) (ws : List WrittenType) where
   names_to : (i : Item) (f : Refusal) → NamesByItem i f → InSome (λ k. ByExpression) (expressions_of i) f ⊎ InSome (λ k. ByType) (types_of i) f
   names_to (item.Defined s) f h = names_of_definition s.scope s.definition f h
   names_to (item.Enumerated e) f h = inl (optional_to e.scope e.constant.value f h)
+  names_to (item.Declared d) f h = absurd h
   names_to (item.Used since n) f h = absurd h
   names_to (item.Written since p) f h = inl (0, placed p.scope p.expression, refl, h)
 
@@ -135,6 +137,7 @@ module _ (source : Source) (ws : List WrittenType) where
   type_from : (i : Item) (f : Refusal) → InSome (λ k. ByType) (types_of i) f → NamesByItem i f ⊎ EnumByItem ws source i f
   type_from (item.Defined s) f t = type_of_definition s.scope s.definition f t
   type_from (item.Enumerated e) f t = no_some t.2
+  type_from (item.Declared d) f t = no_some t.2
   type_from (item.Used since n) f t = no_some t.2
   type_from (item.Written since p) f t = no_some t.2
 

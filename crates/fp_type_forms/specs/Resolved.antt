@@ -1,13 +1,16 @@
--- What the items of a source are resolved to: the types that its uses mean, and its expressions, by their numbers.
-use Rattle.std.specs.Prelude.{◌≡◌, ℕ, ◌+◌, Bool, cond, ℤ, pos, List, [], ◌∷◌, ◌++◌, length, slice_get, Option, Some, None}
+-- What the items of a source are resolved to: what its uses mean, and its expressions, by their numbers.
+use Rattle.std.specs.Prelude.{◌≡◌, ℕ, ◌+◌, Bool, cond, ℤ, pos, List, [], ◌∷◌, ◌++◌, length, map, slice_get, Option, Some, None}
 use Rattle.fp_base.specs.declared.value.Value.{Value, Enumerated}
 use Rattle.fp_tree.specs.declared.source.Source.{Source}
+use Rattle.fp_tree.specs.declared.name.Name.{Name}
 use Rattle.fp_tree.specs.declared.definition.Def.{Def}
 use Rattle.fp_tree.specs.declared.expression.Expr.{Expr}
 use Rattle.fp_tree.specs.declared.part.EnumConst.{EnumConst}
 use Rattle.fp_tables.specs.declared.kind.Constant.{Constant}
 use Rattle.fp_tables.specs.declared.kind.Kind.{Kind}
 use Rattle.fp_tables.specs.declared.kind.Kind.TheVariants as kind
+use Rattle.fp_meaning.specs.declared.group.Group.{Group}
+use Rattle.fp_meaning.specs.declared.group.Group.TheVariants as group
 use Rattle.fp_meaning.specs.declared.item.Item.{Item}
 use Rattle.fp_meaning.specs.declared.item.Item.TheVariants as item
 use Rattle.fp_meaning.specs.declared.names.Definition.{Definition}
@@ -15,7 +18,8 @@ use Rattle.fp_meaning.specs.Meaning.{Means, AreMeanings}
 use Rattle.fp_meaning.specs.Layout as layout
 use Rattle.fp_meaning.specs.Names.{Path, definitions, mentions, definitions_of, uses_of}
 use Rattle.fp_meaning.specs.Origins.{Placed, placed, expressions, expressions_of}
-use Rattle.fp_meaning.specs.Values.{opened, names_of, IsValue}
+use Rattle.fp_meaning.specs.Sites.{Naming}
+use Rattle.fp_meaning.specs.Values.{opened, IsValue}
 use Rattle.fp_consts.specs.Laid.{past, IsPast}
 use Rattle.fp_consts.specs.Marked.{AreValues}
 use Rattle.fp_type_sizes.specs.declared.written.WrittenType.{WrittenType}
@@ -40,6 +44,15 @@ pub record IsRankedWith (i : Item) (before after : Ranking) : Type 0 where
 
 -- ---- what items are resolved to
 
+-- what a use that stands in no expression means, by its number among the definitions
+abbrev pub UseMeans : Source → Naming → ℕ → Type 0
+UseMeans source n number = Means (definitions source) n.scope (map (λ (x : Name). x.text) n.names) n.group number
+
+-- a type by its number among the types, any other definition by its number among the definitions
+abbrev pub use_resolved : Group → List Definition → ℕ → Resolution
+use_resolved group.Kind ds number = resolution.Type (types_before ds number)
+use_resolved _ ds number = resolution.Meant number
+
 module _ (source : Source) (marks : List (Option Value)) where
   -- the expression's value, or that it has none, stands at the number
   abbrev pub HasMark : Placed → ℕ → Type 0
@@ -52,8 +65,8 @@ module _ (source : Source) (marks : List (Option Value)) where
   abbrev pub IsResolved : Item → Resolution → Type 0
   IsResolved (item.Defined s) r = Unit {0}
   IsResolved (item.Enumerated e) r = IsMarkOf e.scope e.constant.value r
-  IsResolved (item.Used since n) r =
-      (number : ℕ) × Means (definitions source) n.scope (names_of n.name) n.group number × (r ≡ resolution.Type (types_before (definitions source) number))
+  IsResolved (item.Declared d) r = Unit {0}
+  IsResolved (item.Used since n) r = (number : ℕ) × UseMeans source n number × (r ≡ use_resolved n.group (definitions source) number)
   IsResolved (item.Written since p) r = IsMarkOf p.scope (Some p.expression) r
 
   -- from a place on, each item's resolution
@@ -69,14 +82,19 @@ abbrev pub type_ranked : Option ℕ → Resolution
 type_ranked None = resolution.Nothing
 type_ranked (Some rank) = resolution.Type rank
 
-abbrev pub type_meant : List ℕ → Option ℕ → Resolution
-type_meant ranks None = resolution.Nothing
-type_meant ranks (Some number) = type_ranked (slice_get ranks number)
+abbrev pub numbered_in : Group → List ℕ → ℕ → Resolution
+numbered_in group.Kind ranks number = type_ranked (slice_get ranks number)
+numbered_in _ ranks number = resolution.Meant number
+
+abbrev pub meant_in : Group → List ℕ → Option ℕ → Resolution
+meant_in group ranks None = resolution.Nothing
+meant_in group ranks (Some number) = numbered_in group ranks number
 
 abbrev pub resolved_to : List ℕ → List ℕ → ℕ → ℕ → Item → Resolution
 resolved_to meanings ranks next_use next_mark (item.Defined s) = resolution.Nothing
 resolved_to meanings ranks next_use next_mark (item.Enumerated e) = resolution.Expression next_mark
-resolved_to meanings ranks next_use next_mark (item.Used since n) = type_meant ranks (slice_get meanings next_use)
+resolved_to meanings ranks next_use next_mark (item.Declared d) = resolution.Nothing
+resolved_to meanings ranks next_use next_mark (item.Used since n) = meant_in n.group ranks (slice_get meanings next_use)
 resolved_to meanings ranks next_use next_mark (item.Written since p) = resolution.Expression next_mark
 
 -- with an item more
@@ -111,6 +129,10 @@ abbrev pub kind_resolved : Option Resolution → Option Kind
 kind_resolved (Some (resolution.Type number)) = Some (kind.Named number)
 kind_resolved _ = None
 
+abbrev pub number_meant : Option Resolution → Option ℕ
+number_meant (Some (resolution.Meant number)) = Some number
+number_meant _ = None
+
 abbrev pub marked_value : Option (Option Value) → Option Value
 marked_value None = None
 marked_value (Some o) = o
@@ -122,6 +144,11 @@ value_resolved marks _ = None
 abbrev pub own_with : Option Value → Own
 own_with None = own.NoValue
 own_with (Some v) = own.Has v
+
+-- of a part that may be left out
+abbrev pub WhereWritten : {A B : Type 0} → (A → B → Type 0) → Option A → B → Type 0
+WhereWritten P None y = ⊥
+WhereWritten P (Some x) y = P x y
 
 -- of two that are both there
 abbrev pub both_there : {A B C : Type 0} → (A → B → C) → Option A → Option B → Option C
@@ -147,6 +174,7 @@ Moves rs before after = (r : Resolution) → slice_get rs before ≡ Some r → 
 -- an item that is read gives so many at the end, where both it and what stands in it are resolved
 abbrev pub parts_of_item : Item → List Item
 parts_of_item (item.Defined s) = layout.part_items s.scope s.definition
+parts_of_item (item.Declared d) = layout.model_own_items d.scope d.definition
 parts_of_item _ = []
 
 abbrev pub AddsWritten : List (Option Value) → List Resolution → ℕ → Item → List WrittenType → List WrittenType → Type 0

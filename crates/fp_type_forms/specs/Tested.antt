@@ -51,6 +51,7 @@ NamesByDefinition _ = λ f. ⊥
 abbrev pub NamesByItem : Item → Refusal → Type 0
 NamesByItem (item.Defined s) = NamesByDefinition s.definition
 NamesByItem (item.Enumerated e) = ByOptional RepeatsIn e.constant.value
+NamesByItem (item.Declared d) = λ f. ⊥
 NamesByItem (item.Used since n) = λ f. ⊥
 NamesByItem (item.Written since p) = RepeatsIn p.expression
 

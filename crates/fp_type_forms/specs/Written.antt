@@ -86,6 +86,7 @@ types_in scope (def.Port d) = []
 abbrev pub types_of : Item → List TypeHere
 types_of (item.Defined s) = types_in s.scope s.definition
 types_of (item.Enumerated e) = []
+types_of (item.Declared d) = []
 types_of (item.Used since n) = []
 types_of (item.Written since p) = []
 

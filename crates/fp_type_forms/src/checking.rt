@@ -120,6 +120,7 @@ fn item_fault(
     match item {
         Item::Defined(sited) => fault_in(sited.definition(), resolutions, marks, start),
         Item::Enumerated(_) => None,
+        Item::Declared(_) => None,
         Item::Used { .. } => None,
         Item::Written { .. } => None,
     }

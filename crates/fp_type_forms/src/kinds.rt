@@ -74,6 +74,7 @@ fn kind_of(found: Option<Resolution>) -> Option<Kind>
 {
     match found {
         Some(Resolution::Type(number)) => Some(Kind::Named(number)),
+        Some(Resolution::Meant(_)) => None,
         Some(Resolution::Expression(_)) => None,
         Some(Resolution::Nothing) => None,
         None => None,

@@ -41,6 +41,7 @@ fn with_item(before: Ranking, item: &Item) -> Result<Ranking, NoMemory>
     match item {
         Item::Defined(sited) => with_definition(before, defines_type(sited.definition())),
         Item::Enumerated(_) => with_definition(before, false),
+        Item::Declared(_) => with_definition(before, false),
         Item::Used { .. } => Ok(before),
         Item::Written { .. } => Ok(before),
     }

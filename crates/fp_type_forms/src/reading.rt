@@ -1,17 +1,22 @@
-ghost use Rattle.std.specs.Prelude.{◌≡◌, ℕ, ◌≤◌, pos, Some, slice_get, option_and_then, IfOk};
+ghost use Rattle.std.specs.Prelude.{◌≡◌, ℕ, ◌≤◌, false, pos, List, [], ◌∷◌, Option, Some, slice_get, option_and_then, IfOk};
 ghost use Rattle.std.specs.Option.{option_copied};
+ghost use Rattle.fp_base.specs.declared.value.Value.{Value as Data};
 ghost use Rattle.fp_tree.specs.declared.expression.Expr.{Expr as Whole};
 ghost use Rattle.fp_tree.specs.declared.source.Source.{Source};
-ghost use Rattle.fp_meaning.specs.Layout.{expression_items};
-ghost use Rattle.fp_meaning.specs.Names.{Path, in_optional};
-ghost use Rattle.fp_meaning.specs.Values.{number_in};
-ghost use Rattle.fp_type_forms.specs.Resolved.{Moves, Takes, marked_value, own_with, value_resolved};
-ghost use Rattle.fp_type_forms.specs.Written.{IsOnly, IsSizeTo, OwnIs};
+ghost use Rattle.fp_meaning.specs.declared.group.Group.{Group};
+ghost use Rattle.fp_meaning.specs.declared.item.Item.TheVariants as item;
+ghost use Rattle.fp_meaning.specs.Meaning.{Means};
+ghost use Rattle.fp_meaning.specs.Layout.{expression_items, use_items};
+ghost use Rattle.fp_meaning.specs.Names.{Path, definitions, in_optional};
+ghost use Rattle.fp_meaning.specs.Sites.{Naming};
+ghost use Rattle.fp_meaning.specs.Values.{names_of, number_in};
+ghost use Rattle.fp_type_forms.specs.Resolved.{Moves, Takes, UseMeans, WhereWritten, marked_value, number_meant, own_with, value_resolved};
+ghost use Rattle.fp_type_forms.specs.Written.{IsOnly, IsSizeTo, NumberIs, OwnIs, is_kind};
 
 use crate::resolving::Resolution;
 use fp_base::{NoMemory, Value};
 use fp_consts::number_with;
-use fp_tree::Expr;
+use fp_tree::{Expr, Qual};
 use fp_type_sizes::Own;
 use std::alloc::Global;
 
@@ -36,6 +41,7 @@ pub fn value_of(found: Option<Resolution>, marks: &[Option<Value>]) -> Option<&V
     match found {
         Some(Resolution::Expression(number)) => marked(number, marks),
         Some(Resolution::Type(_)) => None,
+        Some(Resolution::Meant(_)) => None,
         Some(Resolution::Nothing) => None,
         None => None,
     }
@@ -67,9 +73,58 @@ pub fn number_taken(
 ) -> Option<i128>
     ensures number { result ≡ option_and_then number_in (value_resolved marks.now (slice_get resolutions.now next.old)) }
     ensures moves { Moves resolutions.now next.old next.new }
+    ensures takes { (source : Source) (scope : Path) (since : ℕ) (e : Whole) → Takes source marks.now resolutions.now (expression_items since scope e) next.old next.new (IsOnly (NumberIs source scope e) result) }
 {
     let found = taken(resolutions, next);
     number_of(value_of(found, marks))
+}
+
+/// The same where an expression may be left out.
+pub fn optional_number_taken(
+    expression: &Option<Expr>,
+    resolutions: &[Resolution],
+    marks: &[Option<Value>],
+    next: &mut usize,
+) -> Option<i128>
+    ensures { (source : Source) (scope : Path) (since : ℕ) → Takes source marks.now resolutions.now (in_optional (expression_items since scope) expression.now) next.old next.new (IsOnly (WhereWritten (NumberIs source scope) expression.now) result) }
+{
+    match expression {
+        Some(_) => number_taken(resolutions, marks, next),
+        None => None,
+    }
+}
+
+/// What the next use means, by its number among the definitions; the use is passed. It isn't one of a type.
+pub fn meant_taken(resolutions: &[Resolution], next: &mut usize) -> Option<u32>
+    ensures { (source : Source) (marks : List (Option Data)) (since : ℕ) (n : Naming) → is_kind n.group ≡ false → Takes source marks resolutions.now (item.Used since n ∷ []) next.old next.new (IsOnly (UseMeans source n) result) }
+{
+    meant_of(taken(resolutions, next))
+}
+
+fn meant_of(found: Option<Resolution>) -> Option<u32>
+    ensures { result ≡ number_meant found }
+{
+    match found {
+        Some(Resolution::Meant(number)) => Some(number),
+        Some(Resolution::Type(_)) => None,
+        Some(Resolution::Expression(_)) => None,
+        Some(Resolution::Nothing) => None,
+        None => None,
+    }
+}
+
+/// The same where a name may be left out.
+pub fn optional_meant_taken(
+    name: &Option<Qual>,
+    resolutions: &[Resolution],
+    next: &mut usize,
+) -> Option<u32>
+    ensures { (source : Source) (marks : List (Option Data)) (group : Group) (scope : Path) → is_kind group ≡ false → Takes source marks resolutions.now (in_optional (use_items group scope) name.now) next.old next.new (IsOnly (WhereWritten (λ q. Means (definitions source) scope (names_of q) group) name.now) result) }
+{
+    match name {
+        Some(_) => meant_taken(resolutions, next),
+        None => None,
+    }
 }
 
 /// The size that the next expression gives, from 1 to the most; the expression is passed.

@@ -29,6 +29,7 @@ fn in_item(alloc: Global, item: &Item) -> Result<Option<Refusal>, NoMemory>
     match item {
         Item::Defined(sited) => in_definition(alloc, sited.definition()),
         Item::Enumerated(listed) => in_optional(alloc, listed.value()),
+        Item::Declared(_) => Ok(None),
         Item::Used { .. } => Ok(None),
         Item::Written { expression, .. } => repeated_in(alloc, expression.expression()),
     }

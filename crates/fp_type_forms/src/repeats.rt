@@ -50,6 +50,7 @@ fn item_repeat(
             definition_repeat(alloc, sited.definition(), resolutions, marks, start)
         }
         Item::Enumerated(_) => Ok(None),
+        Item::Declared(_) => Ok(None),
         Item::Used { .. } => Ok(None),
         Item::Written { .. } => Ok(None),
     }

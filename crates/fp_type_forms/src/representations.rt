@@ -52,6 +52,7 @@ fn item_fault(
             definition_fault(sited.definition(), extents, resolutions, marks, start)
         }
         Item::Enumerated(_) => None,
+        Item::Declared(_) => None,
         Item::Used { .. } => None,
         Item::Written { .. } => None,
     }

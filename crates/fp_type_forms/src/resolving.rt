@@ -1,12 +1,12 @@
 ghost use Rattle.std.specs.Prelude.{◌≡◌, [], cond, length, slice_get, IfOk};
 ghost use Rattle.fp_consts.specs.Laid.{past};
 ghost use Rattle.fp_meaning.specs.Origins.{expressions_of};
-ghost use Rattle.fp_type_forms.specs.Resolved.{IsResolvedWith, ResolvesAll, ResolvesItems, resolved_to, type_meant, type_ranked};
+ghost use Rattle.fp_type_forms.specs.Resolved.{IsResolvedWith, ResolvesAll, ResolvesItems, meant_in, numbered_in, resolved_to, type_ranked};
 
 use crate::ranking::ranks_of;
 use fp_base::{NoMemory, Row, Value};
 use fp_consts::past_item;
-use fp_meaning::Item;
+use fp_meaning::{Group, Item};
 use fp_tree::Uses;
 use std::alloc::Global;
 
@@ -16,6 +16,8 @@ pub enum Resolution {
     Nothing,
     /// The type that a use means, by its number among the types.
     Type(u32),
+    /// What a use of any other group means, by its number among the definitions.
+    Meant(u32),
     /// An expression, by its number among the expressions.
     Expression(usize),
 }
@@ -108,17 +110,33 @@ fn resolution_of(
     match item {
         Item::Defined(_) => Resolution::Nothing,
         Item::Enumerated(_) => Resolution::Expression(next_mark),
-        Item::Used { .. } => type_used(next_use, meanings, ranks),
+        Item::Declared(_) => Resolution::Nothing,
+        Item::Used { name, .. } => use_resolved(name.group(), next_use, meanings, ranks),
         Item::Written { .. } => Resolution::Expression(next_mark),
     }
 }
 
-fn type_used(next_use: usize, meanings: &[u32], ranks: &[u32]) -> Resolution
-    ensures { result ≡ type_meant ranks.now (slice_get meanings.now next_use) }
+fn use_resolved(group: Group, next_use: usize, meanings: &[u32], ranks: &[u32]) -> Resolution
+    ensures { result ≡ meant_in group ranks.now (slice_get meanings.now next_use) }
 {
     match meanings.get(next_use) {
-        Some(number) => type_numbered(*number, ranks),
+        Some(number) => numbered(group, *number, ranks),
         None => Resolution::Nothing,
+    }
+}
+
+fn numbered(group: Group, number: u32, ranks: &[u32]) -> Resolution
+    ensures { result ≡ numbered_in group ranks.now number }
+{
+    match group {
+        Group::Kind => type_numbered(number, ranks),
+        Group::Value => Resolution::Meant(number),
+        Group::Port => Resolution::Meant(number),
+        Group::Component => Resolution::Meant(number),
+        Group::Instance => Resolution::Meant(number),
+        Group::Topology => Resolution::Meant(number),
+        Group::Machine => Resolution::Meant(number),
+        Group::Interface => Resolution::Meant(number),
     }
 }
 
@@ -160,6 +178,7 @@ fn has_expression(item: &Item) -> bool
     match item {
         Item::Defined(sited) => sited.value().is_some(),
         Item::Enumerated(listed) => listed.value().is_some(),
+        Item::Declared(_) => false,
         Item::Used { .. } => false,
         Item::Written { .. } => true,
     }

@@ -68,6 +68,7 @@ fn with_item(
             with_written(before, one)
         }
         Item::Enumerated(_) => Ok(before),
+        Item::Declared(_) => Ok(before),
         Item::Used { .. } => Ok(before),
         Item::Written { .. } => Ok(before),
     }

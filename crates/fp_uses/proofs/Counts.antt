@@ -9,5 +9,6 @@ pub as_many_counts : (is : List Item) → length (flat_map counts_of is) ≡ len
 as_many_counts [] = refl
 as_many_counts (item.Defined s ∷ is) = ap suc (as_many_counts is)
 as_many_counts (item.Enumerated e ∷ is) = ap suc (as_many_counts is)
+as_many_counts (item.Declared d ∷ is) = ap suc (as_many_counts is)
 as_many_counts (item.Used since n ∷ is) = as_many_counts is
 as_many_counts (item.Written since p ∷ is) = as_many_counts is

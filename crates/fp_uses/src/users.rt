@@ -32,6 +32,7 @@ fn is_value(group: Group) -> bool
         Group::Instance => false,
         Group::Topology => false,
         Group::Machine => false,
+        Group::Interface => false,
     }
 }
 
@@ -46,5 +47,6 @@ fn is_kind(group: Group) -> bool
         Group::Instance => false,
         Group::Topology => false,
         Group::Machine => false,
+        Group::Interface => false,
     }
 }

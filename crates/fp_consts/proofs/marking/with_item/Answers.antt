@@ -4,7 +4,7 @@ use Rattle.fp_base.proofs.Options.{if_ok_then}
 use Rattle.fp_tree.specs.declared.expression.Expr.{Expr}
 use Rattle.fp_meaning.specs.declared.item.Item.{Item}
 use Rattle.fp_consts.specs.Marked.{MarksExpression, MarksItem, MarksOptional}
-use Rattle.fp_consts.proofs.Marked.{past_type}
+use Rattle.fp_consts.proofs.Marked.{nothing_more, past_type}
 use Rattle.fp_consts.proofs.marking.with_item.Goals as goal
 
 pub returns-in-Defined : goal.returns-in-Defined
@@ -18,6 +18,11 @@ returns-in-Enumerated c =
     subst (λ (x : Item). IfOk c.with_optional-in-Enumerated.result (MarksItem c.args.table.now c.args.meanings.now x c.args.before)) (sym c.in-Enumerated.is)
     (if_ok_then c.with_optional-in-Enumerated.result _ _ (λ after adds source given. adds source c.in-Enumerated.listed.scope given)
     (subst (λ (o : Option Expr). IfOk c.with_optional-in-Enumerated.result (MarksOptional c.args.table.now c.args.meanings.now o c.args.before)) c.value-in-Enumerated.ensures c.with_optional-in-Enumerated.ensures))
+
+pub returns-in-Declared : goal.returns-in-Declared
+returns-in-Declared c =
+    subst (λ (x : Item). MarksItem c.args.table.now c.args.meanings.now x c.args.before c.args.before) (sym c.in-Declared.is)
+    (λ source given. nothing_more source c.args.before)
 
 pub returns-in-Used : goal.returns-in-Used
 returns-in-Used c =

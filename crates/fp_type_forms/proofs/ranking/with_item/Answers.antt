@@ -1,8 +1,8 @@
 use Rattle.std.proofs.Common.{refl, sym, ap, ◌∙◌}
 use Rattle.fp_base.proofs.Options.{if_ok_then}
-use Rattle.fp_meaning.specs.Names.{constant_of, defined, definitions_of, group_of, name_of}
+use Rattle.fp_meaning.specs.Names.{constant_of, defined, definitions_of, group_of, model_group, model_name, name_of}
 use Rattle.fp_type_forms.specs.Written.{is_kind}
-use Rattle.fp_type_forms.proofs.Ranks.{ranked_definition, ranked_nothing}
+use Rattle.fp_type_forms.proofs.Ranks.{never_kind, ranked_definition, ranked_nothing}
 use Rattle.fp_type_forms.proofs.ranking.with_item.Goals as goal
 
 pub returns-in-Defined : goal.returns-in-Defined
@@ -19,6 +19,14 @@ returns-in-Enumerated c =
     if_ok_then c.with_definition-in-Enumerated.result _ _
     (λ after made. ranked_definition c.args.item.now (constant_of e.scope e.enumeration e.constant) c.args.before after _ (ap definitions_of c.in-Enumerated.is) refl made)
     c.with_definition-in-Enumerated.ensures
+
+pub returns-in-Declared : goal.returns-in-Declared
+returns-in-Declared c =
+    let d = c.in-Declared.field-0 in
+    if_ok_then c.with_definition-in-Declared.result _ _
+    (λ after made. ranked_definition c.args.item.now (defined (model_group d.definition) d.scope (model_name d.definition)) c.args.before after _ (ap definitions_of c.in-Declared.is)
+    (never_kind d.definition) made)
+    c.with_definition-in-Declared.ensures
 
 pub returns-in-Used : goal.returns-in-Used
 returns-in-Used c = ranked_nothing c.args.item.now c.args.before (ap definitions_of c.in-Used.is)
