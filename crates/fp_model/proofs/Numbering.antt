@@ -58,6 +58,7 @@ module _ (a b c : ℕ) where
   counted_item : (i : Item) → so_many (a + length (constants_of i)) (b + length (types_of i)) (c + length (ports_of i)) ≡ counted_with (so_many a b c) i
   counted_item (item.Defined s) = counted_definition s.scope s.definition
   counted_item (item.Enumerated e) = same_counts (no_more a) (no_more b) (no_more c)
+  counted_item (item.Declared d) = same_counts (no_more a) (no_more b) (no_more c)
   counted_item (item.Used since n) = same_counts (no_more a) (no_more b) (no_more c)
   counted_item (item.Written since p) = same_counts (no_more a) (no_more b) (no_more c)
 
@@ -78,6 +79,7 @@ one_order before (item.Defined s) = of_definition s.scope s.definition
     of_definition s (def.Enum d) = refl
     of_definition s (def.Port d) = refl
 one_order before (item.Enumerated e) = refl
+one_order before (item.Declared d) = refl
 one_order before (item.Used since n) = refl
 one_order before (item.Written since p) = refl
 
@@ -113,6 +115,7 @@ module _ (m : Model) (all : List Item) (constants : length (flat_map constants_o
       of_definition s (def.Enum d) e = below _ _ (within types_of before is _ _ (ap (λ (xs : List Item). length (flat_map types_of xs)) e ∙ types) refl)
       of_definition s (def.Port d) e = below _ _ (within ports_of before is _ _ (ap (λ (xs : List Item). length (flat_map ports_of xs)) e ∙ ports) refl)
   one_lies before is (item.Enumerated x) e = refl
+  one_lies before is (item.Declared d) e = refl
   one_lies before is (item.Used since n) e = refl
   one_lies before is (item.Written since p) e = refl
 

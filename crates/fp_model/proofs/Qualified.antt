@@ -59,6 +59,7 @@ constants_named (item.Defined s) h = of_definition s.scope s.definition h.0
     of_definition scope (def.Enum d) h = tt
     of_definition scope (def.Port d) h = tt
 constants_named (item.Enumerated e) h = tt
+constants_named (item.Declared d) h = tt
 constants_named (item.Used since n) h = tt
 constants_named (item.Written since p) h = tt
 
@@ -78,6 +79,7 @@ ports_bare (item.Defined s) h = of_definition s.scope s.definition h.0
     of_definition scope (def.Enum d) h = tt
     of_definition scope (def.Port d) h = ((qualified_name scope d.name.text h, refl, refl), tt)
 ports_bare (item.Enumerated e) h = tt
+ports_bare (item.Declared d) h = tt
 ports_bare (item.Used since n) h = tt
 ports_bare (item.Written since p) h = tt
 

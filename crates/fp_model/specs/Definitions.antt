@@ -1,6 +1,7 @@
--- The constants and ports of a source, and the order of all its definitions. FPP Language Specification, "Constant Definitions", "Port
--- Definitions", "Names of Definitions".
--- This profile: a port is known by its name, since nothing uses ports yet.
+-- The constants and ports of a source, and the order of its definitions of constants, types and ports. FPP Language Specification, "Constant
+-- Definitions", "Port Definitions", "Names of Definitions".
+-- This profile: a port is known by its name, since nothing uses ports yet. Machines, components, instances and topologies aren't listed yet, so
+-- that they have no place in the order; interfaces are never listed.
 use Rattle.std.specs.Prelude.{ℕ, List, [], ◌∷◌, ◌++◌, length, flat_map, None}
 use Rattle.fp_tree.specs.declared.source.Source.{Source}
 use Rattle.fp_tree.specs.declared.definition.Def.{Def}
@@ -72,6 +73,6 @@ abbrev pub order_behind : List Item → List Item → List Ordered
 order_behind before [] = []
 order_behind before (i ∷ is) = order_of before i ++ order_behind (before ++ i ∷ []) is
 
--- all definitions in the order of the source
+-- all definitions of constants, types and ports in the order of the source
 abbrev pub order : Source → List Ordered
 order source = order_behind [] (items source)

@@ -59,6 +59,7 @@ fn with_item(
             with_definition(alloc, scope, definition, before, values)
         }
         Item::Enumerated(listed) => Ok(past_optional(listed.value(), before, values)),
+        Item::Declared(_) => Ok(before),
         Item::Used { .. } => Ok(before),
         Item::Written { .. } => Ok(past(before, values)),
     }

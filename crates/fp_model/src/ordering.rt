@@ -51,6 +51,7 @@ fn add_item(item: &Item, before: Counts, found: &mut Row<Ordered>) -> Result<Cou
     match item {
         Item::Defined(sited) => add_definition(sited.definition(), before, found),
         Item::Enumerated(_) => Ok(before),
+        Item::Declared(_) => Ok(before),
         Item::Used { .. } => Ok(before),
         Item::Written { .. } => Ok(before),
     }

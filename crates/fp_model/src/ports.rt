@@ -25,6 +25,7 @@ fn add_item(alloc: Global, item: &Item, found: &mut Row<PortDef>) -> Result<(), 
     match item {
         Item::Defined(sited) => add_definition(alloc, sited.scope(), sited.definition(), found),
         Item::Enumerated(_) => Ok(()),
+        Item::Declared(_) => Ok(()),
         Item::Used { .. } => Ok(()),
         Item::Written { .. } => Ok(()),
     }

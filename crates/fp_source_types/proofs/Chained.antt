@@ -48,7 +48,7 @@ use Rattle.fp_type_forms.proofs.Breaking.{any_holds}
 use Rattle.fp_type_forms.proofs.Following.{items_whole}
 use Rattle.fp_type_sizes.proofs.Places.{no_some}
 use Rattle.fp_source_types.specs.Typed.{AreTypesOf}
-use Rattle.fp_source_types.proofs.Counting.{before_one, type_of, types_at}
+use Rattle.fp_source_types.proofs.Counting.{before_one, no_type, type_of, types_at}
 use Rattle.fp_source_types.proofs.Deep.{IsOf}
 use Rattle.fp_source_types.proofs.Formed.{field_defines_none, none_more, size_defines_none}
 use Rattle.fp_source_types.proofs.Meant.{defines_none}
@@ -164,6 +164,7 @@ as_counted : (is : List Item) → length (flat_map counts_of is) ≡ length (fla
 as_counted [] = refl
 as_counted (item.Defined s ∷ is) = ap suc (as_counted is)
 as_counted (item.Enumerated e ∷ is) = ap suc (as_counted is)
+as_counted (item.Declared d ∷ is) = ap suc (as_counted is)
 as_counted (item.Used since n ∷ is) = as_counted is
 as_counted (item.Written since w ∷ is) = as_counted is
 
@@ -331,6 +332,7 @@ module _ (source : Source) (ts : List TypeDef) (constants : IsUnbroken (Constant
           (λ (k : ℕ). some_and (λ f. (is_last n && uses_constants f) || list_any (begins_chain ts n) (kinds_in f)) (form_at ts (types_before (definitions source) k)) ≡ true)
           t.number e))
       go m is e t (item.Enumerated x) found rest = absurd (not_value (ap (λ (y : Definition). y.group) (the_head (ap definitions_of (sym found) ∙ t.defines)) ∙ is.2))
+      go m is e t (item.Declared x) found rest = absurd (no_type x.definition (ap (λ (y : Definition). y.group) (the_head (ap definitions_of (sym found) ∙ t.defines)) ∙ is.2))
       go m is e t (item.Used since x) found rest = absurd (defines_none (ap definitions_of (sym found) ∙ t.defines))
       go m is e t (item.Written since x) found rest = absurd (defines_none (ap definitions_of (sym found) ∙ t.defines))
 

@@ -9,7 +9,8 @@ use Rattle.fp_meaning.specs.declared.group.Group.TheVariants as group
 use Rattle.fp_meaning.specs.declared.item.Item.{Item}
 use Rattle.fp_meaning.specs.declared.item.Item.TheVariants as item
 use Rattle.fp_meaning.specs.declared.names.Definition.{Definition}
-use Rattle.fp_meaning.specs.Names.{Path, defined, definitions_of, group_of, name_of}
+use Rattle.fp_meaning.specs.Names.{Path, defined, definitions_of, group_of, model_group, model_name, name_of}
+use Rattle.fp_meaning.specs.Sites.{ModelDef, machine, component, interface, instance, topology}
 use Rattle.fp_type_forms.specs.Written.{TypeHere, type_here, type_count, types_among, types_before, types_in, types_of}
 use Rattle.fp_source_types.proofs.Standing.{before}
 
@@ -31,12 +32,29 @@ count_of scope (def.Struct d) = refl
 count_of scope (def.Enum d) = refl
 count_of scope (def.Port d) = refl
 
+-- other definitions are no types
+pub no_type : (d : ModelDef) → model_group d ≡ group.Kind → ⊥
+no_type (machine d) e = cc
+no_type (component d) e = cc
+no_type (interface d) e = cc
+no_type (instance d) e = cc
+no_type (topology d) e = cc
+
+nothing_of : (scope : Path) (d : ModelDef) → type_count (defined (model_group d) scope (model_name d)) ≡ 0
+nothing_of scope (machine d) = refl
+nothing_of scope (component d) = refl
+nothing_of scope (interface d) = refl
+nothing_of scope (instance d) = refl
+nothing_of scope (topology d) = refl
+
 types_counted : (is : List Item) → types_among (flat_map definitions_of is) ≡ length (flat_map types_of is)
 types_counted [] = refl
 types_counted (item.Defined s ∷ is) =
     ap (λ (n : ℕ). n + types_among (flat_map definitions_of is)) (count_of s.scope s.definition)
     ∙ ap (λ (n : ℕ). length (types_in s.scope s.definition) + n) (types_counted is) ∙ sym (length-append (types_in s.scope s.definition) (flat_map types_of is))
 types_counted (item.Enumerated e ∷ is) = none_more _ ∙ types_counted is
+types_counted (item.Declared d ∷ is) =
+    ap (λ (n : ℕ). n + types_among (flat_map definitions_of is)) (nothing_of d.scope d.definition) ∙ none_more _ ∙ types_counted is
 types_counted (item.Used since n ∷ is) = types_counted is
 types_counted (item.Written since w ∷ is) = types_counted is
 

@@ -18,10 +18,10 @@ use Rattle.fp_meaning.specs.declared.names.Mention.{Mention}
 use Rattle.fp_meaning.specs.ConstantFaults.{ConstantsBroken}
 use Rattle.fp_meaning.specs.Layout.{items}
 use Rattle.fp_meaning.specs.Meaning.{Means, AreMeanings}
-use Rattle.fp_meaning.specs.Names.{Path, definitions, definitions_of, group_of, in_expression, in_optional, mentions, uses_of}
+use Rattle.fp_meaning.specs.Names.{Path, definitions, definitions_of, group_of, in_expression, in_optional, mentions, model_group, uses_of}
 use Rattle.fp_meaning.specs.Origins.{Placed, placed, one, Origin, Constant, Enumerated, origin_with, origins_of, expressions_of}
 use Rattle.fp_meaning.specs.Owners.{owner_of}
-use Rattle.fp_meaning.specs.Sites.{Site, Entry, value_in}
+use Rattle.fp_meaning.specs.Sites.{Site, Entry, value_in, ModelDef, machine, component, interface, instance, topology}
 use Rattle.fp_meaning.specs.Uses.{Uses}
 use Rattle.fp_meaning.specs.Values.{opened, number_in, constant_value, IsImplied, Val}
 use Rattle.fp_consts.specs.Examined.{HasValue}
@@ -43,6 +43,7 @@ uses_if scope (Some e) (suc j) q at = no_some at
 uses_written : (i : Item) (j : ℕ) (q : Placed) → slice_get (expressions_of i) j ≡ Some q → uses_of i ≡ in_expression q.scope q.expression
 uses_written (item.Defined s) j q at = uses_if s.scope (value_in s.definition) j q at
 uses_written (item.Enumerated e) j q at = uses_if e.scope e.constant.value j q at
+uses_written (item.Declared d) j q at = no_some at
 uses_written (item.Used since n) j q at = no_some at
 uses_written (item.Written since p) zero q at = ap (λ (x : Placed). in_expression x.scope x.expression) (same_some at)
 uses_written (item.Written since p) (suc j) q at = no_some at
@@ -56,6 +57,14 @@ constant_written (def.Array d) is = absurd (cc)
 constant_written (def.Struct d) is = absurd (cc)
 constant_written (def.Enum d) is = absurd (cc)
 constant_written (def.Port d) is = absurd (cc)
+
+-- beside constants, types and ports nothing defines a value
+no_value : (d : ModelDef) → model_group d ≡ group.Value → ⊥
+no_value (machine d) e = cc
+no_value (component d) e = cc
+no_value (interface d) e = cc
+no_value (instance d) e = cc
+no_value (topology d) e = cc
 
 group_at : {x y : Definition} → x ∷ [] ≡ y ∷ [] → y.group ≡ group.Value → x.group ≡ group.Value
 group_at e is = ap (λ (d : Definition). d.group) (the_head e) ∙ is
@@ -145,6 +154,7 @@ module _ (source : Source) (meanings : List ℕ) (meant : AreMeanings (definitio
         let e = constant_written s.definition (group_at (ap definitions_of (sym is) ∙ t.defines) of_value) in
         constant_has s (t.here ∙ ap (λ (x : Item). Some x) is) is e.0 e.1
     by_item (item.Enumerated e) is = enumerated_has e (t.here ∙ ap (λ (x : Item). Some x) is) is e.constant.value refl
+    by_item (item.Declared x) is = absurd (no_value x.definition (group_at (ap definitions_of (sym is) ∙ t.defines) of_value))
     by_item (item.Used since x) is = absurd (defines_none (ap definitions_of (sym is) ∙ t.defines))
     by_item (item.Written since x) is = absurd (defines_none (ap definitions_of (sym is) ∙ t.defines))
 

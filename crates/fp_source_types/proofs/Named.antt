@@ -97,6 +97,7 @@ first_item (item.Defined s) is t j e =
       number = of.first_is;
     }
 first_item (item.Enumerated s) is t j e = no_some e
+first_item (item.Declared d) is t j e = no_some e
 first_item (item.Used since n) is t j e = no_some e
 first_item (item.Written since p) is t j e = no_some e
 

@@ -21,8 +21,9 @@ use Rattle.fp_tree.specs.declared.part.Formal.{Formal}
 use Rattle.fp_meaning.specs.declared.item.Item.{Item}
 use Rattle.fp_meaning.specs.declared.item.Item.TheVariants as item
 use Rattle.fp_meaning.specs.Layout.{expression_items, type_form_items, type_items, field_items, formal_items, constant_items, part_items, items_in, items}
-use Rattle.fp_meaning.specs.Sites.{Entry, Path, Site, in_optional, is_implied}
+use Rattle.fp_meaning.specs.Sites.{declaration, Entry, ModelDef, Path, Site, in_optional, is_implied}
 use Rattle.fp_meaning.specs.Values.{IsImplied}
+use Rattle.fp_meaning.proofs.Since.{AllSince}
 use Rattle.fp_meaning.proofs.Throughout.{all_items}
 use Rattle.fp_type_forms.specs.Broken.{BrokenByParts, ByOptional, HasBoth, IsNoNumber, TypePartsBroken}
 use Rattle.fp_type_sizes.proofs.Places.{no_some}
@@ -139,8 +140,24 @@ behind_definition scope d (suc p) e at =
     let t = of_item (IsListed scope d) (part_items scope d) p (item.Enumerated e) (are_listed scope d) at in
     record { at = 0; site = record { scope = scope; definition = d }; here = refl; scope = t.0; definition = t.1; listed = t.2 }
 
+-- names and expressions are no constants
+abbrev IsNoEntry : Item → Type 0
+IsNoEntry (item.Enumerated e) = ⊥
+IsNoEntry _ = Unit {0}
+
+no_entries : (is : List Item) → AllSince 0 is → AllByRecursion IsNoEntry is
+no_entries [] own = tt
+no_entries (item.Used m n ∷ is) own = (tt, no_entries is own.1)
+no_entries (item.Written m p ∷ is) own = (tt, no_entries is own.1)
+no_entries (item.Defined s ∷ is) own = absurd own
+no_entries (item.Enumerated e ∷ is) own = absurd own
+no_entries (item.Declared d ∷ is) own = absurd own
+
+behind_declared : (scope : Path) (d : ModelDef) (is : List Item) → AllSince 0 is → AreBehind (item.Declared (declaration scope d) ∷ is)
+behind_declared scope d is own p e at = absurd (of_item IsNoEntry (item.Declared (declaration scope d) ∷ is) p (item.Enumerated e) (tt, no_entries is own) at)
+
 behind : (source : Source) → AreBehind (items source)
-behind source = all_items AreBehind behind_nothing behind_joined behind_definition source
+behind source = all_items AreBehind behind_nothing behind_joined behind_definition behind_declared source
 
 -- ---- where no rule is broken
 

@@ -31,6 +31,7 @@ module _ (at : Name → Option Expr → Place) where
   of_item : (i : Item) → places_of place i ≡ map place (types_of i)
   of_item (item.Defined s) = here s.scope s.definition
   of_item (item.Enumerated e) = refl
+  of_item (item.Declared d) = refl
   of_item (item.Used since n) = refl
   of_item (item.Written since p) = refl
 

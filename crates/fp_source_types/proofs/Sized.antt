@@ -42,7 +42,7 @@ use Rattle.fp_source_types.specs.Broken.{TypesBrokenBy}
 use Rattle.fp_source_types.specs.Listed.{EnumsHaveConstants, HasConstants}
 use Rattle.fp_source_types.specs.Places.{default_place, name_place}
 use Rattle.fp_source_types.proofs.Deep.{IsOf, by_uses}
-use Rattle.fp_source_types.proofs.Counting.{type_of, types_at, before_one}
+use Rattle.fp_source_types.proofs.Counting.{no_type, type_of, types_at, before_one}
 use Rattle.fp_source_types.proofs.Defined.{FormSized, default_valued, formed}
 use Rattle.fp_source_types.proofs.Expressed.{Valued}
 use Rattle.fp_source_types.proofs.Meant.{Stands, all_stand, defines_none}
@@ -129,6 +129,7 @@ module _ (source : Source) (meanings : List ℕ) (meant : AreMeanings (definitio
           let kind_is : group_of s.definition ≡ group.Kind = ap (λ (x : Definition). x.group) same ∙ of in
           subst Sizes (sym t.number) (site_sized t.at s (t.here ∙ ap (λ (x : Item). Some x) is) kind_is (subst UsedSizes t.number used))
       step n d of used t (item.Enumerated e) is = absurd (not_value (ap (λ (x : Definition). x.group) (the_head (ap definitions_of (sym is) ∙ t.defines)) ∙ of))
+      step n d of used t (item.Declared x) is = absurd (no_type x.definition (ap (λ (y : Definition). y.group) (the_head (ap definitions_of (sym is) ∙ t.defines)) ∙ of))
       step n d of used t (item.Used since x) is = absurd (defines_none (ap definitions_of (sym is) ∙ t.defines))
       step n d of used t (item.Written since x) is = absurd (defines_none (ap definitions_of (sym is) ∙ t.defines))
 

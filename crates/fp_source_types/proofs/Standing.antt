@@ -103,6 +103,7 @@ within_at is p i d at defines =
 owner_within : (is : List Item) (p : ℕ) (i : Item) → slice_get is p ≡ Some i → 0 < length (flat_map definitions_of is) → owner_of (before is p) i < length (flat_map definitions_of is)
 owner_within is p (item.Defined s) at some = within_at is p (item.Defined s) _ at refl
 owner_within is p (item.Enumerated e) at some = within_at is p (item.Enumerated e) _ at refl
+owner_within is p (item.Declared d) at some = within_at is p (item.Declared d) _ at refl
 owner_within is p (item.Used since n) at some = let all = before_all is p in omega arith
 owner_within is p (item.Written since w) at some = let all = before_all is p in omega arith
 
@@ -166,11 +167,15 @@ item_of (item.Defined s ∷ is) (suc n) d e = further (item.Defined s) is n (suc
 item_of (item.Enumerated s ∷ is) zero d e =
     record { at = 0; found = item.Enumerated s; here = refl; defines = ap (λ (x : Definition). x ∷ []) (same_some e); number = refl }
 item_of (item.Enumerated s ∷ is) (suc n) d e = further (item.Enumerated s) is n (suc n) d (one_more n) (item_of is n d e)
+item_of (item.Declared s ∷ is) zero d e =
+    record { at = 0; found = item.Declared s; here = refl; defines = ap (λ (x : Definition). x ∷ []) (same_some e); number = refl }
+item_of (item.Declared s ∷ is) (suc n) d e = further (item.Declared s) is n (suc n) d (one_more n) (item_of is n d e)
 
 as_many : (is : List Item) → length (flat_map origins_of is) ≡ length (flat_map definitions_of is)
 as_many [] = refl
 as_many (item.Defined s ∷ is) = ap suc (as_many is)
 as_many (item.Enumerated e ∷ is) = ap suc (as_many is)
+as_many (item.Declared d ∷ is) = ap suc (as_many is)
 as_many (item.Used since n ∷ is) = as_many is
 as_many (item.Written since w ∷ is) = as_many is
 

@@ -25,5 +25,6 @@ place_in place d = map place (types_in [] d)
 abbrev pub places_of : (TypeHere → Place) → Item → List Place
 places_of place (item.Defined s) = place_in place s.definition
 places_of place (item.Enumerated e) = []
+places_of place (item.Declared d) = []
 places_of place (item.Used since n) = []
 places_of place (item.Written since p) = []

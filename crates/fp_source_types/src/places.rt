@@ -23,6 +23,7 @@ fn add_name(item: &Item, found: &mut Row<Place>) -> Result<(), NoMemory>
     match item {
         Item::Defined(sited) => add(name_of_type(sited.definition()), found),
         Item::Enumerated(_) => Ok(()),
+        Item::Declared(_) => Ok(()),
         Item::Used { .. } => Ok(()),
         Item::Written { .. } => Ok(()),
     }
@@ -68,6 +69,7 @@ fn add_default(item: &Item, found: &mut Row<Place>) -> Result<(), NoMemory>
     match item {
         Item::Defined(sited) => add(default_of_type(sited.definition()), found),
         Item::Enumerated(_) => Ok(()),
+        Item::Declared(_) => Ok(()),
         Item::Used { .. } => Ok(()),
         Item::Written { .. } => Ok(()),
     }

@@ -78,6 +78,7 @@ module _ (is : List Item) where
   readable_item : (k : ℕ) (i : Item) → slice_get is k ≡ Some i → IsUnbroken (BrokenByFormats is) → AreReadable is i
   readable_item k (item.Defined s) at h = has_readable s.scope s.definition (λ f b. h f (k, item.Defined s, at, b))
   readable_item k (item.Enumerated e) at h = tt
+  readable_item k (item.Declared d) at h = tt
   readable_item k (item.Used since n) at h = tt
   readable_item k (item.Written since p) at h = tt
 

@@ -15,10 +15,12 @@ use Rattle.fp_meaning.specs.Names.{Path, definitions_of}
 use Rattle.fp_meaning.specs.Sites.{Site}
 use Rattle.fp_meaning.specs.Values.{names_of}
 
--- the definition in its scope, for each that an item gives; a constant of an enumeration stands in none
+-- the definition of a constant, a type or a port in its scope, for each definition that an item gives; a constant of an enumeration stands in
+-- none, and what else is defined is no such definition
 abbrev pub sites_of : Item → List (Option Site)
 sites_of (item.Defined s) = Some s ∷ []
 sites_of (item.Enumerated e) = None ∷ []
+sites_of (item.Declared d) = None ∷ []
 sites_of _ = []
 
 -- a word for a truth value, a text or a float

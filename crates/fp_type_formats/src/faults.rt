@@ -73,6 +73,7 @@ fn item_fault(
             definition_fault(alloc, sited.scope(), sited.definition(), names, sorts)
         }
         Item::Enumerated(_) => Ok(None),
+        Item::Declared(_) => Ok(None),
         Item::Used { .. } => Ok(None),
         Item::Written { .. } => Ok(None),
     }

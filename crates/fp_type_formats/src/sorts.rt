@@ -51,6 +51,7 @@ fn add_item(
             found.push(sort)
         }
         Item::Enumerated(_) => found.push(Sort::Nothing),
+        Item::Declared(_) => found.push(Sort::Nothing),
         Item::Used { .. } => Ok(()),
         Item::Written { .. } => Ok(()),
     }

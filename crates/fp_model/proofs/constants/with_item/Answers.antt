@@ -19,6 +19,9 @@ returns-in-Enumerated c =
     subst (λ (x : Item). AddsItem c.args.values.now x c.args.before c.past_optional.result) (sym c.in-Enumerated.is)
     (subst (λ (o : Option Expr). Passes c.args.values.now o c.args.before c.past_optional.result) c.value.ensures c.past_optional.ensures c.in-Enumerated.listed.scope)
 
+pub returns-in-Declared : goal.returns-in-Declared
+returns-in-Declared c = subst (λ (x : Item). AddsItem c.args.values.now x c.args.before c.args.before) (sym c.in-Declared.is) (nothing_more c.args.values.now c.args.before)
+
 pub returns-in-Used : goal.returns-in-Used
 returns-in-Used c = subst (λ (x : Item). AddsItem c.args.values.now x c.args.before c.args.before) (sym c.in-Used.is) (nothing_more c.args.values.now c.args.before)
 

@@ -21,3 +21,8 @@ pub returns-in-Enumerated : goal.returns-in-Enumerated
 returns-in-Enumerated c =
     on_ok_weaker c.push-in-Enumerated.result
     (λ e. add_site c.args.names.now c.args.item.now None sort.Nothing c.args.found.now c.push-in-Enumerated.new.self (ap sites_of c.in-Enumerated.is) refl e) c.push-in-Enumerated.ensures.ok
+
+pub returns-in-Declared : goal.returns-in-Declared
+returns-in-Declared c =
+    on_ok_weaker c.push-in-Declared.result
+    (λ e. add_site c.args.names.now c.args.item.now None sort.Nothing c.args.found.now c.push-in-Declared.new.self (ap sites_of c.in-Declared.is) refl e) c.push-in-Declared.ensures.ok
