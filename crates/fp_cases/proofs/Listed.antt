@@ -23,6 +23,7 @@ definition_has (def.Port d) h = tt
 item_listed : (i : Item) → is_listed i ≡ true → IsListed i
 item_listed (item.Defined s) h = definition_has s.definition h
 item_listed (item.Enumerated e) h = tt
+item_listed (item.Declared d) h = tt
 item_listed (item.Used since n) h = tt
 item_listed (item.Written since p) h = tt
 

@@ -61,6 +61,7 @@ fn is_listed(item: &Item) -> bool
     match item {
         Item::Defined(sited) => has_constants(sited.definition()),
         Item::Enumerated(_) => true,
+        Item::Declared(_) => true,
         Item::Used { .. } => true,
         Item::Written { .. } => true,
     }

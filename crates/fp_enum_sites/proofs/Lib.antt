@@ -1,2 +1,3 @@
 mod Constants
+mod Having
 mod Members

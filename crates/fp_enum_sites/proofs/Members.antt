@@ -12,9 +12,8 @@ use Rattle.fp_tree.specs.declared.member.Member.{Member}
 use Rattle.fp_tree.specs.declared.member.Module.{Module, out-Module}
 use Rattle.fp_tree.specs.declared.member.Member.TheVariants as node
 use Rattle.fp_meaning.specs.declared.item.Item.{Item}
-use Rattle.fp_meaning.specs.declared.item.Item.TheVariants as item
 use Rattle.fp_meaning.specs.Sites.{Path}
-use Rattle.fp_meaning.specs.Layout.{in_member, in_members, items_in, part_items}
+use Rattle.fp_meaning.specs.Layout.{in_member, in_members, items_in}
 use Rattle.fp_meaning.proofs.Walks.{module_gives, definition_gives, include_gives, locate_gives}
 use Rattle.fp_grammar.specs.Grammar.{Language}
 use Rattle.fp_parse_pieces.specs.Kinds.{k_open_brace, k_close_brace}
@@ -24,17 +23,15 @@ use Rattle.fp_parse_defs.specs.Reading.{limit}
 use Rattle.fp_parse_pieces.specs.Words as words
 use Rattle.fp_parse_parts.specs.declared.bare.BareMember.{BareMember}
 use Rattle.fp_parse_parts.specs.declared.bare.BareMember.TheVariants as bare
-use Rattle.fp_parse_parts.specs.declared.bare.ModelMember.{ModelMember}
-use Rattle.fp_parse_parts.specs.declared.bare.ModelMember.TheVariants as model
 use Rattle.fp_parse_parts.specs.Members.{k_module, semicolons, definition_begins, definition_goes_on, definition_member, made_include, include, made_locate, locate, model_member, noted_definition, noted_member, with_member, member_of, members_of, made_module, modules, members}
 use Rattle.fp_parse_parts.specs.Omitted.{unbuilt}
 use Rattle.fp_parse_parts.specs.Units.{SpellsUnit}
 use Rattle.fp_sites.proofs.Preserving.{LanguageGives, gives_anything, gives_map, gives_seq, gives_alt, gives_optional, gives_ref, gives_seal, gives_after}
 use Rattle.fp_sites.proofs.Lists.{each_or_none, gives_some_of}
-use Rattle.fp_sites.proofs.ModelWalks.{machine_gives, component_gives, interface_gives, instance_gives, topology_gives}
+use Rattle.fp_sites.proofs.Models.{models_yield}
 use Rattle.fp_source_types.specs.Listed.{HasConstants, IsListed}
-use Rattle.fp_type_forms.proofs.Following.{IsPart, are_parts}
 use Rattle.fp_enum_sites.proofs.Constants.{Any, Yields, definition_yields}
+use Rattle.fp_enum_sites.proofs.Having.{definition_listed, having}
 
 -- ---- what a member gives
 
@@ -56,26 +53,12 @@ same_listed is js e h = subst AreListed (sym e) h
 all_hold : (ms : List Member) → Each Holds ms → (scope : Path) → AreListed (in_members scope ms)
 all_hold ms hs scope = each_flat IsListed (in_member scope) ms (each_weaker Holds (λ m. AreListed (in_member scope m)) (λ m h. h scope) ms hs)
 
--- what stands in a definition is no definition
-part_listed : (i : Item) → IsPart i → IsListed i
-part_listed (item.Defined s) is = absurd is
-part_listed (item.Enumerated e) is = tt
-part_listed (item.Used since n) is = tt
-part_listed (item.Written since p) is = tt
-
 definition_holds : (d : Def) → HasConstants d → Holds (node.Def d)
 definition_holds d has scope =
-    same_listed (in_member scope (node.Def d)) (items_in scope d) (definition_gives scope d) (has, each_weaker IsPart IsListed part_listed (part_items scope d) (are_parts scope d))
+    same_listed (in_member scope (node.Def d)) (items_in scope d) (definition_gives scope d) (definition_listed scope d has)
 
 module_holds : (m : Module) → Each Holds (out-Module m).members → Holds (node.Module m)
 module_holds m hs scope = same_listed _ _ (module_gives scope m) (all_hold (out-Module m).members hs (scope ++ (out-Module m).name.text ∷ []))
-
-model_holds : (m : ModelMember) → Unit {0} → HoldsNoted (bare.Model m)
-model_holds (model.Machine x) h note scope = same_listed _ _ (machine_gives scope _) tt
-model_holds (model.Component x) h note scope = same_listed _ _ (component_gives scope _) tt
-model_holds (model.Interface x) h note scope = same_listed _ _ (interface_gives scope _) tt
-model_holds (model.Instance x) h note scope = same_listed _ _ (instance_gives scope _) tt
-model_holds (model.Topology x) h note scope = same_listed _ _ (topology_gives scope _) tt
 
 include_holds : (p : Span × Str) → Unit {0} → HoldsNoted (made_include p)
 include_holds (at, file) h note scope = same_listed _ _ (include_gives scope _) tt
@@ -100,7 +83,8 @@ definition_member_yields expressions =
     (gives_seal {a = definition expressions} definition_begins definition_goes_on (definition_yields expressions))
 
 model_yields : (omitted : List ℕ) (expressions : ℕ) → Yields (model_member omitted expressions) HoldsNoted
-model_yields omitted expressions = gives_map HoldsNoted bare.Model model_holds gives_anything
+unfolding having
+model_yields omitted expressions = gives_map HoldsNoted bare.Model (λ m h note. (h note).items) (models_yield (having expressions) omitted)
 
 module _ (omitted : List ℕ) (expressions : ℕ) where
   member_yields : (inner : Language Token BareMember) → LanguageGives Any inner HoldsNoted → Yields (member_of omitted expressions inner) HoldsNoted

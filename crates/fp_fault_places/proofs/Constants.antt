@@ -46,6 +46,7 @@ module _ (G : Place → Type 0) where
       of_definition (def.Enum d) k = tt
       of_definition (def.Port d) k = tt
   expressions_placed (item.Enumerated e) h = optional_placed e.scope e.constant.value h.1
+  expressions_placed (item.Declared d) h = tt
   expressions_placed (item.Used since n) h = tt
   expressions_placed (item.Written since p) h = (h, tt)
 
@@ -63,6 +64,7 @@ module _ (G : Place → Type 0) where
       of_definition (def.Enum d) k = (k.0, tt)
       of_definition (def.Port d) k = (k.0, tt)
   names_placed (item.Enumerated e) h = (h.0, tt)
+  names_placed (item.Declared d) h = (h.0, tt)
   names_placed (item.Used since n) h = tt
   names_placed (item.Written since p) h = tt
 

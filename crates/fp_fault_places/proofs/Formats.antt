@@ -55,6 +55,7 @@ module _ (G : Place → Type 0) where
   item_placed : (is : List Item) (i : Item) (f : Refusal) → StandOf G i → BrokenByItem is i f → G f.place
   item_placed is (item.Defined s) f h b = definition_placed is s.scope s.definition f h b
   item_placed is (item.Enumerated e) f h b = absurd b
+  item_placed is (item.Declared d) f h b = absurd b
   item_placed is (item.Used since n) f h b = absurd b
   item_placed is (item.Written since p) f h b = absurd b
 

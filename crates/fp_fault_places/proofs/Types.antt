@@ -208,6 +208,7 @@ module _ (G : Place → Type 0) where
       )
       of_definition (def.Port d) k = tt
   types_placed (item.Enumerated e) h = tt
+  types_placed (item.Declared d) h = tt
   types_placed (item.Used since n) h = tt
   types_placed (item.Written since p) h = tt
 
@@ -228,12 +229,14 @@ module _ (G : Place → Type 0) where
     by_item : (i : Item) (f : Refusal) → StandOf G i → BrokenByItem source i f → At f
     by_item (item.Defined s) f h b = parts_placed source s.scope s.definition f h b
     by_item (item.Enumerated e) f h b = absurd b
+    by_item (item.Declared d) f h b = absurd b
     by_item (item.Used since n) f h b = absurd b
     by_item (item.Written since p) f h b = absurd b
 
     by_numbers : (i : Item) (f : Refusal) → StandOf G i → RepeatsByItem source i f → At f
     by_numbers (item.Defined s) f h b = numbers_placed source s.scope s.definition f h b
     by_numbers (item.Enumerated e) f h b = absurd b
+    by_numbers (item.Declared d) f h b = absurd b
     by_numbers (item.Used since n) f h b = absurd b
     by_numbers (item.Written since p) f h b = absurd b
 

@@ -1,9 +1,9 @@
 -- Where all names in members are names of the language, what their items define has such names.
-use Rattle.std.proofs.Common.{◌≡◌, ℕ, suc, true, List, [], ◌∷◌, ◌++◌, flat_map, map, Option, Some, None, sym, subst, refl}
+use Rattle.std.proofs.Common.{◌≡◌, ℕ, suc, true, List, [], ◌∷◌, ◌++◌, flat_map, map, Option, sym, subst, refl}
 use Rattle.std.specs.List.{AllByRecursion as Each, list_all, Contains}
 use Rattle.fp_base.specs.Names.{is_name}
 use Rattle.fp_base.proofs.Bools.{both, join}
-use Rattle.fp_base.proofs.Lists.{each_append, each_before, each_behind, each_contained, each_flat, each_of_any, of_contained}
+use Rattle.fp_base.proofs.Lists.{each_append, each_before, each_behind, each_contained, of_contained}
 use Rattle.fp_lexer.specs.Tokens.{Lexed}
 use Rattle.fp_lexer.specs.declared.token.Token.{Token}
 use Rattle.fp_outside.specs.declared.files.HeldFile.{HeldFile}
@@ -11,26 +11,36 @@ use Rattle.fp_parse_parts.specs.Units.{SpellsUnit}
 use Rattle.fp_tree.specs.declared.name.Name.{Name}
 use Rattle.fp_tree.specs.declared.expression.Expr.{Expr}
 use Rattle.fp_tree.specs.declared.type_name.TypeName.{TypeName}
-use Rattle.fp_tree.specs.declared.type_name.TypeForm.{TypeForm}
-use Rattle.fp_tree.specs.declared.type_name.TypeForm.TheVariants as type
 use Rattle.fp_tree.specs.declared.part.EnumConst.{EnumConst}
 use Rattle.fp_tree.specs.declared.part.Field.{Field}
-use Rattle.fp_tree.specs.declared.part.Formal.{Formal}
 use Rattle.fp_tree.specs.declared.definition.Def.{Def}
 use Rattle.fp_tree.specs.declared.definition.Def.TheVariants as def
 use Rattle.fp_tree.specs.declared.definition.Enum.{Enum}
+use Rattle.fp_tree.specs.declared.machine.Machine.{Machine}
+use Rattle.fp_tree.specs.declared.component.Component.{Component}
+use Rattle.fp_tree.specs.declared.component.Part.{Part}
+use Rattle.fp_tree.specs.declared.component.Part.TheVariants as part
+use Rattle.fp_tree.specs.declared.component.Interface.{Interface}
+use Rattle.fp_tree.specs.declared.instance.Instance.{Instance}
+use Rattle.fp_tree.specs.declared.topology.Topology.{Topology}
 use Rattle.fp_tree.specs.declared.member.Unit.{Unit as File}
 use Rattle.fp_tree.specs.declared.member.Member.{Member, Member-F}
-use Rattle.fp_tree.specs.declared.member.Member.TheFolds.{fold-roll-Member, ind-Member, map-Member, map-Module}
+use Rattle.fp_tree.specs.declared.member.Member.TheFolds.{fold-Member, fold-Module, fold-roll-Member, ind-Member, map-Member, map-Module}
 use Rattle.fp_tree.specs.declared.member.Member.TheOpen as open_member
 use Rattle.fp_tree.specs.declared.member.Member.TheViews.{roll-Member, roll-Module}
 use Rattle.fp_tree.specs.declared.member.Module.{Module, Module-F}
 use Rattle.fp_meaning.specs.declared.item.Item.{Item}
-use Rattle.fp_meaning.specs.Sites.{Path, in_optional}
-use Rattle.fp_meaning.specs.Layout.{constant_items, expression_items, field_items, formal_items, in_member, in_members, items, items_in, type_form_items, type_items}
+use Rattle.fp_meaning.specs.declared.item.Item.TheVariants as item
+use Rattle.fp_meaning.specs.Sites.{Path, in_optional, ModelDef, machine, component, interface, instance, topology, declaration}
+use Rattle.fp_meaning.specs.Names.{model_name}
+use Rattle.fp_meaning.specs.Layout.{behavior_items, component_items, component_scope, constant_items, expression_items, field_items, formal_items, in_member, in_members, inner_items, instance_items, interface_items, interface_part_items, items, items_in, machine_items, model_own_items, own_items, topology_items, topology_member_items, type_items}
+use Rattle.fp_meaning.proofs.Since.{AllSince, since_behavior, since_each, since_fields, since_form, since_formals, since_instance, since_interface, since_optional, since_own, since_topology, since_type}
 use Rattle.fp_meaning.proofs.Throughout.{in_module, member_rolled, members_rolled}
 use Rattle.fp_sites.specs.Names.{names_in, names_of_member, names_of_module, names_within}
 use Rattle.fp_sites.specs.Parts.{names_in_constant, names_in_definition, names_in_expression, names_in_field, names_in_type}
+use Rattle.fp_sites.specs.Machines.{names_in_machine}
+use Rattle.fp_sites.specs.Components.{names_in_component, names_in_interface, names_in_part}
+use Rattle.fp_sites.specs.Topologies.{names_in_instance, names_in_topology}
 use Rattle.fp_sites.specs.Written.{NamesAreWritten}
 use Rattle.fp_gather.proofs.ItemsKept.{file_given}
 use Rattle.fp_gather.proofs.KeptByWalks.{units_kept}
@@ -55,32 +65,22 @@ named_behind (x ∷ scope) text s n =
 
 -- ---- items that define nothing
 
-quiet_expression : (since : ℕ) (scope : Path) (e : Expr) → Each IsNamed (expression_items since scope e)
-quiet_expression since scope e = (record { definitions = tt; members = tt }, tt)
+quiet : (since : ℕ) (is : List Item) → AllSince since is → Each IsNamed is
+quiet since [] h = tt
+quiet since (item.Used m n ∷ is) h = (record { definitions = tt; members = tt }, quiet since is h.1)
+quiet since (item.Written m p ∷ is) h = (record { definitions = tt; members = tt }, quiet since is h.1)
+quiet since (item.Defined s ∷ is) h = absurd h
+quiet since (item.Enumerated e ∷ is) h = absurd h
+quiet since (item.Declared d ∷ is) h = absurd h
 
 quiet_optional : (since : ℕ) (scope : Path) (o : Option Expr) → Each IsNamed (in_optional (expression_items since scope) o)
-quiet_optional since scope None = tt
-quiet_optional since scope (Some e) = quiet_expression since scope e
+quiet_optional since scope o = quiet since (in_optional (expression_items since scope) o) (since_optional since scope o)
 
-quiet_form : (since : ℕ) (scope : Path) (f : TypeForm) → Each IsNamed (type_form_items since scope f)
-quiet_form since scope (type.Text size) = quiet_optional since scope size
-quiet_form since scope (type.Use name) = (record { definitions = tt; members = tt }, tt)
-quiet_form since scope _ = tt
-
-quiet_type : (since : ℕ) (scope : Path) (t : TypeName) → Each IsNamed (type_items since scope t)
-quiet_type since scope t = quiet_form since scope t.form
+quiet_type : (scope : Path) (t : TypeName) → Each IsNamed (type_items 0 scope t)
+quiet_type scope t = quiet 0 (type_items 0 scope t) (since_form 0 scope t.form)
 
 optional_type : (scope : Path) (o : Option TypeName) → Each IsNamed (in_optional (type_items 0 scope) o)
-optional_type scope None = tt
-optional_type scope (Some t) = quiet_type 0 scope t
-
-quiet_fields : (scope : Path) (fs : List Field) → Each IsNamed (flat_map (field_items scope) fs)
-quiet_fields scope fs =
-    each_flat IsNamed (field_items scope) fs
-    (each_of_any (λ (f : Field). Each IsNamed (field_items scope f)) (λ f. each_append IsNamed _ _ (quiet_optional 0 scope f.size) (quiet_type 0 scope f.of)) fs)
-
-quiet_formals : (scope : Path) (fs : List Formal) → Each IsNamed (flat_map (formal_items scope) fs)
-quiet_formals scope fs = each_flat IsNamed (formal_items scope) fs (each_of_any (λ (f : Formal). Each IsNamed (formal_items scope f)) (λ f. quiet_type 0 scope f.of) fs)
+optional_type scope o = quiet 0 (in_optional (type_items 0 scope) o) (since_type scope o)
 
 -- ---- definitions
 
@@ -101,17 +101,17 @@ constants_named scope e position (c ∷ cs) s h = (
 definition_named : (scope : Path) (d : Def) → AreNames scope → Each IsName (names_in_definition d) → Each IsNamed (items_in scope d)
 definition_named scope (def.Constant d) s h = (record { definitions = (named_behind scope d.name.text s h.0, tt); members = tt }, tt)
 definition_named scope (def.Abstract d) s h = (record { definitions = (named_behind scope d.name.text s h.0, tt); members = tt }, tt)
-definition_named scope (def.Alias d) s h = (record { definitions = (named_behind scope d.name.text s h.0, tt); members = tt }, quiet_type 0 scope d.target)
+definition_named scope (def.Alias d) s h = (record { definitions = (named_behind scope d.name.text s h.0, tt); members = tt }, quiet_type scope d.target)
 definition_named scope (def.Array d) s h = (
   record { definitions = (named_behind scope d.name.text s h.0, tt); members = tt },
-  (record { definitions = tt; members = tt }, each_append IsNamed _ _ (quiet_type 0 scope d.element) (quiet_optional 0 scope d.default)),
+  (record { definitions = tt; members = tt }, each_append IsNamed _ _ (quiet_type scope d.element) (quiet_optional 0 scope d.default)),
 )
 definition_named scope (def.Struct d) s h = (
   record {
     definitions = (named_behind scope d.name.text s h.0, tt);
     members = field_names d.fields (each_before IsName (flat_map names_in_field d.fields) (in_optional names_in_expression d.default) h.1);
   },
-  each_append IsNamed _ _ (quiet_fields scope d.fields) (quiet_optional 0 scope d.default),
+  each_append IsNamed _ _ (quiet 0 (flat_map (field_items scope) d.fields) (since_fields scope d.fields)) (quiet_optional 0 scope d.default),
 )
 definition_named scope (def.Enum d) s h =
     let inner = named_behind scope d.name.text s h.0 in
@@ -122,8 +122,56 @@ definition_named scope (def.Enum d) s h =
     )
 definition_named scope (def.Port d) s h = (
   record { definitions = (named_behind scope d.name.text s h.0, tt); members = tt },
-  each_append IsNamed _ _ (quiet_formals scope d.formals) (optional_type scope d.result),
+  each_append IsNamed _ _ (quiet 0 (flat_map (formal_items scope) d.formals) (since_formals scope d.formals)) (optional_type scope d.result),
 )
+
+-- ---- definitions beside constants, types and ports
+
+declared_named : (scope : Path) (d : ModelDef) (is : List Item) → AreNames scope → IsName (model_name d) → AllSince 0 is → Each IsNamed (item.Declared (declaration scope d) ∷ is)
+declared_named scope d is s n h = (record { definitions = (named_behind scope (model_name d).text s n, tt); members = tt }, quiet 0 is h)
+
+machine_named : (scope : Path) (m : Machine) → AreNames scope → Each IsName (names_in_machine m) → Each IsNamed (machine_items scope m)
+machine_named scope m s h = declared_named scope (machine m) (in_optional (behavior_items scope) m.behavior) s h.0 (since_behavior scope m.behavior)
+
+inner_named : (scope : Path) (p : Part) → AreNames scope → Each IsName (names_in_part p) → Each IsNamed (inner_items scope p)
+inner_named scope (part.Def d) s h = definition_named scope d s h
+inner_named scope (part.Machine m) s h = machine_named scope m s h
+inner_named scope (part.General p) s h = tt
+inner_named scope (part.Special p) s h = tt
+inner_named scope (part.Internal p) s h = tt
+inner_named scope (part.Command c) s h = tt
+inner_named scope (part.Event e) s h = tt
+inner_named scope (part.Channel t) s h = tt
+inner_named scope (part.Param p) s h = tt
+inner_named scope (part.Match m) s h = tt
+inner_named scope (part.Running r) s h = tt
+inner_named scope (part.Import i) s h = tt
+inner_named scope (part.Include i) s h = tt
+
+all_inner : (scope : Path) (ps : List Part) → AreNames scope → Each IsName (flat_map names_in_part ps) → Each IsNamed (flat_map (inner_items scope) ps)
+all_inner scope [] s h = tt
+all_inner scope (p ∷ ps) s h =
+    each_append IsNamed (inner_items scope p) (flat_map (inner_items scope) ps) (inner_named scope p s (each_before IsName (names_in_part p) (flat_map names_in_part ps) h))
+    (all_inner scope ps s (each_behind IsName (names_in_part p) (flat_map names_in_part ps) h))
+
+component_named : (scope : Path) (c : Component) → AreNames scope → Each IsName (names_in_component c) → Each IsNamed (component_items scope c)
+component_named scope c s h =
+    let inside : Path = component_scope scope c in
+    let own : List Item = flat_map (own_items inside) c.parts in
+    each_append IsNamed (item.Declared (declaration scope (component c)) ∷ own) (flat_map (inner_items inside) c.parts)
+    (declared_named scope (component c) own s h.0 (since_each (own_items inside) (since_own inside) c.parts))
+    (all_inner inside c.parts (named_behind scope c.name.text s h.0) h.1)
+
+interface_named : (scope : Path) (f : Interface) → AreNames scope → Each IsName (names_in_interface f) → Each IsNamed (interface_items scope f)
+interface_named scope f s h =
+    declared_named scope (interface f) (flat_map (interface_part_items scope) f.parts) s h.0 (since_each (interface_part_items scope) (since_interface scope) f.parts)
+
+instance_named : (scope : Path) (n : Instance) → AreNames scope → Each IsName (names_in_instance n) → Each IsNamed (instance_items scope n)
+instance_named scope n s h = declared_named scope (instance n) (model_own_items scope (instance n)) s h.0 (since_instance scope n)
+
+topology_named : (scope : Path) (t : Topology) → AreNames scope → Each IsName (names_in_topology t) → Each IsNamed (topology_items scope t)
+topology_named scope t s h =
+    declared_named scope (topology t) (flat_map (topology_member_items scope) t.members) s h.0 (since_each (topology_member_items scope) (since_topology scope) t.members)
 
 -- ---- members
 
@@ -146,17 +194,27 @@ by_module y scope s h =
     let k : Each IsName (x.name ∷ names_in x.members) = subst (Each IsName) (names_opened scope x) h in
     subst (Each IsNamed) (sym (members_rolled x scope)) (all_named y.members (scope ++ x.name.text ∷ []) (named_behind scope x.name.text s k.0) k.1)
 
+-- the names of a member that is no module are its own
+own_names : (x : Member-F Member Module) → Each IsName (names_within (roll-Member x))
+    → Each IsName (names_of_member (map-Member _ _ _ _ (fold-Member (List Name) (List Name) names_of_member names_of_module) (fold-Module (List Name) (List Name) names_of_member names_of_module) x))
+own_names x h = subst (Each IsName) (fold-roll-Member (List Name) (List Name) names_of_member names_of_module x) h
+
 by_member : (y : Member-F ((m : Member) × Names m) ((m : Module) × NamesWithin m)) → Names (roll-Member (map-Member _ _ _ _ (λ e. e.0) (λ e. e.0) y))
 by_member (open_member.Module e) scope s h =
     subst (Each IsNamed) (sym (member_rolled (open_member.Module e.0) scope)) (e.1 scope s (subst (Each IsName) (names_rolled scope e.0) h))
 by_member (open_member.Def d) scope s h =
     subst (Each IsNamed) (sym (member_rolled (open_member.Def d) scope))
-    (definition_named scope d s (subst (Each IsName) (fold-roll-Member (List Name) (List Name) names_of_member names_of_module (open_member.Def d)) h))
-by_member (open_member.Machine m) scope s h = subst (Each IsNamed) (sym (member_rolled (open_member.Machine m) scope)) tt
-by_member (open_member.Component c) scope s h = subst (Each IsNamed) (sym (member_rolled (open_member.Component c) scope)) tt
-by_member (open_member.Interface f) scope s h = subst (Each IsNamed) (sym (member_rolled (open_member.Interface f) scope)) tt
-by_member (open_member.Instance n) scope s h = subst (Each IsNamed) (sym (member_rolled (open_member.Instance n) scope)) tt
-by_member (open_member.Topology t) scope s h = subst (Each IsNamed) (sym (member_rolled (open_member.Topology t) scope)) tt
+    (definition_named scope d s (own_names (open_member.Def d) h))
+by_member (open_member.Machine m) scope s h =
+    subst (Each IsNamed) (sym (member_rolled (open_member.Machine m) scope)) (machine_named scope m s (own_names (open_member.Machine m) h))
+by_member (open_member.Component c) scope s h =
+    subst (Each IsNamed) (sym (member_rolled (open_member.Component c) scope)) (component_named scope c s (own_names (open_member.Component c) h))
+by_member (open_member.Interface f) scope s h =
+    subst (Each IsNamed) (sym (member_rolled (open_member.Interface f) scope)) (interface_named scope f s (own_names (open_member.Interface f) h))
+by_member (open_member.Instance n) scope s h =
+    subst (Each IsNamed) (sym (member_rolled (open_member.Instance n) scope)) (instance_named scope n s (own_names (open_member.Instance n) h))
+by_member (open_member.Topology t) scope s h =
+    subst (Each IsNamed) (sym (member_rolled (open_member.Topology t) scope)) (topology_named scope t s (own_names (open_member.Topology t) h))
 by_member (open_member.Include i) scope s h = subst (Each IsNamed) (sym (member_rolled (open_member.Include i) scope)) tt
 by_member (open_member.Locate l) scope s h = subst (Each IsNamed) (sym (member_rolled (open_member.Locate l) scope)) tt
 

@@ -58,6 +58,7 @@ module _ (law : NamesAreNames) (names : List (List ℕ)) (files : FilesRun) (sou
       of_definition (def.Enum d) k = (refl, tt)
       of_definition (def.Port d) k = tt
   types_named (item.Enumerated e) h = tt
+  types_named (item.Declared d) h = tt
   types_named (item.Used since n) h = tt
   types_named (item.Written since p) h = tt
 

@@ -34,7 +34,7 @@ use Rattle.fp_places.proofs.Expressions.{StandIn, expression_yields}
 
 module _ (G : Place → Type 0) where
   -- all places in a type, in a definition, with any annotation, and in what an item stands for
-  abbrev StandInType : TypeName → Type 0
+  abbrev pub StandInType : TypeName → Type 0
   StandInType t = Each G (places_in_type t)
 
   abbrev pub StandNoted : Def → Type 0
@@ -95,7 +95,7 @@ module _ (G : Place → Type 0) where
     used_yields : Yields G used_type StandInType
     used_yields = gives_map StandInType made_use (λ q h. (h, tt)) (qual_yields G)
 
-    type_yields : Yields G (type_name depth) StandInType
+    pub type_yields : Yields G (type_name depth) StandInType
     type_yields = gives_seal {a = type_body depth} type_begins (k_size ∷ expr_goes_on) (gives_alt plain_yields (gives_alt string_type_yields used_yields))
 
     default_yields : Yields G (default_part depth) (InOption (StandIn G))
@@ -204,7 +204,7 @@ module _ (G : Place → Type 0) where
 
   -- ---- items
 
-  abbrev AllOf : List Item → Type 0
+  abbrev pub AllOf : List Item → Type 0
   AllOf is = Each StandOf is
 
   optional_placed : (since : ℕ) (scope : Path) (o : Option Expr) → Each G (in_optional places_in_expression o) → AllOf (in_optional (expression_items since scope) o)
@@ -216,7 +216,7 @@ module _ (G : Place → Type 0) where
   form_placed since scope (type.Use name) h = (tt, tt)
   form_placed since scope _ h = tt
 
-  type_placed : (since : ℕ) (scope : Path) (t : TypeName) → StandInType t → AllOf (type_items since scope t)
+  pub type_placed : (since : ℕ) (scope : Path) (t : TypeName) → StandInType t → AllOf (type_items since scope t)
   type_placed since scope t h = form_placed since scope t.form h.1
 
   optional_type_placed : (scope : Path) (o : Option TypeName) → Each G (in_optional places_in_type o) → AllOf (in_optional (type_items 0 scope) o)

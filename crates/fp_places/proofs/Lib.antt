@@ -1,3 +1,4 @@
+mod Begun
 pub mod Definitions
 pub mod Expressions
 pub mod Members

@@ -22,7 +22,6 @@ use Rattle.fp_parse_defs.specs.Reading.{limit}
 use Rattle.fp_parse_parts.specs.declared.bare.BareMember.{BareMember}
 use Rattle.fp_parse_parts.specs.declared.bare.BareMember.TheVariants as bare
 use Rattle.fp_parse_parts.specs.declared.bare.ModelMember.{ModelMember}
-use Rattle.fp_parse_parts.specs.declared.bare.ModelMember.TheVariants as model
 use Rattle.fp_parse_parts.specs.Members.{semicolons, definition_begins, definition_goes_on, definition_member, made_include, include, made_locate, locate, model_member, noted_definition, noted_member, with_member, member_of, members_of, made_module, module_of, modules, members}
 use Rattle.fp_parse_parts.specs.Omitted.{unbuilt}
 use Rattle.fp_parse_parts.specs.Units.{SpellsUnit}
@@ -30,9 +29,10 @@ use Rattle.fp_base.proofs.Lists.{each_contained, each_flat, each_push, each_weak
 use Rattle.fp_sites.specs.Sites.{BeginsToken}
 use Rattle.fp_sites.proofs.Preserving.{LanguageGives, gives_anything, gives_map, gives_seq, gives_alt, gives_optional, gives_ref, gives_seal, gives_after}
 use Rattle.fp_sites.proofs.Lists.{each_or_none, gives_some_of}
-use Rattle.fp_sites.proofs.ModelWalks.{machine_gives, component_gives, interface_gives, instance_gives, topology_gives}
+use Rattle.fp_sites.proofs.Models.{ModelSaid, models_yield}
 use Rattle.fp_places.specs.Places.{places_of}
 use Rattle.fp_places.proofs.Tokens.{Begins, Yields}
+use Rattle.fp_places.proofs.Begun.{begun}
 use Rattle.fp_places.proofs.Definitions.{StandOf, definition_placed, definition_yields}
 
 module _ (G : Place → Type 0) (expressions : ℕ) where
@@ -61,16 +61,14 @@ module _ (G : Place → Type 0) (expressions : ℕ) where
       (λ d h note scope. same _ _ (definition_gives scope (noted_definition d note)) (definition_placed G scope (noted_definition d note) (h note)))
       (gives_seal {a = definition expressions} definition_begins definition_goes_on (definition_yields G expressions))
 
-  model_placed : (m : ModelMember) → PlacedBare (bare.Model m)
-  model_placed (model.Machine x) note scope = same _ _ (machine_gives scope _) tt
-  model_placed (model.Component x) note scope = same _ _ (component_gives scope _) tt
-  model_placed (model.Interface x) note scope = same _ _ (interface_gives scope _) tt
-  model_placed (model.Instance x) note scope = same _ _ (instance_gives scope _) tt
-  model_placed (model.Topology x) note scope = same _ _ (topology_gives scope _) tt
+  model_placed : (m : ModelMember) → ModelSaid (begun G expressions) m → PlacedBare (bare.Model m)
+  unfolding begun
+  model_placed m h note = (h note).items
 
   -- whatever words are left out
   model_member_yields : (omitted : List ℕ) → Yields G (model_member omitted expressions) PlacedBare
-  model_member_yields omitted = gives_map PlacedBare bare.Model (λ m h. model_placed m) gives_anything
+  unfolding begun
+  model_member_yields omitted = gives_map PlacedBare bare.Model model_placed (models_yield (begun G expressions) omitted)
 
   include_placed : (p : Span × Str) → Unit {0} → PlacedBare (made_include p)
   include_placed (at, file) h note scope = same _ _ (include_gives scope _) tt

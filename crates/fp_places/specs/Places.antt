@@ -16,6 +16,7 @@ use Rattle.fp_tree.specs.declared.part.Field.{Field}
 use Rattle.fp_tree.specs.declared.part.Formal.{Formal}
 use Rattle.fp_tree.specs.declared.definition.Def.{Def}
 use Rattle.fp_tree.specs.declared.definition.Def.TheVariants as def
+use Rattle.fp_meaning.specs.Names.{model_name}
 use Rattle.fp_meaning.specs.Sites.{in_optional}
 use Rattle.fp_meaning.specs.declared.item.Item.{Item}
 use Rattle.fp_meaning.specs.declared.item.Item.TheVariants as item
@@ -78,5 +79,6 @@ places_in_definition (def.Port d) = d.name.at.first ∷ (flat_map places_in_form
 abbrev pub places_of : Item → List Place
 places_of (item.Defined s) = places_in_definition s.definition
 places_of (item.Enumerated e) = places_in_constant e.constant
+places_of (item.Declared d) = (model_name d.definition).at.first ∷ []
 places_of (item.Used since n) = []
 places_of (item.Written since p) = places_in_expression p.expression

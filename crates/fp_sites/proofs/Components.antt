@@ -1,7 +1,6 @@
--- The names in components and interfaces are names that tokens have.
-use Rattle.std.proofs.Common.{ℕ, List, [], ◌∷◌, Option, Some, None}
+-- What a law says of the pieces of a file it says of the items and the names of components and interfaces.
+use Rattle.std.proofs.Common.{ℕ, List, [], ◌∷◌, ◌++◌, flat_map, Option, Some, None, inl, inr}
 use Rattle.std.specs.List.{AllByRecursion as Each}
-use Rattle.fp_base.specs.declared.place.Place.{Place}
 use Rattle.fp_base.specs.declared.place.Span.{Span}
 use Rattle.fp_lexer.specs.Words.{mark}
 use Rattle.fp_tree.specs.declared.name.Name.{Name}
@@ -17,6 +16,8 @@ use Rattle.fp_tree.specs.declared.dictionary.Update.{Update}
 use Rattle.fp_tree.specs.declared.dictionary.Color.{Color}
 use Rattle.fp_tree.specs.declared.dictionary.Limit.{Limit}
 use Rattle.fp_tree.specs.declared.dictionary.Limits.{Limits}
+use Rattle.fp_tree.specs.declared.machine.Machine.{Machine}
+use Rattle.fp_tree.specs.declared.component.Component.{Component}
 use Rattle.fp_tree.specs.declared.component.ComponentKind.{ComponentKind}
 use Rattle.fp_tree.specs.declared.component.Full.{Full}
 use Rattle.fp_tree.specs.declared.component.General.{General}
@@ -24,10 +25,15 @@ use Rattle.fp_tree.specs.declared.component.GeneralKind.{GeneralKind}
 use Rattle.fp_tree.specs.declared.component.SpecialKind.{SpecialKind}
 use Rattle.fp_tree.specs.declared.component.Part.{Part}
 use Rattle.fp_tree.specs.declared.component.Part.TheVariants as part
+use Rattle.fp_tree.specs.declared.component.Interface.{Interface}
 use Rattle.fp_tree.specs.declared.component.InterfacePart.{InterfacePart}
-use Rattle.fp_parse_pieces.specs.Kinds.{k_open_brace, k_close_brace, k_open_bracket}
-use Rattle.fp_parse_defs.specs.Definitions.{k_colon, k_default, size_part}
-use Rattle.fp_parse_states.specs.Nested.{machine}
+use Rattle.fp_meaning.specs.declared.group.Group.TheVariants.{Interface as InterfaceGroup, Machine as MachineGroup, Port}
+use Rattle.fp_meaning.specs.Sites.{Path, component as component_def, interface as interface_def}
+use Rattle.fp_meaning.specs.Layout.{items_in, formal_items, formals_items, general_items, limit_items, limits_items, own_items, inner_items, component_items, interface_part_items, interface_items}
+use Rattle.fp_grammar.specs.Grammar.{Spells}
+use Rattle.fp_parse_pieces.specs.Kinds.{kind, k_open, k_open_brace, k_open_bracket, k_close_bracket}
+use Rattle.fp_parse_pieces.specs.Lists.{commas, or_none}
+use Rattle.fp_parse_defs.specs.Definitions.{k_colon, k_default, definition, noted_definition, size_part, made_formal, formal, with_formal, formal_list}
 use Rattle.fp_parse_components.specs.declared.queue.QueueWords.{QueueWords}
 use Rattle.fp_parse_components.specs.declared.queue.FormalList.{FormalList}
 use Rattle.fp_parse_components.specs.declared.noting.NotedPart.{NotedPart}
@@ -39,214 +45,273 @@ use Rattle.fp_parse_components.specs.Noted.{noted_part, noted_parts, bare_part, 
 use Rattle.fp_parse_components.specs.Parts.{definition_body, definition_begins, definition_goes_on, definition_sealed, made_definition, machine_or_running, stated_goes_on, made_general_part, made_special_part, made_import_part, made_include_part, port_part, other_part, part_body, part_begins, part_goes_on, part_of, parts, made_inner_general, made_inner_special, made_inner_import, interface_part, interface_parts}
 use Rattle.fp_parse_components.specs.Components.{made_component, component, made_interface, interface}
 use Rattle.fp_meaning.specs.Names.{in_optional}
-use Rattle.fp_base.proofs.Lists.{InOption, each_append, each_mapped, each_weaker}
-use Rattle.fp_sites.specs.Parts.{names_in_expression, names_in_formal}
+use Rattle.fp_base.proofs.Lists.{InOption, each_append, each_flat, each_mapped, each_push, each_weaker}
+use Rattle.fp_sites.specs.Parts.{names_in_definition, names_in_expression, names_in_formal}
 use Rattle.fp_sites.specs.Components.{names_in_general, names_in_limits, names_in_part, names_in_component, names_in_interface_part, names_in_interface}
-use Rattle.fp_sites.proofs.Preserving.{gives_anything, gives_less, gives_map, gives_seq, gives_alt, gives_optional, gives_seal, gives_after}
-use Rattle.fp_sites.proofs.Lists.{gives_any_noted, list_named, option_named}
-use Rattle.fp_sites.proofs.Words.{Yields, SitedName, SitedQual, at_yields, name_yields, qual_yields}
-use Rattle.fp_sites.proofs.Definitions.{SitedFormal, SitedNoted, constant_yields, alias_yields, array_yields, struct_yields, enum_yields, formals_yield, sized_yields}
-use Rattle.fp_sites.proofs.Machines.{TypeNamed, type_named, machine_yields}
-use Rattle.fp_sites.proofs.Topologies.{ExprNamed, MaybeNamed, expr_named, maybe_named, import_yields}
+use Rattle.fp_sites.proofs.Preserving.{LanguageGives, gives_anything, gives_less, gives_map, gives_seq, gives_alt, gives_optional, gives_seal, gives_after, gives_before}
+use Rattle.fp_sites.proofs.Lists.{each_or_none, gives_any_noted, gives_some_of}
+use Rattle.fp_sites.proofs.Held.{held_names, held_both, held_named, held_option, held_list}
+use Rattle.fp_sites.proofs.Known.{Known, Yields, Says, ValueSaid, MaybeSaid, TypeSaid, declares, uses, maybe_given, value_given}
+use Rattle.fp_sites.proofs.Machines.{MachineSaid, machine_yields}
+use Rattle.fp_sites.proofs.Topologies.{import_yields}
 
-module _ (G : Place → Type 0) (N : Name → Type 0) (depth : ℕ) where
-  abbrev Value : Expr → Type 0
-  Value e = ExprNamed G N depth e
+module _ {depth : ℕ} (law : Known depth) where
+  -- ---- queues and formals
 
-  abbrev Maybe : Option Expr → Type 0
-  Maybe o = MaybeNamed G N depth o
+  abbrev QueueSaid : QueueWords → Type 0
+  QueueSaid q = MaybeSaid law q.priority
 
-  -- a part has such names, in any annotation
-  abbrev PartNamed : Part → Type 0
-  PartNamed p = (note : List ℕ) → Each N (names_in_part (noted_part p note))
+  queue_said : (p : Option (Span × Expr) × Option (Span × Full)) → InOption (λ (q : Span × Expr). Unit {0} × ValueSaid law q.1) p.0 × Unit {0} → QueueSaid (made_queue_words p)
+  queue_said (None, None) h = held_names tt
+  queue_said (Some (word, e), None) h = h.0.1
+  queue_said (None, Some (at, f)) h = held_names tt
+  queue_said (Some (word, e), Some (at, f)) h = h.0.1
 
-  abbrev QueueNamed : QueueWords → Type 0
-  QueueNamed q = Maybe q.priority
+  queue_yields : Yields law (queue_words depth) QueueSaid
+  queue_yields = gives_map QueueSaid made_queue_words queue_said (gives_seq (gives_optional (gives_seq gives_anything law.expressions_given)) gives_anything)
 
-  queue_named : (p : Option (Span × Expr) × Option (Span × Full)) → InOption (λ (q : Span × Expr). G q.0.first × Value q.1) p.0 × Unit {0} → QueueNamed (made_queue_words p)
-  queue_named (None, None) h = tt
-  queue_named (Some (word, e), None) h = h.0.1
-  queue_named (None, Some (at, f)) h = tt
-  queue_named (Some (word, e), Some (at, f)) h = h.0.1
+  abbrev FormalSaid : Formal → Type 0
+  FormalSaid f = Says law (λ scope. formal_items scope f) (names_in_formal f)
 
-  queue_yields : Yields G N (queue_words depth) QueueNamed
-  queue_yields = gives_map QueueNamed made_queue_words queue_named (gives_seq (gives_optional (gives_seq (at_yields G N (k_word "priority")) (expr_named G N depth))) gives_anything)
+  formal_said : (p : Option Span × (Name × TypeName)) → Unit {0} × (law.Naming p.1.0 × TypeSaid law p.1.1) → FormalSaid (made_formal p)
+  formal_said (None, (n, of)) h = held_named (law.named n h.1.0) h.1.1
+  formal_said (Some ref, (n, of)) h = held_named (law.named n h.1.0) h.1.1
 
-  abbrev FormalsNamed : FormalList → Type 0
-  FormalsNamed fs = Each (λ f. Each N (names_in_formal f)) fs.row
+  formal_yields : Yields law (formal depth) FormalSaid
+  formal_yields = gives_map FormalSaid made_formal formal_said (gives_seq gives_anything (gives_seq law.naming_given (gives_after k_colon law.types_given)))
 
-  formals_named : (o : Option (List Formal × Span)) → InOption (λ (p : List Formal × Span). Each (SitedFormal G N depth) p.0 × G p.1.first) o → FormalsNamed (made_formals o)
-  formals_named None h = tt
-  formals_named (Some (fs, closing)) h = each_weaker (SitedFormal G N depth) (λ f. Each N (names_in_formal f)) (λ f h. h.names) fs h.0
+  formal_list_yields : Yields law (formal_list depth) (Each FormalSaid)
+  formal_list_yields = gives_map (Each FormalSaid) or_none (each_or_none FormalSaid)
+      (gives_optional (gives_some_of FormalSaid (Each FormalSaid) with_formal (λ fs f lines h k. each_push FormalSaid fs _ h k) commas [] tt formal_yields))
 
-  formals_yields : Yields G N (maybe_formals depth) FormalsNamed
-  formals_yields = gives_map FormalsNamed made_formals formals_named (formals_yield G N depth)
+  abbrev FormalsSaid : FormalList → Type 0
+  FormalsSaid fs = Says law (λ scope. formals_items scope fs.row) (flat_map names_in_formal fs.row)
 
-  size_yields : Yields G N (size_part depth) Maybe
-  size_yields = gives_less Maybe (option_named N names_in_expression) (gives_optional (gives_after k_open_bracket (gives_less Value (λ e h. h.names) (sized_yields G N depth))))
+  formals_said : (o : Option (List Formal × Span)) → InOption (λ (p : List Formal × Span). Each FormalSaid p.0 × Unit {0}) o → FormalsSaid (made_formals o)
+  formals_said None h = held_names tt
+  formals_said (Some (fs, closing)) h = held_list formal_items names_in_formal fs h.0
 
-  abbrev GeneralNamed : General → Type 0
-  GeneralNamed p = Each N (names_in_general p)
+  formals_yields : Yields law (maybe_formals depth) FormalsSaid
+  formals_yields = gives_map FormalsSaid made_formals formals_said (gives_optional (gives_after k_open (gives_seq formal_list_yields gives_anything)))
 
-  general_named : (p : (Span × GeneralKind) × (Name × (Option Expr × (Qual × QueueWords)))) → Unit {0} × (SitedName G N p.1.0 × (Maybe p.1.1.0 × (SitedQual G N p.1.1.1.0 × QueueNamed p.1.1.1.1))) → GeneralNamed (made_general p)
-  general_named ((word, k), (n, (size, (of, q)))) h = (h.1.0.named, each_append N _ _ (each_append N _ _ h.1.1.0 h.1.1.1.0.named) h.1.1.1.1)
+  -- ---- ports
 
-  general_yields : Yields G N (general depth) GeneralNamed
-  general_yields = gives_map GeneralNamed made_general general_named
-      (gives_seq gives_anything (gives_after (k_word "port") (gives_seq (name_yields G N) (gives_after k_colon (gives_seq size_yields (gives_seq (qual_yields G N) queue_yields))))))
+  size_yields : Yields law (size_part depth) (MaybeSaid law)
+  size_yields = maybe_given law (gives_after k_open_bracket (gives_before k_close_bracket law.expressions_given))
 
-  special_named : (p : (Span × SpecialKind) × Name) → Unit {0} × SitedName G N p.1 → N (made_special p).name
-  special_named ((word, k), n) h = h.1.named
+  abbrev GeneralSaid : General → Type 0
+  GeneralSaid p = Says law (λ scope. general_items scope p) (names_in_general p)
 
-  special_yields : Yields G N special (λ p. N p.name)
-  special_yields = gives_map (λ p. N p.name) made_special special_named (gives_seq gives_anything (gives_after (k_word "port") (name_yields G N)))
+  general_said : (p : (Span × GeneralKind) × (Name × (Option Expr × (Qual × QueueWords)))) → Unit {0} × (law.Naming p.1.0 × (MaybeSaid law p.1.1.0 × (law.Using p.1.1.1.0 × QueueSaid p.1.1.1.1))) → GeneralSaid (made_general p)
+  general_said ((word, k), (n, (size, (of, q)))) h = held_named (law.named n h.1.0) (held_both (held_both h.1.1.0 (uses law Port of h.1.1.1.0)) h.1.1.1.1)
 
-  internal_named : (p : Span × (Name × (FormalList × QueueWords))) → G p.0.first × (SitedName G N p.1.0 × (FormalsNamed p.1.1.0 × QueueNamed p.1.1.1)) → PartNamed (made_internal p)
-  internal_named (word, (n, (fs, q))) h note = (h.1.0.named, each_append N _ _ (list_named N names_in_formal fs.row h.1.1.0) h.1.1.1)
+  general_yields : Yields law (general depth) GeneralSaid
+  general_yields = gives_map GeneralSaid made_general general_said
+      (gives_seq gives_anything (gives_after (k_word "port") (gives_seq law.naming_given (gives_after k_colon (gives_seq size_yields (gives_seq law.using_given queue_yields))))))
 
-  internal_yields : Yields G N (internal depth) PartNamed
-  internal_yields = gives_map PartNamed made_internal internal_named
-      (gives_seq (at_yields G N (k_word "internal")) (gives_after (k_word "port") (gives_seq (name_yields G N) (gives_seq formals_yields queue_yields))))
+  special_named : (p : (Span × SpecialKind) × Name) → Unit {0} × law.Naming p.1 → law.OfName (made_special p).name
+  special_named ((word, k), n) h = law.named n h.1
 
-  match_named : (p : Span × (Name × Name)) → G p.0.first × (SitedName G N p.1.0 × SitedName G N p.1.1) → PartNamed (made_match p)
-  match_named (word, (n, m)) h note = (h.1.0.named, (h.1.1.named, tt))
+  special_yields : Yields law special (λ p. law.OfName p.name)
+  special_yields = gives_map (λ p. law.OfName p.name) made_special special_named (gives_seq gives_anything (gives_after (k_word "port") law.naming_given))
 
-  match_yields : Yields G N matching PartNamed
-  match_yields = gives_map PartNamed made_match match_named
-      (gives_seq (at_yields G N (k_word "match")) (gives_seq (name_yields G N) (gives_after (k_word "with") (name_yields G N))))
+  -- of a part of a component: its own items, and those of what is defined in it
+  record PartSaid (p : Part) : Type 0 where
+    own : Says law (λ scope. own_items scope p) (names_in_part p)
+    inner : (scope : Path) → Each law.OfItem (inner_items scope p)
 
-  running_named : (p : Span × (Name × (Qual × QueueWords))) → G p.0.first × (SitedName G N p.1.0 × (SitedQual G N p.1.1.0 × QueueNamed p.1.1.1)) → PartNamed (part.Running (made_running p))
-  running_named (word, (n, (of, q))) h note = (h.1.0.named, each_append N _ _ h.1.1.0.named h.1.1.1)
+  -- in any annotation
+  abbrev PartNoted : Part → Type 0
+  PartNoted p = (note : List ℕ) → PartSaid (noted_part p note)
 
-  running_yields : Yields G N (running depth) (λ r. PartNamed (part.Running r))
-  running_yields = gives_map (λ r. PartNamed (part.Running r)) made_running running_named
-      (gives_seq (at_yields G N (k_word "state")) (gives_after (k_word "machine") (gives_after (k_word "instance")
-      (gives_seq (name_yields G N) (gives_after k_colon (gives_seq (qual_yields G N) queue_yields))))))
+  internal_said : (p : Span × (Name × (FormalList × QueueWords))) → Unit {0} × (law.Naming p.1.0 × (FormalsSaid p.1.1.0 × QueueSaid p.1.1.1)) → PartNoted (made_internal p)
+  internal_said (word, (n, (fs, q))) h note = record { own = held_named (law.named n h.1.0) (held_both h.1.1.0 h.1.1.1); inner = λ scope. tt }
 
-  command_named : (p : (Span × CommandKind) × (Name × (FormalList × (Option Expr × QueueWords)))) → Unit {0} × (SitedName G N p.1.0 × (FormalsNamed p.1.1.0 × (Maybe p.1.1.1.0 × QueueNamed p.1.1.1.1))) → PartNamed (made_command p)
-  command_named ((word, k), (n, (fs, (opcode, q)))) h note = (h.1.0.named, each_append N _ _ (each_append N _ _ (list_named N names_in_formal fs.row h.1.1.0) h.1.1.1.0) h.1.1.1.1)
+  internal_yields : Yields law (internal depth) PartNoted
+  internal_yields = gives_map PartNoted made_internal internal_said
+      (gives_seq gives_anything (gives_after (k_word "port") (gives_seq law.naming_given (gives_seq formals_yields queue_yields))))
 
-  command_yields : Yields G N (command depth) PartNamed
-  command_yields = gives_map PartNamed made_command command_named
-      (gives_seq gives_anything (gives_after (k_word "command") (gives_seq (name_yields G N) (gives_seq formals_yields (gives_seq (maybe_named G N depth (k_word "opcode")) queue_yields)))))
+  match_said : (p : Span × (Name × Name)) → Unit {0} × (law.Naming p.1.0 × law.Naming p.1.1) → PartNoted (made_match p)
+  match_said (word, (n, m)) h note = record { own = held_names (law.named n h.1.0, (law.named m h.1.1, tt)); inner = λ scope. tt }
 
-  event_named : (p : Span × (Name × (FormalList × (Severity × (Option Expr × (Str × Option Expr)))))) → G p.0.first × (SitedName G N p.1.0 × (FormalsNamed p.1.1.0 × (Unit {0} × (Maybe p.1.1.1.1.0 × (Unit {0} × Maybe p.1.1.1.1.1.1))))) → PartNamed (made_event p)
-  event_named (word, (n, (fs, (severity, (id, (format, throttle)))))) h note = (h.1.0.named, each_append N _ _ (each_append N _ _ (list_named N names_in_formal fs.row h.1.1.0) h.1.1.1.1.0) h.1.1.1.1.1.1)
+  match_yields : Yields law matching PartNoted
+  match_yields = gives_map PartNoted made_match match_said (gives_seq gives_anything (gives_seq law.naming_given (gives_after (k_word "with") law.naming_given)))
 
-  event_yields : Yields G N (event depth) PartNamed
-  event_yields = gives_map PartNamed made_event event_named
-      (gives_seq (at_yields G N (k_word "event")) (gives_seq (name_yields G N) (gives_seq formals_yields (gives_after (k_word "severity")
-      (gives_seq gives_anything (gives_seq (maybe_named G N depth (k_word "id")) (gives_after (k_word "format") (gives_seq gives_anything (maybe_named G N depth (k_word "throttle"))))))))))
+  running_said : (p : Span × (Name × (Qual × QueueWords))) → Unit {0} × (law.Naming p.1.0 × (law.Using p.1.1.0 × QueueSaid p.1.1.1)) → PartNoted (part.Running (made_running p))
+  running_said (word, (n, (of, q))) h note = record { own = held_named (law.named n h.1.0) (held_both (uses law MachineGroup of h.1.1.0) h.1.1.1); inner = λ scope. tt }
 
-  abbrev LimitNamed : Limit → Type 0
-  LimitNamed l = Value l.value
+  running_yields : Yields law (running depth) (λ r. PartNoted (part.Running r))
+  running_yields = gives_map (λ r. PartNoted (part.Running r)) made_running running_said
+      (gives_seq gives_anything (gives_after (k_word "machine") (gives_after (k_word "instance")
+      (gives_seq law.naming_given (gives_after k_colon (gives_seq law.using_given queue_yields))))))
 
-  abbrev LimitsNamed : Limits → Type 0
-  LimitsNamed ls = Each N (names_in_limits ls)
+  -- ---- what is in the dictionary
 
-  limit_named : (p : (Span × Color) × Expr) → Unit {0} × Value p.1 → LimitNamed (made_limit p)
-  limit_named ((word, c), e) h = h.1
+  command_said : (p : (Span × CommandKind) × (Name × (FormalList × (Option Expr × QueueWords)))) → Unit {0} × (law.Naming p.1.0 × (FormalsSaid p.1.1.0 × (MaybeSaid law p.1.1.1.0 × QueueSaid p.1.1.1.1))) → PartNoted (made_command p)
+  command_said ((word, k), (n, (fs, (opcode, q)))) h note = record { own = held_named (law.named n h.1.0) (held_both (held_both h.1.1.0 h.1.1.1.0) h.1.1.1.1); inner = λ scope. tt }
 
-  limits_named : (p : Span × (List Limit × Span)) → G p.0.first × (Each LimitNamed p.1.0 × G p.1.1.first) → LimitsNamed (made_limits p)
-  limits_named (opening, (ls, closing)) h = list_named N (λ (l : Limit). names_in_expression l.value) ls h.1.0
+  command_yields : Yields law (command depth) PartNoted
+  command_yields = gives_map PartNoted made_command command_said
+      (gives_seq gives_anything (gives_after (k_word "command") (gives_seq law.naming_given (gives_seq formals_yields (gives_seq (value_given law (k_word "opcode")) queue_yields)))))
 
-  limits_yield : Yields G N (limits depth) LimitsNamed
-  limits_yield = gives_map LimitsNamed made_limits limits_named
-      (gives_seq (at_yields G N k_open_brace) (gives_seq (gives_any_noted LimitNamed (mark ",") limit_with_note (λ l note h. h)
-      (gives_map LimitNamed made_limit limit_named (gives_seq gives_anything (expr_named G N depth)))) (at_yields G N k_close_brace)))
+  event_said : (p : Span × (Name × (FormalList × (Severity × (Option Expr × (Str × Option Expr)))))) → Unit {0} × (law.Naming p.1.0 × (FormalsSaid p.1.1.0 × (Unit {0} × (MaybeSaid law p.1.1.1.1.0 × (Unit {0} × MaybeSaid law p.1.1.1.1.1.1))))) → PartNoted (made_event p)
+  event_said (word, (n, (fs, (severity, (id, (format, throttle)))))) h note = record { own = held_named (law.named n h.1.0) (held_both (held_both h.1.1.0 h.1.1.1.1.0) h.1.1.1.1.1.1); inner = λ scope. tt }
+
+  event_yields : Yields law (event depth) PartNoted
+  event_yields = gives_map PartNoted made_event event_said
+      (gives_seq gives_anything (gives_seq law.naming_given (gives_seq formals_yields (gives_after (k_word "severity")
+      (gives_seq gives_anything (gives_seq (value_given law (k_word "id")) (gives_after (k_word "format") (gives_seq gives_anything (value_given law (k_word "throttle"))))))))))
+
+  abbrev LimitSaid : Limit → Type 0
+  LimitSaid l = Says law (λ scope. limit_items scope l) (names_in_expression l.value)
+
+  abbrev LimitsSaid : Limits → Type 0
+  LimitsSaid ls = Says law (λ scope. limits_items scope ls) (names_in_limits ls)
+
+  limit_said : (p : (Span × Color) × Expr) → Unit {0} × ValueSaid law p.1 → LimitSaid (made_limit p)
+  limit_said ((word, c), e) h = h.1
+
+  limits_said : (p : Span × (List Limit × Span)) → Unit {0} × (Each LimitSaid p.1.0 × Unit {0}) → LimitsSaid (made_limits p)
+  limits_said (opening, (ls, closing)) h = held_list limit_items (λ (l : Limit). names_in_expression l.value) ls h.1.0
+
+  limits_yield : Yields law (limits depth) LimitsSaid
+  limits_yield = gives_map LimitsSaid made_limits limits_said
+      (gives_seq gives_anything (gives_seq (gives_any_noted LimitSaid (mark ",") limit_with_note (λ l note h. h)
+      (gives_map LimitSaid made_limit limit_said (gives_seq gives_anything law.expressions_given))) gives_anything))
 
   abbrev MaybeLimits : Option Limits → Type 0
-  MaybeLimits o = Each N (in_optional names_in_limits o)
+  MaybeLimits o = Says law (λ scope. in_optional (limits_items scope) o) (in_optional names_in_limits o)
 
-  maybe_limits : (k : ℕ) → Yields G N (limits_part k depth) MaybeLimits
-  maybe_limits k = gives_less MaybeLimits (option_named N names_in_limits) (gives_optional (gives_after k limits_yield))
+  maybe_limits : (k : ℕ) → Yields law (limits_part k depth) MaybeLimits
+  maybe_limits k = gives_less MaybeLimits (held_option limits_items names_in_limits) (gives_optional (gives_after k limits_yield))
 
-  channel_named : (p : Span × (Name × (TypeName × (Option Expr × (Option (Span × Update) × (Option Str × (Option Limits × Option Limits)))))))
-      → G p.0.first × (SitedName G N p.1.0 × (TypeNamed G N depth p.1.1.0 × (Maybe p.1.1.1.0 × (Unit {0} × (Unit {0} × (MaybeLimits p.1.1.1.1.1.1.0 × MaybeLimits p.1.1.1.1.1.1.1)))))) → PartNamed (made_channel p)
-  channel_named (word, (n, (of, (id, (u, (format, (low, high))))))) h note =
-      (h.1.0.named, each_append N _ _ (each_append N _ _ (each_append N _ _ h.1.1.0 h.1.1.1.0) h.1.1.1.1.1.1.0) h.1.1.1.1.1.1.1)
+  channel_said : (p : Span × (Name × (TypeName × (Option Expr × (Option (Span × Update) × (Option Str × (Option Limits × Option Limits)))))))
+      → Unit {0} × (law.Naming p.1.0 × (TypeSaid law p.1.1.0 × (MaybeSaid law p.1.1.1.0 × (Unit {0} × (Unit {0} × (MaybeLimits p.1.1.1.1.1.1.0 × MaybeLimits p.1.1.1.1.1.1.1)))))) → PartNoted (made_channel p)
+  channel_said (word, (n, (of, (id, (u, (format, (low, high))))))) h note =
+      record { own = held_named (law.named n h.1.0) (held_both (held_both (held_both h.1.1.0 h.1.1.1.0) h.1.1.1.1.1.1.0) h.1.1.1.1.1.1.1); inner = λ scope. tt }
 
-  channel_yields : Yields G N (channel depth) PartNamed
-  channel_yields = gives_map PartNamed made_channel channel_named
-      (gives_seq (at_yields G N (k_word "telemetry")) (gives_seq (name_yields G N) (gives_after k_colon (gives_seq (type_named G N depth) (gives_seq (maybe_named G N depth (k_word "id"))
+  channel_yields : Yields law (channel depth) PartNoted
+  channel_yields = gives_map PartNoted made_channel channel_said
+      (gives_seq gives_anything (gives_seq law.naming_given (gives_after k_colon (gives_seq law.types_given (gives_seq (value_given law (k_word "id"))
       (gives_seq gives_anything (gives_seq gives_anything (gives_seq (maybe_limits (k_word "low")) (maybe_limits (k_word "high"))))))))))
 
-  coded : (k : ℕ) → Yields G N (opcode_part k depth) Maybe
-  coded k = gives_less Maybe (option_named N names_in_expression) (gives_optional (gives_after k (gives_after (k_word "opcode") (expr_named G N depth))))
+  coded : (k : ℕ) → Yields law (opcode_part k depth) (MaybeSaid law)
+  coded k = maybe_given law (gives_after k (gives_after (k_word "opcode") law.expressions_given))
 
-  param_named : (p : Span × (Name × (TypeName × (Option Expr × (Option Expr × (Option Expr × Option Expr))))))
-      → G p.0.first × (SitedName G N p.1.0 × (TypeNamed G N depth p.1.1.0 × (Maybe p.1.1.1.0 × (Maybe p.1.1.1.1.0 × (Maybe p.1.1.1.1.1.0 × Maybe p.1.1.1.1.1.1))))) → PartNamed (made_param p)
-  param_named (word, (n, (of, (default, (id, (set, save)))))) h note =
-      (h.1.0.named, each_append N _ _ (each_append N _ _ (each_append N _ _ (each_append N _ _ h.1.1.0 h.1.1.1.0) h.1.1.1.1.0) h.1.1.1.1.1.0) h.1.1.1.1.1.1)
+  param_said : (p : Span × (Name × (TypeName × (Option Expr × (Option Expr × (Option Expr × Option Expr))))))
+      → Unit {0} × (law.Naming p.1.0 × (TypeSaid law p.1.1.0 × (MaybeSaid law p.1.1.1.0 × (MaybeSaid law p.1.1.1.1.0 × (MaybeSaid law p.1.1.1.1.1.0 × MaybeSaid law p.1.1.1.1.1.1))))) → PartNoted (made_param p)
+  param_said (word, (n, (of, (default, (id, (set, save)))))) h note =
+      record { own = held_named (law.named n h.1.0) (held_both (held_both (held_both (held_both h.1.1.0 h.1.1.1.0) h.1.1.1.1.0) h.1.1.1.1.1.0) h.1.1.1.1.1.1); inner = λ scope. tt }
 
-  param_yields : Yields G N (param depth) PartNamed
-  param_yields = gives_map PartNamed made_param param_named
-      (gives_seq (at_yields G N (k_word "param")) (gives_seq (name_yields G N) (gives_after k_colon (gives_seq (type_named G N depth) (gives_seq (maybe_named G N depth k_default)
-      (gives_seq (maybe_named G N depth (k_word "id")) (gives_seq (coded (k_word "set")) (coded (k_word "save")))))))))
+  param_yields : Yields law (param depth) PartNoted
+  param_yields = gives_map PartNoted made_param param_said
+      (gives_seq gives_anything (gives_seq law.naming_given (gives_after k_colon (gives_seq law.types_given (gives_seq (value_given law k_default)
+      (gives_seq (value_given law (k_word "id")) (gives_seq (coded (k_word "set")) (coded (k_word "save")))))))))
 
-  definition_named : (d : Def) → SitedNoted G N depth d → PartNamed (made_definition d)
-  definition_named d h note = (h note).names
+  -- ---- parts
 
-  definition_yields : Yields G N (definition_sealed depth) (SitedNoted G N depth)
+  -- of a definition, in any annotation
+  abbrev DefinitionSaid : Def → Type 0
+  DefinitionSaid d = (note : List ℕ) → Says law (λ scope. items_in scope (noted_definition d note)) (names_in_definition (noted_definition d note))
+
+  definition_said : (d : Def) → DefinitionSaid d → PartNoted (made_definition d)
+  definition_said d h note = record { own = held_names (h note).names; inner = (h note).items }
+
+  machine_said : (m : Machine) → MachineSaid law m → PartNoted (part.Machine m)
+  machine_said m h note = record { own = held_names (h note).names; inner = (h note).items }
+
+  -- the definitions of components are definitions
+  definition_yields : Yields law (definition_sealed depth) DefinitionSaid
   definition_yields = gives_seal {a = definition_body depth} definition_begins definition_goes_on
-      (gives_alt (constant_yields G N depth) (gives_alt (alias_yields G N depth) (gives_alt (array_yields G N depth) (gives_alt (struct_yields G N depth) (enum_yields G N depth)))))
+      (gives_alt (record { given = λ w d s. all w d (inl s) }) (gives_alt (record { given = λ w d s. all w d (inr (inl s)) }) (gives_alt (record { given = λ w d s. all w d (inr (inr (inl s))) })
+      (gives_alt (record { given = λ w d s. all w d (inr (inr (inr (inl s)))) }) (record { given = λ w d s. all w d (inr (inr (inr (inr (inl s))))) })))))
+    where
+      all : LanguageGives law.OfToken (Spells kind (definition depth)) DefinitionSaid
+      all = law.definitions_given.given
 
-  stated_yields : Yields G N (machine_or_running depth) PartNamed
-  stated_yields = gives_alt (gives_map PartNamed (λ m. part.Machine m) (λ m h note. h) (machine_yields G N depth)) (gives_map PartNamed (λ r. part.Running r) (λ r h. h) running_yields)
+  stated_yields : Yields law (machine_or_running depth) PartNoted
+  stated_yields = gives_alt (gives_map PartNoted (λ m. part.Machine m) machine_said (machine_yields law)) (gives_map PartNoted (λ r. part.Running r) (λ r h. h) running_yields)
 
-  port_yields : Yields G N (port_part depth) PartNamed
-  port_yields = gives_alt (gives_map PartNamed made_general_part (λ p h note. h) general_yields) (gives_alt (gives_map PartNamed made_special_part (λ p h note. (h, tt)) special_yields) internal_yields)
+  port_yields : Yields law (port_part depth) PartNoted
+  port_yields = gives_alt (gives_map PartNoted made_general_part (λ p h note. record { own = h; inner = λ scope. tt }) general_yields)
+      (gives_alt (gives_map PartNoted made_special_part (λ p h note. record { own = held_names (h, tt); inner = λ scope. tt }) special_yields) internal_yields)
 
-  other_yields : Yields G N other_part PartNamed
-  other_yields = gives_alt match_yields (gives_alt (gives_map PartNamed made_import_part (λ i h note. h) (import_yields G N)) (gives_map PartNamed made_include_part (λ i h note. tt) gives_anything))
+  other_yields : Yields law other_part PartNoted
+  other_yields = gives_alt match_yields (gives_alt (gives_map PartNoted made_import_part (λ i h note. record { own = uses law InterfaceGroup i.of h; inner = λ scope. tt }) (import_yields law))
+      (gives_map PartNoted made_include_part (λ i h note. record { own = held_names tt; inner = λ scope. tt }) gives_anything))
 
-  part_yields : Yields G N (part_of depth) PartNamed
+  part_yields : Yields law (part_of depth) PartNoted
   part_yields = gives_seal {a = part_body depth} part_begins part_goes_on
-      (gives_alt (gives_map PartNamed made_definition definition_named definition_yields)
+      (gives_alt (gives_map PartNoted made_definition definition_said definition_yields)
       (gives_alt (gives_seal {a = machine_or_running depth} (k_word "state" ∷ []) stated_goes_on stated_yields) (gives_alt port_yields
       (gives_alt (gives_alt command_yields (gives_alt event_yields (gives_alt channel_yields param_yields))) other_yields))))
 
-  abbrev BareNamed : NotedPart → Type 0
-  BareNamed p = PartNamed p.bare
+  abbrev BareSaid : NotedPart → Type 0
+  BareSaid p = PartNoted p.bare
 
-  abbrev AllNamed : List Part → Type 0
-  AllNamed ps = Each (λ p. Each N (names_in_part p)) ps
+  parts_yield : Yields law (parts depth) (Each PartSaid)
+  parts_yield = gives_map (Each PartSaid) noted_parts
+      (λ ps hs. each_mapped PartSaid with_its_note ps (each_weaker BareSaid (λ p. PartSaid (with_its_note p)) (λ p h. h p.note) ps hs))
+      (gives_any_noted BareSaid (mark ";") part_with_note (λ p note h. h) (gives_map BareSaid bare_part (λ p h. h) part_yields))
 
-  pub parts_yield : Yields G N (parts depth) AllNamed
-  parts_yield = gives_map AllNamed noted_parts
-      (λ ps hs. each_mapped (λ p. Each N (names_in_part p)) with_its_note ps (each_weaker BareNamed (λ p. Each N (names_in_part (with_its_note p))) (λ p h. h p.note) ps hs))
-      (gives_any_noted BareNamed (mark ";") part_with_note (λ p note h. h) (gives_map BareNamed bare_part (λ p h. h) part_yields))
+  -- ---- components and interfaces
 
-  component_named : (p : (Span × ComponentKind) × (Name × (List Part × Span))) → Unit {0} × (SitedName G N p.1.0 × (AllNamed p.1.1.0 × G p.1.1.1.first)) → Each N (names_in_component (made_component p))
-  component_named ((word, k), (n, (ps, closing))) h = (h.1.0.named, list_named N names_in_part ps h.1.1.0)
+  own_said : (scope : Path) (ps : List Part) → Each PartSaid ps → Each law.OfItem (flat_map (own_items scope) ps)
+  own_said scope ps hs = each_flat law.OfItem (own_items scope) ps (each_weaker PartSaid (λ p. Each law.OfItem (own_items scope p)) (λ p h. h.own.items scope) ps hs)
 
-  pub component_yields : Yields G N (component depth) (λ c. Each N (names_in_component c))
-  component_yields = gives_map (λ c. Each N (names_in_component c)) made_component component_named
-      (gives_seq gives_anything (gives_after (k_word "component") (gives_seq (name_yields G N) (gives_after k_open_brace (gives_seq parts_yield (at_yields G N k_close_brace))))))
+  inner_said : (scope : Path) (ps : List Part) → Each PartSaid ps → Each law.OfItem (flat_map (inner_items scope) ps)
+  inner_said scope ps hs = each_flat law.OfItem (inner_items scope) ps (each_weaker PartSaid (λ p. Each law.OfItem (inner_items scope p)) (λ p h. h.inner scope) ps hs)
 
-  -- a part of an interface, in any annotation
-  abbrev InnerNamed : InterfacePart → Type 0
-  InnerNamed p = (note : List ℕ) → Each N (names_in_interface_part (noted_interface_part p note))
+  -- behind a component's name
+  parts_said : (text : List ℕ) (ps : List Part) → Each PartSaid ps
+      → Says law (λ scope. flat_map (own_items (scope ++ text ∷ [])) ps ++ flat_map (inner_items (scope ++ text ∷ [])) ps) (flat_map names_in_part ps)
+  parts_said text ps hs = record {
+    items = λ scope. each_append law.OfItem _ _ (own_said (scope ++ text ∷ []) ps hs) (inner_said (scope ++ text ∷ []) ps hs);
+    names = each_flat law.OfName names_in_part ps (each_weaker PartSaid (λ p. Each law.OfName (names_in_part p)) (λ p h. h.own.names) ps hs);
+  }
+
+  -- in any annotation
+  abbrev pub ComponentSaid : Component → Type 0
+  ComponentSaid c = (note : List ℕ) → Says law (λ scope. component_items scope (record c { note = note })) (names_in_component (record c { note = note }))
+
+  component_said : (p : (Span × ComponentKind) × (Name × (List Part × Span))) → Unit {0} × (law.Naming p.1.0 × (Each PartSaid p.1.1.0 × Unit {0})) → ComponentSaid (made_component p)
+  component_said ((word, k), (n, (ps, closing))) h note =
+      let c : Component = made_component ((word, k), (n, (ps, closing))) in
+      declares law (component_def (record c { note = note })) h.1.0 (parts_said n.text ps h.1.1.0)
+
+  pub component_yields : Yields law (component depth) ComponentSaid
+  component_yields = gives_map ComponentSaid made_component component_said
+      (gives_seq gives_anything (gives_after (k_word "component") (gives_seq law.naming_given (gives_after k_open_brace (gives_seq parts_yield gives_anything)))))
+
+  abbrev InnerSaid : InterfacePart → Type 0
+  InnerSaid p = Says law (λ scope. interface_part_items scope p) (names_in_interface_part p)
+
+  -- in any annotation
+  abbrev InnerNoted : InterfacePart → Type 0
+  InnerNoted p = (note : List ℕ) → InnerSaid (noted_interface_part p note)
 
   abbrev BareInner : NotedInterfacePart → Type 0
-  BareInner p = InnerNamed p.bare
+  BareInner p = InnerNoted p.bare
 
-  abbrev AllInner : List InterfacePart → Type 0
-  AllInner ps = Each (λ p. Each N (names_in_interface_part p)) ps
-
-  inner_yields : Yields G N (interface_part depth) InnerNamed
+  inner_yields : Yields law (interface_part depth) InnerNoted
   inner_yields =
-      gives_alt (gives_map InnerNamed made_inner_general (λ p h note. h) general_yields) (gives_alt
-      (gives_map InnerNamed made_inner_special (λ p h note. (h, tt)) special_yields) (gives_map InnerNamed made_inner_import (λ i h note. h) (import_yields G N)))
+      gives_alt (gives_map InnerNoted made_inner_general (λ p h note. h) general_yields) (gives_alt
+      (gives_map InnerNoted made_inner_special (λ p h note. held_names (h, tt)) special_yields) (gives_map InnerNoted made_inner_import (λ i h note. uses law InterfaceGroup i.of h) (import_yields law)))
 
-  inners_yield : Yields G N (interface_parts depth) AllInner
-  inners_yield = gives_map AllInner noted_interface_parts
-      (λ ps hs. each_mapped (λ p. Each N (names_in_interface_part p)) with_inner_note ps (each_weaker BareInner (λ p. Each N (names_in_interface_part (with_inner_note p))) (λ p h. h p.note) ps hs))
+  inners_yield : Yields law (interface_parts depth) (Each InnerSaid)
+  inners_yield = gives_map (Each InnerSaid) noted_interface_parts
+      (λ ps hs. each_mapped InnerSaid with_inner_note ps (each_weaker BareInner (λ p. InnerSaid (with_inner_note p)) (λ p h. h p.note) ps hs))
       (gives_any_noted BareInner (mark ";") interface_part_with_note (λ p note h. h) (gives_map BareInner bare_interface_part (λ p h. h) inner_yields))
 
-  interface_named : (p : Span × (Name × (List InterfacePart × Span))) → G p.0.first × (SitedName G N p.1.0 × (AllInner p.1.1.0 × G p.1.1.1.first)) → Each N (names_in_interface (made_interface p))
-  interface_named (word, (n, (ps, closing))) h = (h.1.0.named, list_named N names_in_interface_part ps h.1.1.0)
+  -- in any annotation
+  abbrev pub InterfaceSaid : Interface → Type 0
+  InterfaceSaid i = (note : List ℕ) → Says law (λ scope. interface_items scope (record i { note = note })) (names_in_interface (record i { note = note }))
 
-  pub interface_yields : Yields G N (interface depth) (λ i. Each N (names_in_interface i))
-  interface_yields = gives_map (λ i. Each N (names_in_interface i)) made_interface interface_named
-      (gives_seq (at_yields G N (k_word "interface")) (gives_seq (name_yields G N) (gives_after k_open_brace (gives_seq inners_yield (at_yields G N k_close_brace)))))
+  interface_said : (p : Span × (Name × (List InterfacePart × Span))) → Unit {0} × (law.Naming p.1.0 × (Each InnerSaid p.1.1.0 × Unit {0})) → InterfaceSaid (made_interface p)
+  interface_said (word, (n, (ps, closing))) h note =
+      let i : Interface = made_interface (word, (n, (ps, closing))) in
+      declares law (interface_def (record i { note = note })) h.1.0 (held_list interface_part_items names_in_interface_part ps h.1.1.0)
+
+  pub interface_yields : Yields law (interface depth) InterfaceSaid
+  interface_yields = gives_map InterfaceSaid made_interface interface_said
+      (gives_seq gives_anything (gives_seq law.naming_given (gives_after k_open_brace (gives_seq inners_yield gives_anything))))

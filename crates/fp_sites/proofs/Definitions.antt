@@ -134,10 +134,10 @@ module _ (G : Place → Type 0) (N : Name → Type 0) (depth : ℕ) where
   pub type_yields : Yields G N (type_name depth) SitedType
   type_yields = gives_seal {a = type_body depth} type_begins (k_size ∷ expr_goes_on) (gives_alt plain_yields (gives_alt string_yields used_yields))
 
-  pub default_yields : Yields G N (default_part depth) (InOption SitedExpr)
+  default_yields : Yields G N (default_part depth) (InOption SitedExpr)
   default_yields = gives_optional (gives_after k_default part_yields)
 
-  pub sized_yields : Yields G N (sized depth) SitedExpr
+  sized_yields : Yields G N (sized depth) SitedExpr
   sized_yields = gives_before k_close_bracket part_yields
 
   constant_sited : (p : Span × (Name × Expr)) → G p.0.first × (SitedName G N p.1.0 × SitedExpr p.1.1) → SitedNoted (made_constant p)
@@ -146,7 +146,7 @@ module _ (G : Place → Type 0) (N : Name → Type 0) (depth : ℕ) where
     names = (h.1.0.named, h.1.1.names);
   }
 
-  pub constant_yields : Yields G N (constant depth) SitedNoted
+  constant_yields : Yields G N (constant depth) SitedNoted
   constant_yields = gives_map SitedNoted made_constant constant_sited (gives_seq (at_yields G N k_constant) (gives_seq (name_yields G N) (gives_after k_equals part_yields)))
 
   type_sited : (p : Span × (Name × Option TypeName)) → G p.0.first × (SitedName G N p.1.0 × InOption SitedType p.1.1) → SitedNoted (made_type p)
@@ -156,7 +156,7 @@ module _ (G : Place → Type 0) (N : Name → Type 0) (depth : ℕ) where
     names = (h.1.0.named, h.1.1.names);
   }
 
-  pub alias_yields : Yields G N (abstract_or_alias depth) SitedNoted
+  alias_yields : Yields G N (abstract_or_alias depth) SitedNoted
   alias_yields = gives_map SitedNoted made_type type_sited (gives_seq (at_yields G N k_type) (gives_seq (name_yields G N) (gives_optional (gives_after k_equals type_yields))))
 
   array_sited : (p : Span × (Name × (Expr × (TypeName × (Option Expr × Option Str)))))
@@ -171,7 +171,7 @@ module _ (G : Place → Type 0) (N : Name → Type 0) (depth : ℕ) where
         names = (h.1.0.named, each_append N _ _ (each_append N _ _ h.1.1.0.names h.1.1.1.0.names) defaults.names);
       }
 
-  pub array_yields : Yields G N (array depth) SitedNoted
+  array_yields : Yields G N (array depth) SitedNoted
   array_yields = gives_map SitedNoted made_array array_sited
       (gives_seq (at_yields G N k_array) (gives_seq (name_yields G N) (gives_after k_equals (gives_after k_open_bracket
       (gives_seq sized_yields (gives_seq type_yields (gives_seq default_yields gives_anything)))))))
@@ -205,7 +205,7 @@ module _ (G : Place → Type 0) (N : Name → Type 0) (depth : ℕ) where
         names = (h.1.0.named, each_append N _ _ inside.names defaults.names);
       }
 
-  pub struct_yields : Yields G N (structure depth) SitedNoted
+  struct_yields : Yields G N (structure depth) SitedNoted
   struct_yields = gives_map SitedNoted made_struct struct_sited
       (gives_seq (at_yields G N k_struct) (gives_seq (name_yields G N) (gives_after k_open_brace (gives_seq fields_yield (gives_seq (at_yields G N k_close_brace) default_yields)))))
 
@@ -252,12 +252,12 @@ module _ (G : Place → Type 0) (N : Name → Type 0) (depth : ℕ) where
         names = (h.1.0.named, each_append N _ _ (each_append N _ _ reprs.names inside) defaults.names);
       }
 
-  pub enum_yields : Yields G N (enumeration depth) SitedNoted
+  enum_yields : Yields G N (enumeration depth) SitedNoted
   enum_yields = gives_map SitedNoted made_enum enum_sited
       (gives_seq (at_yields G N k_enum) (gives_seq (name_yields G N) (gives_seq (gives_optional (gives_after k_colon type_yields))
       (gives_after k_open_brace (gives_seq enum_consts_yield (gives_seq (at_yields G N k_close_brace) default_yields))))))
 
-  abbrev pub SitedFormal : Formal → Type 0
+  abbrev SitedFormal : Formal → Type 0
   SitedFormal f = SitedPart (λ since. formal_items) names_in_formal f
 
   formal_sited : (p : Option Span × (Name × TypeName)) → Unit {0} × (SitedName G N p.1.0 × SitedType p.1.1) → SitedFormal (made_formal p)
@@ -271,7 +271,7 @@ module _ (G : Place → Type 0) (N : Name → Type 0) (depth : ℕ) where
   formal_list_yields = gives_map (Each SitedFormal) or_none (each_or_none SitedFormal)
       (gives_optional (gives_some_of SitedFormal (Each SitedFormal) with_formal (λ fs f lines h k. each_push SitedFormal fs _ h (record { items = k.items; names = k.names })) commas [] tt formal_yields))
 
-  pub formals_yield : Yields G N (formals_part depth) (InOption (λ p. Each SitedFormal p.0 × G p.1.first))
+  formals_yield : Yields G N (formals_part depth) (InOption (λ p. Each SitedFormal p.0 × G p.1.first))
   formals_yield = gives_optional (gives_after k_open (gives_seq formal_list_yields (at_yields G N k_close)))
 
   port_sited : (p : Span × (Name × (Option (List Formal × Span) × Option TypeName)))

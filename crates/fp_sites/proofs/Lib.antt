@@ -1,14 +1,18 @@
 pub mod Preserving
 mod Walks
-pub mod ModelWalks
+mod ModelWalks
 pub mod Lists
 mod Words
 mod Expressions
 mod Depths
 mod Definitions
+pub mod Held
+pub mod Known
 mod Machines
 mod Topologies
 mod Components
+pub mod Models
+mod Telling
 mod Members
 mod Standing
 mod Writing

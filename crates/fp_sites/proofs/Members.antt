@@ -27,8 +27,6 @@ use Rattle.fp_parse_defs.specs.Definitions.{definition}
 use Rattle.fp_parse_parts.specs.declared.bare.BareMember.{BareMember}
 use Rattle.fp_parse_parts.specs.declared.bare.BareMember.TheVariants as bare
 use Rattle.fp_parse_parts.specs.declared.bare.ModelMember.{ModelMember}
-use Rattle.fp_parse_parts.specs.declared.bare.ModelMember.TheVariants as model
-use Rattle.fp_parse_parts.specs.Models.{any_model}
 use Rattle.fp_parse_parts.specs.Members.{k_include, k_module, semicolons, definition_begins, definition_goes_on, definition_member, made_include, include, made_locate, locate, model_member, noted_definition, noted_member, with_member, member_of, members_of, made_module, modules, members}
 use Rattle.fp_sites.specs.Depths.{depth_of, modules_within, modules_in}
 use Rattle.fp_sites.specs.Names.{names_within, names_in}
@@ -37,13 +35,9 @@ use Rattle.fp_base.proofs.Lists.{each_push, each_flat, each_weaker}
 use Rattle.fp_sites.proofs.Preserving.{LanguageGives, gives_anything, gives_map, gives_seq, gives_alt, gives_optional, gives_ref, gives_seal, gives_after}
 use Rattle.fp_sites.proofs.Lists.{each_or_none, gives_some_of}
 use Rattle.fp_sites.proofs.Walks.{module_includes, definition_includes, include_includes, locate_includes, module_names, definition_names, include_names, locate_names, module_depth, definition_depth, include_depth, locate_depth}
-use Rattle.fp_sites.specs.Machines.{names_in_machine}
-use Rattle.fp_sites.specs.Components.{names_in_component, names_in_interface}
-use Rattle.fp_sites.specs.Topologies.{names_in_instance, names_in_topology}
-use Rattle.fp_sites.proofs.ModelWalks.{machine_gives, component_gives, interface_gives, instance_gives, topology_gives, machine_includes, component_includes, interface_includes, instance_includes, topology_includes, machine_names, component_names, interface_names, instance_names, topology_names, machine_depth, component_depth, interface_depth, instance_depth, topology_depth}
-use Rattle.fp_sites.proofs.Machines.{machine_yields}
-use Rattle.fp_sites.proofs.Components.{component_yields, interface_yields}
-use Rattle.fp_sites.proofs.Topologies.{instance_yields, topology_yields}
+use Rattle.fp_sites.proofs.ModelWalks.{model_includes, model_depth}
+use Rattle.fp_sites.proofs.Models.{ModelSaid, models_yield}
+use Rattle.fp_sites.proofs.Telling.{told}
 use Rattle.fp_sites.proofs.Words.{IsTold, Yields, SitedName, SitedQual, at_yields, name_yields, qual_yields}
 use Rattle.fp_sites.proofs.Expressions.{Stand, same_names}
 use Rattle.fp_sites.proofs.Definitions.{Sited, SitedItem, definition_yields}
@@ -147,57 +141,19 @@ module _ (G : Place → Type 0) (N : Name → Type 0) (expressions : ℕ) where
   definition_member_yields depth = gives_map (SitedBare depth) bare.Def (λ d h note. definition_sited depth (noted_definition d note) (h note))
       (gives_seal {a = definition expressions} definition_begins definition_goes_on (definition_yields G N expressions))
 
-  -- a member of a model has such names
-  abbrev ModelNamed : ModelMember → Type 0
-  ModelNamed (model.Machine x) = Each N (names_in_machine x)
-  ModelNamed (model.Component x) = Each N (names_in_component x)
-  ModelNamed (model.Interface x) = Each N (names_in_interface x)
-  ModelNamed (model.Instance x) = Each N (names_in_instance x)
-  ModelNamed (model.Topology x) = Each N (names_in_topology x)
-
-  model_sited : (depth : ℕ) (m : ModelMember) → ModelNamed m → SitedBare depth (bare.Model m)
-  model_sited depth (model.Machine x) h note = record {
-    given = λ scope. same_given _ _ (machine_gives scope _) tt;
-    includes = same_included _ _ (machine_includes _) tt;
-    names = same_names G N _ _ (machine_names _) h;
-    modules = no_modules _ depth (machine_depth _);
+  model_sited : (depth : ℕ) (m : ModelMember) → ModelSaid (told G N expressions) m → SitedBare depth (bare.Model m)
+  unfolding told
+  model_sited depth m h note = record {
+    given = (h note).items;
+    includes = same_included _ _ (model_includes m note) tt;
+    names = (h note).names;
+    modules = no_modules _ depth (model_depth m note);
   }
-  model_sited depth (model.Component x) h note = record {
-    given = λ scope. same_given _ _ (component_gives scope _) tt;
-    includes = same_included _ _ (component_includes _) tt;
-    names = same_names G N _ _ (component_names _) h;
-    modules = no_modules _ depth (component_depth _);
-  }
-  model_sited depth (model.Interface x) h note = record {
-    given = λ scope. same_given _ _ (interface_gives scope _) tt;
-    includes = same_included _ _ (interface_includes _) tt;
-    names = same_names G N _ _ (interface_names _) h;
-    modules = no_modules _ depth (interface_depth _);
-  }
-  model_sited depth (model.Instance x) h note = record {
-    given = λ scope. same_given _ _ (instance_gives scope _) tt;
-    includes = same_included _ _ (instance_includes _) tt;
-    names = same_names G N _ _ (instance_names _) h;
-    modules = no_modules _ depth (instance_depth _);
-  }
-  model_sited depth (model.Topology x) h note = record {
-    given = λ scope. same_given _ _ (topology_gives scope _) tt;
-    includes = same_included _ _ (topology_includes _) tt;
-    names = same_names G N _ _ (topology_names _) h;
-    modules = no_modules _ depth (topology_depth _);
-  }
-
-  any_model_yields : Yields G N (any_model expressions) ModelNamed
-  any_model_yields =
-      gives_alt (gives_map ModelNamed model.Machine (λ x h. h) (machine_yields G N expressions)) (gives_alt
-      (gives_map ModelNamed model.Component (λ x h. h) (component_yields G N expressions)) (gives_alt
-      (gives_map ModelNamed model.Interface (λ x h. h) (interface_yields G N expressions)) (gives_alt
-      (gives_map ModelNamed model.Instance (λ x h. h) (instance_yields G N expressions))
-      (gives_map ModelNamed model.Topology (λ x h. h) (topology_yields G N expressions)))))
 
   -- whatever words are left out
   model_member_yields : (depth : ℕ) (omitted : List ℕ) → Yields G N (model_member omitted expressions) (SitedBare depth)
-  model_member_yields depth omitted = gives_map (SitedBare depth) bare.Model (model_sited depth) (gives_ref _ (λ w m s h. any_model_yields.given w m s.1 h))
+  unfolding told
+  model_member_yields depth omitted = gives_map (SitedBare depth) bare.Model (model_sited depth) (models_yield (told G N expressions) omitted)
 
   included_sited : (depth : ℕ) (p : Span × Str) → G p.0.first × Unit {0} → SitedBare depth (made_include p)
   included_sited depth (at, file) h note = include_sited depth _ h.0
