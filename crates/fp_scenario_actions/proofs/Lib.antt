@@ -8,6 +8,7 @@ pub mod Keeping
 pub mod KeepingCalls
 pub mod Listed
 pub mod Narrow
+pub mod Once
 pub mod Parting
 pub mod Suits
 pub mod SuitsCalls

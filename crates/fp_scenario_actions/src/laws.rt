@@ -36,3 +36,9 @@ pub fn planned_calls_suit()
     ensures suit { (t : Described) (scope : Scope) (texts : List ActText) (acts : List Act) → IsSoundFor t.model (Some t.topology) → CallsPlan t scope texts acts → suit_in_turn t (caller_act_suits t) scope acts ≡ true }
     ensures length { (t : Described) (scope : Scope) (texts : List ActText) (acts : List Act) → CallsPlan t scope texts acts → length acts ≡ length texts }
 {}
+
+/// A law: a handler's list is planned as one list of actions, and so is a caller's.
+pub fn lists_are_planned_once()
+    ensures handlers { (t : Described) (i : ℕ) (c : Component) (place : Spot) (scope : Scope) (texts : List ActText) (acts other : List Act) → ActsPlan t i c place scope texts acts → ActsPlan t i c place scope texts other → acts ≡ other }
+    ensures callers { (t : Described) (scope : Scope) (texts : List ActText) (acts other : List Act) → CallsPlan t scope texts acts → CallsPlan t scope texts other → acts ≡ other }
+{}

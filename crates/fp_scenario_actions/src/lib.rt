@@ -13,8 +13,8 @@ mod spots;
 
 pub use calling::acts_of_caller;
 pub use laws::{
-    planned_calls_break_nothing, planned_calls_suit, planned_lists_break_nothing,
-    planned_lists_suit,
+    lists_are_planned_once, planned_calls_break_nothing, planned_calls_suit,
+    planned_lists_break_nothing, planned_lists_suit,
 };
 pub use listing::{ListHalt, acts_here, ends_in_return};
 pub use named::{name_of, placed_named, running_named};

@@ -28,6 +28,10 @@ module _ (t : Described) (scenario : Scenario) where
   abbrev pub IsBroken : Rule → List ℕ → Type 0
   IsBroken rule path = Breaks t scenario rule path ⊎ ((program : Program) × Planned t scenario program × BreaksCycle program rule path)
 
+  -- no rule is broken, at no path
+  abbrev pub BreaksNothing : Type 0
+  BreaksNothing = (rule : Rule) (path : List ℕ) → IsBroken rule path → ⊥
+
   -- want of memory, or a rule that is broken at the path
   abbrev pub IsRefusal : ScenarioStop → Type 0
   IsRefusal (Broken stop) = IsBroken stop.rule stop.path

@@ -1,7 +1,9 @@
 ghost use Rattle.std.specs.Prelude.{◌≡◌, ℕ, List, Some, true, is_some};
+ghost use Rattle.fp_reach.specs.Cycles.{HasNoCycle, HasNoLockCycle};
 ghost use Rattle.fp_scenario.specs.Same.{IsOfText};
 ghost use Rattle.fp_scenario.specs.declared.scenario.Scenario.{Scenario};
 ghost use Rattle.fp_scenario_actions.specs.Spots.{spot_in};
+ghost use Rattle.fp_scenario_plan.specs.Broken.{BreaksNothing};
 ghost use Rattle.fp_scenario_plan.specs.Planned.{IsWhole, Planned};
 ghost use Rattle.fp_tables.specs.Lookup.{Described, component_of};
 ghost use Rattle.fp_tables.specs.Programs.{bound_at};
@@ -25,4 +27,16 @@ pub fn planned_programs_are_sound()
     ensures { (t : Described) (scenario : Scenario) (program : Program) → IsSoundFor t.model (Some t.topology) → IsOfText scenario → Planned t scenario program → IsWhole t scenario → IsSoundProgram t program }
 {
     scenario_keeps_limits();
+}
+
+/// A law: a scenario stands for at most one program, in any tables.
+pub fn scenarios_stand_for_one_program()
+    ensures { (t : Described) (scenario : Scenario) (program other : Program) → Planned t scenario program → Planned t scenario other → program ≡ other }
+{}
+
+/// A law: a scenario breaks no rule at all where it breaks none but perhaps one on cycles and a program that it stands for has no cycle.
+pub fn acyclic_programs_break_nothing()
+    ensures { (t : Described) (scenario : Scenario) (program : Program) → Planned t scenario program → IsWhole t scenario → HasNoCycle t program → HasNoLockCycle t program → BreaksNothing t scenario }
+{
+    scenarios_stand_for_one_program();
 }

@@ -3,4 +3,7 @@
 
 mod laws;
 
-pub use laws::{handlers_begin, planned_programs_are_sound};
+pub use laws::{
+    acyclic_programs_break_nothing, handlers_begin, planned_programs_are_sound,
+    scenarios_stand_for_one_program,
+};

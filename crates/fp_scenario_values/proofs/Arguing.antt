@@ -43,11 +43,11 @@ not_alone d ms is many =
 module _ (types : List TypeDef) (scope : Scope) where
   -- ---- one argument
 
-  abbrev Stands : json.Data → Kind → Arg → Type 0
+  abbrev pub Stands : json.Data → Kind → Arg → Type 0
   Stands d k (Bound name) = (name_in d ≡ Some name) × (j : Kind) × (scope name ≡ Some j) × (is_one_kind types j k ≡ true)
   Stands d k (Given v) = (name_in d ≡ None) × Means types (wanted types k) d v
 
-  back : {k : Kind} {d : json.Data} {a : Arg} → IsArgument types scope k d a → Stands d k a
+  pub back : {k : Kind} {d : json.Data} {a : Arg} → IsArgument types scope k d a → Stands d k a
   back (bound {j = j} e f g) = (e, j, f, g)
   back (value e h) = (e, h)
 

@@ -1,3 +1,4 @@
 pub mod Arguing
 pub mod Making
 pub mod MeantKinds
+pub mod Once

@@ -9,4 +9,4 @@ mod values;
 mod wanted;
 
 pub use arguments::{are_bound, arguments_of, kinds_of};
-pub use laws::meant_has_kind;
+pub use laws::{meant_has_kind, values_mean_one};

@@ -73,3 +73,14 @@ returns-clause-sound c =
       answers_planned = c.in_ok-answers.ensures.planned;
       guards_differ = c.in_ok-answers.ensures.differ;
     }) rule path broken)
+
+pub returns-clause-unbroken : goal.returns-clause-unbroken
+returns-clause-unbroken c =
+    c.acyclic_programs_break_nothing.ensures c.args.tables.now c.args.scenario.now _
+    (record {
+      steps = refl;
+      callers = c.in_ok-callers.ensures.planned;
+      handlers = c.in_ok-handled.ensures.planned;
+      answers = c.in_ok-answers.ensures.planned;
+    })
+    (λ rule path broken. returns-clause-whole c rule path broken) c.in_ok-check_cycles.ensures.acyclic.0 c.in_ok-check_cycles.ensures.acyclic.1
