@@ -1,0 +1,8 @@
+use Rattle.std.proofs.Common.{sym}
+use Rattle.fp_base.proofs.Calculus.{least_along, least_either}
+use Rattle.fp_port_rules.proofs.faults.port_faults.Goals as goal
+
+pub returns : goal.returns
+returns c =
+    least_along (sym c.lesser.ensures)
+    (least_either c.in_ok-of_interfaces.of_interfaces c.in_ok-of_components.of_components c.in_ok-of_interfaces.ensures c.in_ok-of_components.ensures)

@@ -1,0 +1,109 @@
+-- The rules that a port, or an instance of a state machine, breaks by itself, and where each is broken. FPP Language Specification, "Port Instance
+-- Specifiers", "Internal Port Specifiers", "State Machine Instance Specifiers".
+use Rattle.std.specs.Prelude.{◌≡◌, ℕ, ◌<◌, ◌^◌, ◌-◌, ◌⊎◌, ℤ, pos, negsuc, ◌<ℤ◌, Bool, true, List, slice_get, Option, None, Some}
+use Rattle.fp_base.specs.declared.place.Place.{Place}
+use Rattle.fp_base.specs.declared.refusal.Refusal.{Refusal}
+use Rattle.fp_base.specs.declared.rule.Rule.{Rule}
+use Rattle.fp_base.specs.declared.rule.Rule.TheVariants.{ParameterRepeated, AsyncWithReturn, QueueWordNotAllowed, PortSize, SpecialPort, PriorityRange}
+use Rattle.fp_base.specs.Least.{broken_at, Either, InSome}
+use Rattle.fp_written_parts.specs.declared.port.Given.{Given}
+use Rattle.fp_written_parts.specs.declared.port.QueueWords.{QueueWords}
+use Rattle.fp_written_parts.specs.declared.port.WrittenFormal.{WrittenFormal}
+use Rattle.fp_written_parts.specs.declared.port.WrittenRole.{WrittenRole}
+use Rattle.fp_written_parts.specs.declared.port.WrittenRole.TheVariants.{AsyncInput, Special, Internal}
+use Rattle.fp_written_parts.specs.declared.port.WrittenPort.{WrittenPort}
+use Rattle.fp_written_parts.specs.declared.member.WrittenMember.{WrittenMember}
+use Rattle.fp_written_parts.specs.declared.member.WrittenMember.TheVariants.{Port, Running}
+use Rattle.fp_written_parts.specs.declared.member.WrittenInterface.{WrittenInterface}
+use Rattle.fp_written_parts.specs.declared.member.WrittenComponent.{WrittenComponent}
+
+-- the rule at the place, where something is so
+abbrev pub BrokenAt : Rule → Place → Type 0 → Refusal → Type 0
+BrokenAt rule place Q f = (f ≡ broken_at rule place) × Q
+
+-- broken by what is there
+abbrev pub ByOptional : {A : Type 0} → (A → Refusal → Type 0) → Option A → Refusal → Type 0
+ByOptional P None f = ⊥
+ByOptional P (Some x) f = P x f
+
+-- a number is there, and is below the low one or above the high one
+abbrev pub IsOutside : ℤ → ℤ → Option ℤ → Type 0
+IsOutside low high number = (n : ℤ) × (number ≡ Some n) × ((n <ℤ low) ⊎ (high <ℤ n))
+
+abbrev pub OutsideAt : Rule → ℤ → ℤ → Given → Refusal → Type 0
+OutsideAt rule low high given = BrokenAt rule given.at (IsOutside low high given.number)
+
+-- ---- parameters of an internal port
+
+-- an earlier parameter has the name of the k-th
+abbrev pub HasName : List WrittenFormal → ℕ → List ℕ → Type 0
+HasName ps k name = (p : WrittenFormal) × (slice_get ps k ≡ Some p) × (p.name ≡ name)
+
+abbrev pub IsRepeated : List WrittenFormal → ℕ → Type 0
+IsRepeated ps k = (name : List ℕ) × (earlier : ℕ) × (earlier < k) × HasName ps earlier name × HasName ps k name
+
+abbrev pub RepeatedAt : List WrittenFormal → ℕ → WrittenFormal → Refusal → Type 0
+RepeatedAt ps k p = BrokenAt ParameterRepeated p.at (IsRepeated ps k)
+
+abbrev pub RepeatedFormals : List WrittenFormal → Refusal → Type 0
+RepeatedFormals ps = InSome (RepeatedAt ps) ps
+
+abbrev pub BrokenFormals : WrittenRole → List WrittenFormal → Refusal → Type 0
+BrokenFormals Internal ps = RepeatedFormals ps
+BrokenFormals _ ps = λ f. ⊥
+
+-- ---- the definition of a port
+
+-- the definition has a result, by what each definition has
+abbrev pub HasResult : List Bool → Option ℕ → Type 0
+HasResult results of = (k : ℕ) × (of ≡ Some k) × (slice_get results k ≡ Some true)
+
+-- one with a result, of an async input; none, of a special port
+abbrev pub BrokenDefinition : List Bool → WrittenRole → Option ℕ → Place → Refusal → Type 0
+BrokenDefinition results AsyncInput of place = BrokenAt AsyncWithReturn place (HasResult results of)
+BrokenDefinition results (Special kind) of place = BrokenAt SpecialPort place (of ≡ None)
+BrokenDefinition results _ of place = λ f. ⊥
+
+-- ---- what is written of the queue
+
+-- a priority outside the 32 signed bits
+abbrev pub BrokenPriority : Option Given → Refusal → Type 0
+BrokenPriority priority = ByOptional (OutsideAt PriorityRange (negsuc (2 ^ 31 - 1)) (pos (2 ^ 31 - 1))) priority
+
+-- a word of the queue where nothing comes into it
+abbrev pub BrokenWord : Option Place → Refusal → Type 0
+BrokenWord word = ByOptional (λ place f. f ≡ broken_at QueueWordNotAllowed place) word
+
+abbrev pub BrokenQueue : WrittenRole → QueueWords → Refusal → Type 0
+BrokenQueue AsyncInput queue = BrokenPriority queue.priority
+BrokenQueue Internal queue = BrokenPriority queue.priority
+BrokenQueue _ queue = BrokenWord queue.word
+
+-- ---- how many ports a port is
+
+abbrev pub BrokenSize : Option Given → Refusal → Type 0
+BrokenSize size = ByOptional (OutsideAt PortSize (pos 1) (pos 1024)) size
+
+-- ---- a member, and all of them
+
+abbrev pub BrokenPort : List Bool → WrittenPort → Refusal → Type 0
+BrokenPort results p =
+    Either (Either (BrokenFormals p.role p.formals) (BrokenDefinition results p.role p.of p.at)) (Either (BrokenQueue p.role p.queue) (BrokenSize p.size))
+
+abbrev pub BrokenMember : List Bool → WrittenMember → Refusal → Type 0
+BrokenMember results (Port p) = BrokenPort results p
+BrokenMember results (Running r) = BrokenPriority r.queue.priority
+BrokenMember results _ = λ f. ⊥
+
+abbrev pub BrokenMembers : List Bool → List WrittenMember → Refusal → Type 0
+BrokenMembers results members = InSome (λ k. BrokenMember results) members
+
+abbrev pub InterfaceBroken : List Bool → ℕ → WrittenInterface → Refusal → Type 0
+InterfaceBroken results k i = BrokenMembers results i.members
+
+abbrev pub ComponentBroken : List Bool → ℕ → WrittenComponent → Refusal → Type 0
+ComponentBroken results k c = BrokenMembers results c.members
+
+-- in some interface or component
+abbrev pub PortsBroken : List Bool → List WrittenInterface → List WrittenComponent → Refusal → Type 0
+PortsBroken results interfaces components = Either (InSome (InterfaceBroken results) interfaces) (InSome (ComponentBroken results) components)
