@@ -1,0 +1,6 @@
+mod Counting
+mod Folding
+mod Naming
+mod Noting
+mod Pairs
+mod Sides

@@ -1,0 +1,5 @@
+pub mod Broken
+pub mod Ids
+pub mod Listed
+pub mod Repeated
+pub mod Tested
