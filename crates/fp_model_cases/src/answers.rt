@@ -11,6 +11,7 @@ use crate::moves::told;
 use crate::numbers::numbered;
 use crate::reports::{cycle, number_among, report, truth};
 use crate::runs::played;
+use crate::scenarios::checked;
 use fp_base::{NoMemory, Text};
 use fp_reach::cycle_of;
 use fp_sound_model::SoundModel;
@@ -74,10 +75,14 @@ fn cycle_told(alloc: Global, tables: &Tables, program: &Program) -> Result<Text,
 }
 
 fn of_tables(alloc: Global, tables: &Tables, case: &Case, question: &str) -> Result<Text, Fault> {
+    if matches!(question, "check" | "log") {
+        let scenario = case.given("scenario").unwrap_or("");
+        return Ok(checked(alloc, tables, scenario, question)?);
+    }
     let (word, behind) = question.split_once(' ').unwrap_or((question, ""));
     if !matches!(
         question,
-        "program sound" | "cycle" | "run" | "goes on" | "ends"
+        "program sound" | "cycle" | "run" | "goes on" | "ends" | "merge" | "conclude"
     ) {
         return Ok(report(alloc, tables, word, behind)?);
     }

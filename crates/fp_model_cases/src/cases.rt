@@ -41,7 +41,7 @@ fn is_of_edit(key: &str) -> bool {
 
 /// Whether a key names what is given to a case; each other one asks.
 pub fn is_given(key: &str) -> bool {
-    matches!(key, "base" | "topology" | "program" | "turns") || is_of_edit(key)
+    matches!(key, "base" | "topology" | "program" | "turns" | "scenario") || is_of_edit(key)
 }
 
 fn line_of<'a>(alloc: Global, text: &'a str) -> Result<Line<'a>, NoMemory> {

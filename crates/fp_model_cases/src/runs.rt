@@ -2,6 +2,7 @@ ghost use Rattle.std.specs.Prelude.{Some};
 ghost use Rattle.fp_tables.specs.Sound.{IsSoundFor};
 ghost use Rattle.fp_tables.specs.SoundPrograms.{IsSoundProgram};
 
+use crate::kept::add_kept;
 use crate::listings::on_one_line;
 use crate::turns::{add_turn, take_turns, turn_of};
 use fp_base::{NoMemory, Row, Text};
@@ -67,7 +68,7 @@ fn log_of(alloc: Global, histories: Row<Row<Entry>>) -> Result<Row<Entry>, NoMem
 }
 
 /// Adds the text of entries and an end, with blanks in place of newlines.
-fn add_log(
+pub fn add_log(
     alloc: Global,
     tables: &Tables,
     program: &Program,
@@ -178,7 +179,7 @@ fn play(
 }
 
 /// The log of the run in which actors take these turns, or take these and then the runner goes on, or what one more turn of each
-/// comes to; the question says which.
+/// comes to, or what the records of that run are merged to, or concluded with; the question says which.
 pub fn played(
     alloc: Global,
     tables: &Tables,
@@ -194,7 +195,11 @@ pub fn played(
         return Ok(out);
     }
     if sound {
-        play(alloc, tables, program, turns, question, &mut out)?;
+        if matches!(question, "merge" | "conclude") {
+            add_kept(alloc, tables, program, turns, question, &mut out)?;
+        } else {
+            play(alloc, tables, program, turns, question, &mut out)?;
+        }
     }
     Ok(out)
 }

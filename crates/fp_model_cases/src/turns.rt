@@ -1,3 +1,6 @@
+ghost use Rattle.std.specs.Prelude.{OnOk};
+ghost use Rattle.fp_model_cases.specs.Staying.{IsOfSame};
+
 use fp_base::{NoMemory, Text};
 use fp_events::Why;
 use fp_running::{Running, Turn};
@@ -47,7 +50,9 @@ pub fn add_turn(alloc: Global, turn: Option<Turn>, out: &mut Text) -> Result<(),
 }
 
 /// A turn of the actor of a number, if there is one.
-pub fn turn_of(alloc: Global, run: &mut Running<'_>, actor: u32) -> Result<Option<Turn>, NoMemory> {
+pub fn turn_of(alloc: Global, run: &mut Running<'_>, actor: u32) -> Result<Option<Turn>, NoMemory>
+    ensures { OnOk result (IsOfSame run.old run.new) }
+{
     if actor < run.actor_count() {
         let turn = run.turn(alloc, actor)?;
         return Ok(Some(turn));
@@ -62,7 +67,9 @@ fn take_turn(
     actor: u32,
     due: &str,
     out: &mut Text,
-) -> Result<(), NoMemory> {
+) -> Result<(), NoMemory>
+    ensures { OnOk result (IsOfSame run.old run.new) }
+{
     let turn = turn_of(alloc, run, actor)?;
     let mut came = Text::new(alloc);
     add_turn(alloc, turn, &mut came)?;
@@ -80,7 +87,9 @@ fn take_some(
     actor: u32,
     due: &str,
     out: &mut Text,
-) -> Result<(), NoMemory> {
+) -> Result<(), NoMemory>
+    ensures { OnOk result (IsOfSame run.old run.new) }
+{
     let Ok(steps) = due.parse::<u32>() else {
         return take_turn(alloc, run, actor, due, out);
     };
@@ -96,7 +105,9 @@ pub fn take_turns(
     run: &mut Running<'_>,
     turns: &str,
     out: &mut Text,
-) -> Result<(), NoMemory> {
+) -> Result<(), NoMemory>
+    ensures { OnOk result (IsOfSame run.old run.new) }
+{
     if turns.is_empty() {
         return Ok(());
     }
