@@ -82,7 +82,7 @@ fn default_result(
 fn defaults(alloc: Global, tables: &Tables, formals: &[Formal]) -> Result<Row<Value>, NoMemory>
     ensures { IfOk result (λ vs. vs ≡ map (λ f. default_of_kind tables.now f.kind) formals.now) }
 {
-    let mut values = Row::new(alloc);
+    let mut values = Row::with_capacity(alloc, formals.len())?;
     for formal in formals {
         values.push(default_value(alloc, tables, formal.kind)?)?;
     }

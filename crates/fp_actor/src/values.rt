@@ -441,7 +441,7 @@ impl<'v> View<'v> {
         requires { IsWithin (length bindings.now) level }
         ensures { IfOk result (λ vs. vs ≡ values_of (bindings_of self.now bindings.now level) args.now) }
     {
-        let mut values = Row::new(alloc);
+        let mut values = Row::with_capacity(alloc, args.len())?;
         for arg in args {
             values.push(self.argument(alloc, level, bindings, arg)?)?;
         }

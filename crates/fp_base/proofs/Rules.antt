@@ -3,11 +3,11 @@ use Rattle.std.proofs.Common.{◌≡◌, ℕ, List, [], ◌∷◌, Some, sym, ap
 use Rattle.std.specs.Prelude.{slice_get}
 use Rattle.fp_base.specs.Rules.{row}
 use Rattle.fp_base.specs.declared.rule.Rule.{Rule}
-use Rattle.fp_base.specs.declared.rule.Rule.TheVariants.{BadCharacter, OpenString, BadEscape, NumberTooLarge, TextTooLong, UnexpectedToken, NestingTooDeep, FormLeftOut, DefinedTwice, Undefined, WrongKindOfName, BadInclude, FloatUsed, Outside128Bits, ZeroDivisor, OperandKind, Cycle, BadConversion, OutsideType, ArraySize, EnumValuesAllOrNone, EnumValueRepeated, BadMember, StringSize, FieldCount, FieldKind, LoneBrace, ValueTooLarge, ChainTooLong, ParameterRepeated, AsyncWithReturn, QueueWordNotAllowed, PortSize, PortNameRepeated, SpecialPort, PriorityRange, NameRepeated, IdRepeated, IdPast32Bits, RefParameter, BadLimits, BadThrottle, PassiveWithQueueUse, QueueWithoutUse, SpecialPortMissing, BadMatch, InitialCount, InitialLeavesState, SignalTwice, ChoiceCycle, Unreachable, TypedValue, UndefinedInMachine, MachineNameRepeated, MachineTooLarge, ExternalMachine, QueueSize, ForActiveAlone, RangesOverlap, NumberOutOfRange, BadInstance, BadDirection, TypesDiffer, PatternPort, ImportCycle, PortMissing, PortNumberRange, OutputNumberTwice, MatchPairMissing, MatchPairRepeated, MatchNumbersDiffer, NoNumberFree, NotJson, UnknownKey, WrongKindOfValue, MissingKey, PastSize, UnknownName, BadArgument, NoWire, SynchronousCycle, LockCycle, BadReturn, BadDispatch, ScenarioRepeated, ActionNotAllowed}
+use Rattle.fp_base.specs.declared.rule.Rule.TheVariants.{BadCharacter, OpenString, BadEscape, NumberTooLarge, TextTooLong, UnexpectedToken, NestingTooDeep, FormLeftOut, DefinedTwice, Undefined, WrongKindOfName, BadInclude, FloatUsed, Outside128Bits, ZeroDivisor, OperandKind, Cycle, BadConversion, OutsideType, ArraySize, EnumValuesAllOrNone, EnumValueRepeated, BadMember, StringSize, FieldCount, FieldKind, LoneBrace, ValueTooLarge, ChainTooLong, ParameterRepeated, AsyncWithReturn, QueueWordNotAllowed, PortSize, PortNameRepeated, SpecialPort, PriorityRange, NameRepeated, IdRepeated, IdPast32Bits, RefParameter, BadLimits, BadThrottle, PassiveWithQueueUse, QueueWithoutUse, SpecialPortMissing, BadMatch, InterfaceCycle, InitialCount, InitialLeavesState, SignalTwice, ChoiceCycle, Unreachable, TypedValue, UndefinedInMachine, MachineNameRepeated, MachineTooLarge, ExternalMachine, QueueSize, ForActiveAlone, RangesOverlap, NumberOutOfRange, BadInstance, BadDirection, TypesDiffer, PatternPort, ImportCycle, PortMissing, PortNumberRange, OutputNumberTwice, MatchPairMissing, MatchPairRepeated, MatchNumbersDiffer, NoNumberFree, NotJson, UnknownKey, WrongKindOfValue, MissingKey, PastSize, UnknownName, BadArgument, NoWire, SynchronousCycle, LockCycle, BadReturn, BadDispatch, ScenarioRepeated, ActionNotAllowed}
 
 -- the rules by their rows; no rule stands in row 0
 rules : List Rule
-rules = BadCharacter ∷ BadCharacter ∷ OpenString ∷ BadEscape ∷ NumberTooLarge ∷ TextTooLong ∷ UnexpectedToken ∷ NestingTooDeep ∷ FormLeftOut ∷ DefinedTwice ∷ Undefined ∷ WrongKindOfName ∷ BadInclude ∷ FloatUsed ∷ Outside128Bits ∷ ZeroDivisor ∷ OperandKind ∷ Cycle ∷ BadConversion ∷ OutsideType ∷ ArraySize ∷ EnumValuesAllOrNone ∷ EnumValueRepeated ∷ BadMember ∷ StringSize ∷ FieldCount ∷ FieldKind ∷ LoneBrace ∷ ValueTooLarge ∷ ChainTooLong ∷ ParameterRepeated ∷ AsyncWithReturn ∷ QueueWordNotAllowed ∷ PortSize ∷ PortNameRepeated ∷ SpecialPort ∷ PriorityRange ∷ NameRepeated ∷ IdRepeated ∷ IdPast32Bits ∷ RefParameter ∷ BadLimits ∷ BadThrottle ∷ PassiveWithQueueUse ∷ QueueWithoutUse ∷ SpecialPortMissing ∷ BadMatch ∷ InitialCount ∷ InitialLeavesState ∷ SignalTwice ∷ ChoiceCycle ∷ Unreachable ∷ TypedValue ∷ UndefinedInMachine ∷ MachineNameRepeated ∷ MachineTooLarge ∷ ExternalMachine ∷ QueueSize ∷ ForActiveAlone ∷ RangesOverlap ∷ NumberOutOfRange ∷ BadInstance ∷ BadDirection ∷ TypesDiffer ∷ PatternPort ∷ ImportCycle ∷ PortMissing ∷ PortNumberRange ∷ OutputNumberTwice ∷ MatchPairMissing ∷ MatchPairRepeated ∷ MatchNumbersDiffer ∷ NoNumberFree ∷ NotJson ∷ UnknownKey ∷ WrongKindOfValue ∷ MissingKey ∷ PastSize ∷ UnknownName ∷ BadArgument ∷ NoWire ∷ SynchronousCycle ∷ LockCycle ∷ BadReturn ∷ BadDispatch ∷ ScenarioRepeated ∷ ActionNotAllowed ∷ []
+rules = BadCharacter ∷ BadCharacter ∷ OpenString ∷ BadEscape ∷ NumberTooLarge ∷ TextTooLong ∷ UnexpectedToken ∷ NestingTooDeep ∷ FormLeftOut ∷ DefinedTwice ∷ Undefined ∷ WrongKindOfName ∷ BadInclude ∷ FloatUsed ∷ Outside128Bits ∷ ZeroDivisor ∷ OperandKind ∷ Cycle ∷ BadConversion ∷ OutsideType ∷ ArraySize ∷ EnumValuesAllOrNone ∷ EnumValueRepeated ∷ BadMember ∷ StringSize ∷ FieldCount ∷ FieldKind ∷ LoneBrace ∷ ValueTooLarge ∷ ChainTooLong ∷ ParameterRepeated ∷ AsyncWithReturn ∷ QueueWordNotAllowed ∷ PortSize ∷ PortNameRepeated ∷ SpecialPort ∷ PriorityRange ∷ NameRepeated ∷ IdRepeated ∷ IdPast32Bits ∷ RefParameter ∷ BadLimits ∷ BadThrottle ∷ PassiveWithQueueUse ∷ QueueWithoutUse ∷ SpecialPortMissing ∷ BadMatch ∷ InterfaceCycle ∷ InitialCount ∷ InitialLeavesState ∷ SignalTwice ∷ ChoiceCycle ∷ Unreachable ∷ TypedValue ∷ UndefinedInMachine ∷ MachineNameRepeated ∷ MachineTooLarge ∷ ExternalMachine ∷ QueueSize ∷ ForActiveAlone ∷ RangesOverlap ∷ NumberOutOfRange ∷ BadInstance ∷ BadDirection ∷ TypesDiffer ∷ PatternPort ∷ ImportCycle ∷ PortMissing ∷ PortNumberRange ∷ OutputNumberTwice ∷ MatchPairMissing ∷ MatchPairRepeated ∷ MatchNumbersDiffer ∷ NoNumberFree ∷ NotJson ∷ UnknownKey ∷ WrongKindOfValue ∷ MissingKey ∷ PastSize ∷ UnknownName ∷ BadArgument ∷ NoWire ∷ SynchronousCycle ∷ LockCycle ∷ BadReturn ∷ BadDispatch ∷ ScenarioRepeated ∷ ActionNotAllowed ∷ []
 
 rule_of-row : (a : Rule) → slice_get rules (row a) ≡ Some a
 unfolding rules
@@ -57,6 +57,7 @@ rule_of-row PassiveWithQueueUse = refl
 rule_of-row QueueWithoutUse = refl
 rule_of-row SpecialPortMissing = refl
 rule_of-row BadMatch = refl
+rule_of-row InterfaceCycle = refl
 rule_of-row InitialCount = refl
 rule_of-row InitialLeavesState = refl
 rule_of-row SignalTwice = refl

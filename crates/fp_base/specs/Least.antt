@@ -54,6 +54,15 @@ Either P Q f = P f ⊎ Q f
 abbrev pub Phased : (Refusal → Type 0) → (Refusal → Type 0) → Refusal → Type 0
 Phased P Q f = P f ⊎ (Q f × ((g : Refusal) → P g → ⊥))
 
+-- the rule at the place, where something is so
+abbrev pub BrokenAt : Rule → Place → Type 0 → Refusal → Type 0
+BrokenAt rule place Q f = (f ≡ broken_at rule place) × Q
+
+-- broken by what is there
+abbrev pub ByOptional : {A : Type 0} → (A → Refusal → Type 0) → Option A → Refusal → Type 0
+ByOptional P None f = ⊥
+ByOptional P (Some x) f = P x f
+
 -- broken by the element k
 abbrev pub InOne : {A : Type 0} → ℕ → (ℕ → A → Refusal → Type 0) → List A → Refusal → Type 0
 InOne {A = A} k P xs f = (x : A) × (slice_get xs k ≡ Some x) × P k x f

@@ -97,6 +97,8 @@ pub enum Rule {
     SpecialPortMissing,
     /// K4: a match not of two different general ports of one size.
     BadMatch,
+    /// K5: an interface imports itself, through others or not.
+    InterfaceCycle,
     /// S1: not one initial transition in a machine or in a state that holds states or choices, or any in another state.
     InitialCount,
     /// S2: through choices an initial transition reaches a state that isn't properly inside its own.
@@ -231,6 +233,7 @@ impl Rule {
             Rule::QueueWithoutUse => "K2 queue without use",
             Rule::SpecialPortMissing => "K3 special port missing",
             Rule::BadMatch => "K4 bad match",
+            Rule::InterfaceCycle => "K5 interface cycle",
             Rule::InitialCount => "S1 initial count",
             Rule::InitialLeavesState => "S2 initial leaves its state",
             Rule::SignalTwice => "S3 signal twice",

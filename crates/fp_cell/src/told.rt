@@ -54,7 +54,7 @@ impl Told {
 pub(crate) fn copy_values(alloc: Global, values: &Row<Value>) -> Result<Row<Value>, NoMemory>
     ensures { IfOk result (λ row. row ≡ values.now) }
 {
-    let mut copies = Row::new(alloc);
+    let mut copies = Row::with_capacity(alloc, values.len())?;
     for value in values.as_slice() {
         copies.push(value.copy(alloc)?)?;
     }

@@ -5,6 +5,7 @@ use Rattle.fp_base.specs.declared.refusal.Refusal.{Refusal}
 use Rattle.fp_base.specs.declared.rule.Rule.{Rule}
 use Rattle.fp_base.specs.declared.rule.Rule.TheVariants.{ParameterRepeated, QueueWordNotAllowed, PriorityRange, NameRepeated, IdRepeated, IdPast32Bits, RefParameter, BadLimits, BadThrottle}
 use Rattle.fp_base.specs.Least.{broken_at, Either, InSome}
+pub use Rattle.fp_base.specs.Least.{BrokenAt, ByOptional}
 use Rattle.fp_tree.specs.declared.dictionary.Color.{Color}
 use Rattle.fp_tree.specs.declared.dictionary.CommandKind.{CommandKind}
 use Rattle.fp_tree.specs.declared.dictionary.CommandKind.TheVariants.{Async}
@@ -27,15 +28,6 @@ use Rattle.fp_dictdefs.specs.declared.listed.Listed.{Listed}
 use Rattle.fp_dictdefs.specs.Ids.{HasId}
 use Rattle.fp_dictdefs.specs.Listed.{commands_in, events_in, channels_in, params_in}
 use Rattle.fp_dictdefs.specs.Repeated.{HasPart, IsRepeated}
-
--- the rule at the place, where something is so
-abbrev pub BrokenAt : Rule → Place → Type 0 → Refusal → Type 0
-BrokenAt rule place Q f = (f ≡ broken_at rule place) × Q
-
--- broken by what is there
-abbrev pub ByOptional : {A : Type 0} → (A → Refusal → Type 0) → Option A → Refusal → Type 0
-ByOptional P None f = ⊥
-ByOptional P (Some x) f = P x f
 
 abbrev pub is_within : ℤ → ℤ → ℤ → Bool
 is_within low high n = int_le low n && int_le n high

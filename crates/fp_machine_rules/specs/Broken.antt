@@ -5,6 +5,7 @@ use Rattle.fp_base.specs.declared.refusal.Refusal.{Refusal}
 use Rattle.fp_base.specs.declared.rule.Rule.{Rule}
 use Rattle.fp_base.specs.declared.rule.Rule.TheVariants.{InitialCount, InitialLeavesState, SignalTwice, ChoiceCycle, Unreachable, TypedValue, UndefinedInMachine, MachineNameRepeated, MachineTooLarge}
 use Rattle.fp_base.specs.Least.{broken_at, Either, InSome}
+pub use Rattle.fp_base.specs.Least.{BrokenAt}
 use Rattle.fp_machine_rules.specs.declared.item.Item.{Item}
 use Rattle.fp_machine_rules.specs.declared.item.Use.{Use}
 use Rattle.fp_machine_rules.specs.declared.item.Meaning.{Meaning}
@@ -16,10 +17,6 @@ use Rattle.fp_machine_rules.specs.Reached.{IsUnreached}
 use Rattle.fp_machine_rules.specs.Repeated.{Repeats, name_of, signal_of, entry_of, exit_of, declared_signal, declared_action, declared_guard}
 use Rattle.fp_machine_rules.specs.Through.{IsOnRing, LeavesItsState}
 use Rattle.fp_machine_rules.specs.Values.{IsMisgiven}
-
--- the rule at the place, where something is so
-abbrev pub BrokenAt : Rule → Place → Type 0 → Refusal → Type 0
-BrokenAt rule place Q f = (f ≡ broken_at rule place) × Q
 
 -- the rule at the place of each element of which something is so
 abbrev pub AtEach : {A : Type 0} → Rule → (A → Place) → List A → (ℕ → Type 0) → Refusal → Type 0

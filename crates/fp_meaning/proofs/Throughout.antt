@@ -101,7 +101,7 @@ module _ (P : List Item → Type 0) (none : P []) (joined : (xs ys : List Item) 
   pub all_exactly : (source : Source) → P (items source)
   all_exactly source = throughout (λ (u : File). in_members [] u.members) (λ u. throughout (in_member []) (λ m. of_member m []) u.members) source.units
 
-since_model : (scope : Path) (d : ModelDef) → AllSince 0 (model_own_items scope d)
+pub since_model : (scope : Path) (d : ModelDef) → AllSince 0 (model_own_items scope d)
 since_model scope (machine d) = since_behavior scope d.behavior
 since_model scope (component d) = since_each (own_items (component_scope scope d)) (since_own (component_scope scope d)) d.parts
 since_model scope (interface d) = since_each (interface_part_items scope) (since_interface scope) d.parts

@@ -6,6 +6,7 @@ use Rattle.fp_base.specs.declared.refusal.Refusal.{Refusal}
 use Rattle.fp_base.specs.declared.rule.Rule.{Rule}
 use Rattle.fp_base.specs.declared.rule.Rule.TheVariants.{ParameterRepeated, AsyncWithReturn, QueueWordNotAllowed, PortSize, SpecialPort, PriorityRange}
 use Rattle.fp_base.specs.Least.{broken_at, Either, InSome}
+pub use Rattle.fp_base.specs.Least.{BrokenAt, ByOptional}
 use Rattle.fp_written_parts.specs.declared.port.Given.{Given}
 use Rattle.fp_written_parts.specs.declared.port.QueueWords.{QueueWords}
 use Rattle.fp_written_parts.specs.declared.port.WrittenFormal.{WrittenFormal}
@@ -16,15 +17,6 @@ use Rattle.fp_written_parts.specs.declared.member.WrittenMember.{WrittenMember}
 use Rattle.fp_written_parts.specs.declared.member.WrittenMember.TheVariants.{Port, Running}
 use Rattle.fp_written_parts.specs.declared.member.WrittenInterface.{WrittenInterface}
 use Rattle.fp_written_parts.specs.declared.member.WrittenComponent.{WrittenComponent}
-
--- the rule at the place, where something is so
-abbrev pub BrokenAt : Rule → Place → Type 0 → Refusal → Type 0
-BrokenAt rule place Q f = (f ≡ broken_at rule place) × Q
-
--- broken by what is there
-abbrev pub ByOptional : {A : Type 0} → (A → Refusal → Type 0) → Option A → Refusal → Type 0
-ByOptional P None f = ⊥
-ByOptional P (Some x) f = P x f
 
 -- a number is there, and is below the low one or above the high one
 abbrev pub IsOutside : ℤ → ℤ → Option ℤ → Type 0

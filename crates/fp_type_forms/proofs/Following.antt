@@ -16,10 +16,10 @@ use Rattle.fp_tree.specs.declared.part.Field.{Field}
 use Rattle.fp_tree.specs.declared.part.Formal.{Formal}
 use Rattle.fp_meaning.specs.declared.item.Item.{Item}
 use Rattle.fp_meaning.specs.declared.item.Item.TheVariants as item
-use Rattle.fp_meaning.specs.Sites.{Path, Site, ModelDef, machine, component, interface, instance, topology, Declaration, declaration, in_optional}
-use Rattle.fp_meaning.specs.Layout.{component_scope, own_items, interface_part_items, topology_member_items, model_own_items, expression_items, type_form_items, type_items, field_items, formal_items, constant_items, part_items, items_in, items}
-use Rattle.fp_meaning.proofs.Since.{AllSince, since_each, since_behavior, since_own, since_interface, since_instance, since_topology}
-use Rattle.fp_meaning.proofs.Throughout.{all_items, all_exactly}
+use Rattle.fp_meaning.specs.Sites.{Path, Site, ModelDef, Declaration, declaration, in_optional}
+use Rattle.fp_meaning.specs.Layout.{model_own_items, expression_items, type_form_items, type_items, field_items, formal_items, constant_items, part_items, items_in, items}
+use Rattle.fp_meaning.proofs.Since.{AllSince}
+use Rattle.fp_meaning.proofs.Throughout.{all_items, all_exactly, since_model}
 
 -- ---- no definition stands among the parts of one
 
@@ -126,18 +126,11 @@ owned_definition : (scope : Path) (d : Def) → AreOwned (items_in scope d)
 owned_definition scope d zero e at = absurd (cc)
 owned_definition scope d (suc k) e at = absurd (of_item IsPart (part_items scope d) k (item.Declared e) (are_parts scope d) at)
 
-own_since : (scope : Path) (d : ModelDef) → AllSince 0 (model_own_items scope d)
-own_since scope (machine d) = since_behavior scope d.behavior
-own_since scope (component d) = since_each (own_items (component_scope scope d)) (since_own (component_scope scope d)) d.parts
-own_since scope (interface d) = since_each (interface_part_items scope) (since_interface scope) d.parts
-own_since scope (instance d) = since_instance scope d
-own_since scope (topology d) = since_each (topology_member_items scope) (since_topology scope) d.members
-
 owned_declared : (scope : Path) (d : ModelDef) → AreOwned (item.Declared (declaration scope d) ∷ model_own_items scope d)
 owned_declared scope d zero e at =
     ([], sym (append-nil (model_own_items scope d)) ∙ ap (λ (t : Declaration). model_own_items t.scope t.definition ++ []) (same_declaration at))
 owned_declared scope d (suc k) e at =
-    absurd (of_item IsPart (model_own_items scope d) k (item.Declared e) (since_parts 0 (model_own_items scope d) (own_since scope d)) at)
+    absurd (of_item IsPart (model_own_items scope d) k (item.Declared e) (since_parts 0 (model_own_items scope d) (since_model scope d)) at)
 
 pub items_owned : (source : Source) → AreOwned (items source)
 items_owned source =

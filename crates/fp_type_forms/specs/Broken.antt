@@ -9,6 +9,7 @@ use Rattle.fp_base.specs.declared.rule.Rule.{Rule}
 use Rattle.fp_base.specs.declared.rule.Rule.TheVariants.{FloatUsed, BadConversion, OutsideType, ArraySize, EnumValuesAllOrNone, EnumValueRepeated, BadMember, StringSize}
 use Rattle.fp_base.specs.declared.value.Value.{Value}
 use Rattle.fp_base.specs.Least.{broken_at, Either, InSome, IsLeast}
+pub use Rattle.fp_base.specs.Least.{ByOptional}
 use Rattle.fp_tree.specs.declared.source.Source.{Source}
 use Rattle.fp_tree.specs.declared.name.Name.{Name}
 use Rattle.fp_tree.specs.declared.definition.Def.{Def}
@@ -54,11 +55,6 @@ abbrev pub IsMixed : Enum → Refusal → Type 0
 IsMixed d f = (f ≡ broken_at EnumValuesAllOrNone d.name.at.first) × HasBoth d
 
 -- ---- rules of type names, of sizes and of the numbers of enumerated constants
-
--- by what may be left out
-abbrev pub ByOptional : {A : Type 0} → (A → Refusal → Type 0) → Option A → Refusal → Type 0
-ByOptional P None f = ⊥
-ByOptional P (Some x) f = P x f
 
 -- what is found of a value in the place of a size
 abbrev pub number_fault : Rule → ℕ → Place → Option ℤ → Option Refusal
