@@ -9,6 +9,8 @@ pub struct WrittenCommand {
     pub name: Text,
     /// Where its name begins.
     pub at: Place,
+    /// Where it begins itself.
+    pub begins: Place,
     pub kind: CommandKind,
     pub formals: Row<WrittenFormal>,
     pub opcode: Option<Given>,

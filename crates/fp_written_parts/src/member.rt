@@ -18,6 +18,8 @@ pub struct WrittenRunning {
     pub name: Text,
     /// Where its name begins.
     pub at: Place,
+    /// Where it begins itself.
+    pub begins: Place,
     /// The position of its machine among the state machines of the source.
     pub machine: u32,
     pub queue: QueueWords,

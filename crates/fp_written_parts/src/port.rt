@@ -30,6 +30,15 @@ pub struct WrittenFormal {
     pub note: Text,
 }
 
+/// The definition of a port.
+#[derive(Drop)]
+pub struct WrittenPortDef {
+    /// Its qualified name.
+    pub name: Text,
+    pub formals: Row<WrittenFormal>,
+    pub result: Option<Kind>,
+}
+
 /// What a port is for, and who runs what comes in.
 #[derive(Clone, Copy)]
 pub enum WrittenRole {
@@ -47,6 +56,8 @@ pub struct WrittenPort {
     pub name: Text,
     /// Where its name begins.
     pub at: Place,
+    /// Where it begins itself.
+    pub begins: Place,
     pub role: WrittenRole,
     /// None where none is written.
     pub size: Option<Given>,
