@@ -1,6 +1,6 @@
--- The rules that a port, or an instance of a state machine, breaks by itself, and where each is broken. FPP Language Specification, "Port Instance
--- Specifiers", "Internal Port Specifiers", "State Machine Instance Specifiers".
-use Rattle.std.specs.Prelude.{◌≡◌, ℕ, ◌<◌, ◌^◌, ◌-◌, ◌⊎◌, ℤ, pos, negsuc, ◌<ℤ◌, Bool, true, List, slice_get, Option, None, Some}
+-- The rules that the definition of a port, a port, or an instance of a state machine breaks by itself, and where each is broken. FPP Language
+-- Specification, "Port Definitions", "Port Instance Specifiers", "Internal Port Specifiers", "State Machine Instance Specifiers".
+use Rattle.std.specs.Prelude.{◌≡◌, ℕ, ◌<◌, ◌^◌, ◌-◌, ◌⊎◌, ℤ, pos, negsuc, ◌<ℤ◌, true, is_some, List, slice_get, Option, None, Some}
 use Rattle.fp_base.specs.declared.place.Place.{Place}
 use Rattle.fp_base.specs.declared.refusal.Refusal.{Refusal}
 use Rattle.fp_base.specs.declared.rule.Rule.{Rule}
@@ -13,6 +13,7 @@ use Rattle.fp_written_parts.specs.declared.port.WrittenFormal.{WrittenFormal}
 use Rattle.fp_written_parts.specs.declared.port.WrittenRole.{WrittenRole}
 use Rattle.fp_written_parts.specs.declared.port.WrittenRole.TheVariants.{AsyncInput, Special, Internal}
 use Rattle.fp_written_parts.specs.declared.port.WrittenPort.{WrittenPort}
+use Rattle.fp_written_parts.specs.declared.port.WrittenPortDef.{WrittenPortDef}
 use Rattle.fp_written_parts.specs.declared.member.WrittenMember.{WrittenMember}
 use Rattle.fp_written_parts.specs.declared.member.WrittenMember.TheVariants.{Port, Running}
 use Rattle.fp_written_parts.specs.declared.member.WrittenInterface.{WrittenInterface}
@@ -25,7 +26,7 @@ IsOutside low high number = (n : ℤ) × (number ≡ Some n) × ((n <ℤ low) �
 abbrev pub OutsideAt : Rule → ℤ → ℤ → Given → Refusal → Type 0
 OutsideAt rule low high given = BrokenAt rule given.at (IsOutside low high given.number)
 
--- ---- parameters of an internal port
+-- ---- parameters of a definition or of an internal port
 
 -- an earlier parameter has the name of the k-th
 abbrev pub HasName : List WrittenFormal → ℕ → List ℕ → Type 0
@@ -44,17 +45,21 @@ abbrev pub BrokenFormals : WrittenRole → List WrittenFormal → Refusal → Ty
 BrokenFormals Internal ps = RepeatedFormals ps
 BrokenFormals _ ps = λ f. ⊥
 
--- ---- the definition of a port
+-- in a definition
+abbrev pub BrokenPortDef : ℕ → WrittenPortDef → Refusal → Type 0
+BrokenPortDef k d = RepeatedFormals d.formals
 
--- the definition has a result, by what each definition has
-abbrev pub HasResult : List Bool → Option ℕ → Type 0
-HasResult results of = (k : ℕ) × (of ≡ Some k) × (slice_get results k ≡ Some true)
+-- ---- the definition that a port has
+
+-- it has a result
+abbrev pub HasResult : List WrittenPortDef → Option ℕ → Type 0
+HasResult definitions of = (k : ℕ) × (d : WrittenPortDef) × (of ≡ Some k) × (slice_get definitions k ≡ Some d) × (is_some d.result ≡ true)
 
 -- one with a result, of an async input; none, of a special port
-abbrev pub BrokenDefinition : List Bool → WrittenRole → Option ℕ → Place → Refusal → Type 0
-BrokenDefinition results AsyncInput of place = BrokenAt AsyncWithReturn place (HasResult results of)
-BrokenDefinition results (Special kind) of place = BrokenAt SpecialPort place (of ≡ None)
-BrokenDefinition results _ of place = λ f. ⊥
+abbrev pub BrokenDefinition : List WrittenPortDef → WrittenRole → Option ℕ → Place → Refusal → Type 0
+BrokenDefinition definitions AsyncInput of place = BrokenAt AsyncWithReturn place (HasResult definitions of)
+BrokenDefinition definitions (Special kind) of place = BrokenAt SpecialPort place (of ≡ None)
+BrokenDefinition definitions _ of place = λ f. ⊥
 
 -- ---- what is written of the queue
 
@@ -78,24 +83,25 @@ BrokenSize size = ByOptional (OutsideAt PortSize (pos 1) (pos 1024)) size
 
 -- ---- a member, and all of them
 
-abbrev pub BrokenPort : List Bool → WrittenPort → Refusal → Type 0
-BrokenPort results p =
-    Either (Either (BrokenFormals p.role p.formals) (BrokenDefinition results p.role p.of p.at)) (Either (BrokenQueue p.role p.queue) (BrokenSize p.size))
+abbrev pub BrokenPort : List WrittenPortDef → WrittenPort → Refusal → Type 0
+BrokenPort definitions p =
+    Either (Either (BrokenFormals p.role p.formals) (BrokenDefinition definitions p.role p.of p.at)) (Either (BrokenQueue p.role p.queue) (BrokenSize p.size))
 
-abbrev pub BrokenMember : List Bool → WrittenMember → Refusal → Type 0
-BrokenMember results (Port p) = BrokenPort results p
-BrokenMember results (Running r) = BrokenPriority r.queue.priority
-BrokenMember results _ = λ f. ⊥
+abbrev pub BrokenMember : List WrittenPortDef → WrittenMember → Refusal → Type 0
+BrokenMember definitions (Port p) = BrokenPort definitions p
+BrokenMember definitions (Running r) = BrokenPriority r.queue.priority
+BrokenMember definitions _ = λ f. ⊥
 
-abbrev pub BrokenMembers : List Bool → List WrittenMember → Refusal → Type 0
-BrokenMembers results members = InSome (λ k. BrokenMember results) members
+abbrev pub BrokenMembers : List WrittenPortDef → List WrittenMember → Refusal → Type 0
+BrokenMembers definitions members = InSome (λ k. BrokenMember definitions) members
 
-abbrev pub InterfaceBroken : List Bool → ℕ → WrittenInterface → Refusal → Type 0
-InterfaceBroken results k i = BrokenMembers results i.members
+abbrev pub InterfaceBroken : List WrittenPortDef → ℕ → WrittenInterface → Refusal → Type 0
+InterfaceBroken definitions k i = BrokenMembers definitions i.members
 
-abbrev pub ComponentBroken : List Bool → ℕ → WrittenComponent → Refusal → Type 0
-ComponentBroken results k c = BrokenMembers results c.members
+abbrev pub ComponentBroken : List WrittenPortDef → ℕ → WrittenComponent → Refusal → Type 0
+ComponentBroken definitions k c = BrokenMembers definitions c.members
 
--- in some interface or component
-abbrev pub PortsBroken : List Bool → List WrittenInterface → List WrittenComponent → Refusal → Type 0
-PortsBroken results interfaces components = Either (InSome (InterfaceBroken results) interfaces) (InSome (ComponentBroken results) components)
+-- in some definition, interface or component
+abbrev pub PortsBroken : List WrittenPortDef → List WrittenInterface → List WrittenComponent → Refusal → Type 0
+PortsBroken definitions interfaces components =
+    Either (InSome BrokenPortDef definitions) (Either (InSome (InterfaceBroken definitions) interfaces) (InSome (ComponentBroken definitions) components))

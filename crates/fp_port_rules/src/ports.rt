@@ -1,4 +1,5 @@
-ghost use Rattle.std.specs.Prelude.{◌≡◌, ◌↔◌, None, IfOk, IsTrue};
+ghost use Rattle.std.specs.Prelude.{◌≡◌, ◌↔◌, None, Some, true, is_some, slice_get, IfOk, IsTrue};
+ghost use Rattle.fp_written_parts.specs.declared.port.WrittenPortDef.{WrittenPortDef as Definition};
 ghost use Rattle.fp_base.specs.Least.{IsLeast};
 ghost use Rattle.fp_base.specs.declared.rule.Rule.TheVariants.{AsyncWithReturn, SpecialPort};
 ghost use Rattle.fp_port_rules.specs.Broken.{BrokenAt, BrokenDefinition, BrokenFormals, BrokenMember, BrokenPort, BrokenQueue, BrokenWord, HasResult};
@@ -6,19 +7,21 @@ ghost use Rattle.fp_port_rules.specs.Broken.{BrokenAt, BrokenDefinition, BrokenF
 use crate::formals::repeated_formal;
 use crate::numbers::{priority_fault, size_fault};
 use fp_base::{NoMemory, Place, Refusal, Rule, lesser, refusal_at, refusal_if};
-use fp_written_parts::{QueueWords, WrittenFormal, WrittenMember, WrittenPort, WrittenRole};
+use fp_written_parts::{
+    QueueWords, WrittenFormal, WrittenMember, WrittenPort, WrittenPortDef, WrittenRole,
+};
 use std::alloc::Global;
 
 /// The least rule that a member breaks by itself.
 pub fn member_fault(
     alloc: Global,
-    results: &[bool],
+    definitions: &[WrittenPortDef],
     member: &WrittenMember,
 ) -> Result<Option<Refusal>, NoMemory>
-    ensures { IfOk result (IsLeast (BrokenMember results.now member.now)) }
+    ensures { IfOk result (IsLeast (BrokenMember definitions.now member.now)) }
 {
     match member {
-        WrittenMember::Port(port) => port_fault(alloc, results, port.get()),
+        WrittenMember::Port(port) => port_fault(alloc, definitions, port.get()),
         WrittenMember::Import(_) => Ok(None),
         WrittenMember::Command(_) => Ok(None),
         WrittenMember::Event(_) => Ok(None),
@@ -31,13 +34,13 @@ pub fn member_fault(
 
 fn port_fault(
     alloc: Global,
-    results: &[bool],
+    definitions: &[WrittenPortDef],
     port: &WrittenPort,
 ) -> Result<Option<Refusal>, NoMemory>
-    ensures { IfOk result (IsLeast (BrokenPort results.now port.now)) }
+    ensures { IfOk result (IsLeast (BrokenPort definitions.now port.now)) }
 {
     let formals = formals_fault(alloc, port.role, port.formals.as_slice())?;
-    let definition = definition_fault(results, port.role, port.of, port.at);
+    let definition = definition_fault(definitions, port.role, port.of, port.at);
     let queue = queue_fault(port.role, port.queue);
     let size = size_fault(port.size);
     let what = lesser(formals, definition);
@@ -63,15 +66,15 @@ fn formals_fault(
 }
 
 fn definition_fault(
-    results: &[bool],
+    definitions: &[WrittenPortDef],
     role: WrittenRole,
     of: Option<u32>,
     place: Place,
 ) -> Option<Refusal>
-    ensures { IsLeast (BrokenDefinition results.now role of place) result }
+    ensures { IsLeast (BrokenDefinition definitions.now role of place) result }
 {
     match role {
-        WrittenRole::AsyncInput => result_fault(results, of, place),
+        WrittenRole::AsyncInput => result_fault(definitions, of, place),
         WrittenRole::SyncInput => None,
         WrittenRole::GuardedInput => None,
         WrittenRole::Output => None,
@@ -80,17 +83,26 @@ fn definition_fault(
     }
 }
 
-fn result_fault(results: &[bool], of: Option<u32>, place: Place) -> Option<Refusal>
-    ensures { IsLeast (BrokenAt AsyncWithReturn place (HasResult results.now of)) result }
+fn result_fault(definitions: &[WrittenPortDef], of: Option<u32>, place: Place) -> Option<Refusal>
+    ensures { IsLeast (BrokenAt AsyncWithReturn place (HasResult definitions.now of)) result }
 {
-    refusal_if(has_result(results, of), Rule::AsyncWithReturn, place)
+    refusal_if(has_result(definitions, of), Rule::AsyncWithReturn, place)
 }
 
-fn has_result(results: &[bool], of: Option<u32>) -> bool
-    ensures { IsTrue result ↔ HasResult results.now of }
+fn has_result(definitions: &[WrittenPortDef], of: Option<u32>) -> bool
+    ensures { IsTrue result ↔ HasResult definitions.now of }
 {
     match of {
-        Some(at) => matches!(results.get(at as usize), Some(true)),
+        Some(at) => gives_result(definitions, at),
+        None => false,
+    }
+}
+
+fn gives_result(definitions: &[WrittenPortDef], at: u32) -> bool
+    ensures { IsTrue result ↔ ((d : Definition) × (slice_get definitions.now at ≡ Some d) × (is_some d.result ≡ true)) }
+{
+    match definitions.get(at as usize) {
+        Some(definition) => definition.result.is_some(),
         None => false,
     }
 }

@@ -8,17 +8,17 @@ use Rattle.fp_port_rules.proofs.Folding.{least_next, least_of_all}
 use Rattle.fp_port_rules.proofs.faults.components_fault.Goals as goal
 
 pub loop-component-init : goal.loop-component-init
-loop-component-init c = least_first_none (ComponentBroken c.args.results.now) c.args.components.now
+loop-component-init c = least_first_none (ComponentBroken c.args.definitions.now) c.args.components.now
 
 pub loop-component-preserved : goal.loop-component-preserved
 loop-component-preserved c =
-    let results = c.args.results.now in
+    let definitions = c.args.definitions.now in
     let all = c.args.components.now in
     let n = c.loop-component.component-index in
     let x = c.component-item.result in
     let at : slice_get all n ≡ Some x = slice_get_read all (length all) n x refl c.loop-component-test.true c.component-item.is in
-    least_next (ComponentBroken results) all n x c.loop-component.first c.lesser-first.result c.in_ok-fault.fault at c.lesser-first.ensures
-    (subst (λ (ms : List WrittenMember). IsLeast (BrokenMembers results ms) c.in_ok-fault.fault) c.as_slice.ensures c.in_ok-fault.ensures) c.loop-component.invariant
+    least_next (ComponentBroken definitions) all n x c.loop-component.first c.lesser-first.result c.in_ok-fault.fault at c.lesser-first.ensures
+    (subst (λ (ms : List WrittenMember). IsLeast (BrokenMembers definitions ms) c.in_ok-fault.fault) c.as_slice.ensures c.in_ok-fault.ensures) c.loop-component.invariant
 
 pub returns : goal.returns
-returns c = least_of_all (ComponentBroken c.args.results.now) c.args.components.now c.loop-component.component-index c.loop-component.first c.loop-component-test.false c.loop-component.invariant
+returns c = least_of_all (ComponentBroken c.args.definitions.now) c.args.components.now c.loop-component.component-index c.loop-component.first c.loop-component-test.false c.loop-component.invariant

@@ -3,4 +3,4 @@ use Rattle.fp_port_rules.specs.Broken.{ComponentBroken}
 use Rattle.fp_port_rules.proofs.faults.components_fault.Given as goal
 
 abbrev pub invariant-loop-component : goal.invariant-loop-component
-invariant-loop-component l = IsLeast (InFirst l.component-index (ComponentBroken l.results) l.components) l.first
+invariant-loop-component l = IsLeast (InFirst l.component-index (ComponentBroken l.definitions) l.components) l.first

@@ -8,17 +8,17 @@ use Rattle.fp_port_rules.proofs.Folding.{least_next, least_of_all}
 use Rattle.fp_port_rules.proofs.faults.interfaces_fault.Goals as goal
 
 pub loop-interface-init : goal.loop-interface-init
-loop-interface-init c = least_first_none (InterfaceBroken c.args.results.now) c.args.interfaces.now
+loop-interface-init c = least_first_none (InterfaceBroken c.args.definitions.now) c.args.interfaces.now
 
 pub loop-interface-preserved : goal.loop-interface-preserved
 loop-interface-preserved c =
-    let results = c.args.results.now in
+    let definitions = c.args.definitions.now in
     let all = c.args.interfaces.now in
     let n = c.loop-interface.interface-index in
     let x = c.interface-item.result in
     let at : slice_get all n ≡ Some x = slice_get_read all (length all) n x refl c.loop-interface-test.true c.interface-item.is in
-    least_next (InterfaceBroken results) all n x c.loop-interface.first c.lesser-first.result c.in_ok-fault.fault at c.lesser-first.ensures
-    (subst (λ (ms : List WrittenMember). IsLeast (BrokenMembers results ms) c.in_ok-fault.fault) c.as_slice.ensures c.in_ok-fault.ensures) c.loop-interface.invariant
+    least_next (InterfaceBroken definitions) all n x c.loop-interface.first c.lesser-first.result c.in_ok-fault.fault at c.lesser-first.ensures
+    (subst (λ (ms : List WrittenMember). IsLeast (BrokenMembers definitions ms) c.in_ok-fault.fault) c.as_slice.ensures c.in_ok-fault.ensures) c.loop-interface.invariant
 
 pub returns : goal.returns
-returns c = least_of_all (InterfaceBroken c.args.results.now) c.args.interfaces.now c.loop-interface.interface-index c.loop-interface.first c.loop-interface-test.false c.loop-interface.invariant
+returns c = least_of_all (InterfaceBroken c.args.definitions.now) c.args.interfaces.now c.loop-interface.interface-index c.loop-interface.first c.loop-interface-test.false c.loop-interface.invariant

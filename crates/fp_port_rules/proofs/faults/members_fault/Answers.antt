@@ -6,7 +6,7 @@ use Rattle.fp_port_rules.proofs.Folding.{least_next, least_of_all}
 use Rattle.fp_port_rules.proofs.faults.members_fault.Goals as goal
 
 pub loop-member-init : goal.loop-member-init
-loop-member-init c = least_first_none (λ (k : ℕ). BrokenMember c.args.results.now) c.args.members.now
+loop-member-init c = least_first_none (λ (k : ℕ). BrokenMember c.args.definitions.now) c.args.members.now
 
 pub loop-member-preserved : goal.loop-member-preserved
 loop-member-preserved c =
@@ -14,7 +14,7 @@ loop-member-preserved c =
     let n = c.loop-member.member-index in
     let x = c.member-item.result in
     let at : slice_get all n ≡ Some x = slice_get_read all (length all) n x refl c.loop-member-test.true c.member-item.is in
-    least_next (λ (k : ℕ). BrokenMember c.args.results.now) all n x c.loop-member.first c.lesser-first.result c.in_ok-fault.fault at c.lesser-first.ensures c.in_ok-fault.ensures c.loop-member.invariant
+    least_next (λ (k : ℕ). BrokenMember c.args.definitions.now) all n x c.loop-member.first c.lesser-first.result c.in_ok-fault.fault at c.lesser-first.ensures c.in_ok-fault.ensures c.loop-member.invariant
 
 pub returns : goal.returns
-returns c = least_of_all (λ (k : ℕ). BrokenMember c.args.results.now) c.args.members.now c.loop-member.member-index c.loop-member.first c.loop-member-test.false c.loop-member.invariant
+returns c = least_of_all (λ (k : ℕ). BrokenMember c.args.definitions.now) c.args.members.now c.loop-member.member-index c.loop-member.first c.loop-member-test.false c.loop-member.invariant

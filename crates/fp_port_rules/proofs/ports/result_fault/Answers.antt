@@ -6,4 +6,4 @@ use Rattle.fp_port_rules.proofs.ports.result_fault.Goals as goal
 
 pub returns : goal.returns
 returns c =
-    least_told (HasResult c.args.results.now c.args.of) c.has_result.result (broken_at AsyncWithReturn c.args.place) c.refusal_if.result c.has_result.ensures c.refusal_if.ensures
+    least_told (HasResult c.args.definitions.now c.args.of) c.has_result.result (broken_at AsyncWithReturn c.args.place) c.refusal_if.result c.has_result.ensures c.refusal_if.ensures
