@@ -71,7 +71,7 @@ module _ (source : Source) (scope : Path) where
   number_by e v h None is = least_only (broken_at BadConversion e.at.first) (refl, v, h.holds v refl, is) (λ f t. t.0)
   number_by e v h (Some n) is = least_none (λ f t. no_some (sym t.3 ∙ ap number_in (sym (same_some (h.only t.1 t.2))) ∙ is))
 
-  least_number : (e : Expr) (o : Option Value) → IsOnly (Val source scope (opened e)) o → IsLeast (IsNoNumber source scope e) (value_fault e.at.first o)
+  pub least_number : (e : Expr) (o : Option Value) → IsOnly (Val source scope (opened e)) o → IsLeast (IsNoNumber source scope e) (value_fault e.at.first o)
   least_number e None h = least_none (λ f t. no_some (h.only t.1 t.2))
   least_number e (Some v) h = number_by e v h (number_in v) refl
 

@@ -34,13 +34,13 @@ same_pos : {a b : ℕ} → pos a ≡ pos b → a ≡ b
 same_pos e = cc
 
 module _ (source : Source) (scope : Path) where
-  one_number : (e : Expr) (m n : ℤ) → NumberIs source scope e m → NumberIs source scope e n → m ≡ n
+  pub one_number : (e : Expr) (m n : ℤ) → NumberIs source scope e m → NumberIs source scope e n → m ≡ n
   one_number e m n h k = same_some (sym h.2 ∙ ap number_in (one_value h.1 k.1) ∙ k.2)
 
   one_size : (most : ℕ) (e : Expr) (m n : ℕ) → IsSizeTo source scope most e m → IsSizeTo source scope most e n → m ≡ n
   one_size most e m n h k = same_pos (one_number e (pos m) (pos n) h.number k.number)
 
-  one_kind : (t : TypeForm) (k l : Kind) → KindIs source scope t k → KindIs source scope t l → k ≡ l
+  pub one_kind : (t : TypeForm) (k l : Kind) → KindIs source scope t k → KindIs source scope t l → k ≡ l
   one_kind (type.Text None) k l h g = h ∙ sym g
   one_kind (type.Text (Some e)) k l h g = h.2 ∙ ap (λ (n : ℕ). kind.Str n) (one_size 65535 e h.0 g.0 h.1 g.1) ∙ sym g.2
   one_kind (type.Use q) k l h g =
@@ -96,7 +96,7 @@ module _ (source : Source) (scope : Path) where
   one_own (Some e) (own.Has v) (own.Has w) h g = ap (λ (u : Value). own.Has u) (one_value h g)
 
 -- two answers to what there is one of
-same_answer : {A : Type 0} (P : A → Type 0) (o q : Option A) → ((x y : A) → P x → P y → x ≡ y) → IsOnly P o → IsOnly P q → o ≡ q
+pub same_answer : {A : Type 0} (P : A → Type 0) (o q : Option A) → ((x y : A) → P x → P y → x ≡ y) → IsOnly P o → IsOnly P q → o ≡ q
 same_answer P None None one h k = refl
 same_answer P None (Some y) one h k = h.only y (k.holds y refl)
 same_answer P (Some x) q one h k = sym (k.only x (h.holds x refl))

@@ -53,8 +53,8 @@ pub fn fault_in(
     }
 }
 
-/// The least that is broken in the name of a type, at it or in the size of a string.
-fn name_fault(
+/// The least that is broken in the name of a type, at it or in the size of a string; what stands in it is passed.
+pub fn name_fault(
     name: &TypeName,
     resolutions: &[Resolution],
     marks: &[Option<Value>],
@@ -103,7 +103,8 @@ fn past_use(resolutions: &[Resolution], next: &mut usize) -> Option<Refusal>
     }
 }
 
-fn optional_name(
+/// The same where a type may be left out.
+pub fn optional_name(
     name: &Option<TypeName>,
     resolutions: &[Resolution],
     marks: &[Option<Value>],
@@ -285,7 +286,8 @@ fn fault_of_value(written: &Option<Expr>, value: Option<&Value>) -> Option<Refus
     }
 }
 
-fn if_no_number(place: Place, value: Option<&Value>) -> Option<Refusal>
+/// What is broken at an expression that begins at the place, in whose place a number is wanted.
+pub fn if_no_number(place: Place, value: Option<&Value>) -> Option<Refusal>
     ensures { result ≡ value_fault place (option_copied value.entry) }
 {
     match value {
@@ -340,7 +342,8 @@ fn port_fault(
     lesser(first, second)
 }
 
-fn formals_fault(
+/// The least that is broken in the types of formal parameters, which are passed.
+pub fn formals_fault(
     formals: &[Formal],
     resolutions: &[Resolution],
     marks: &[Option<Value>],
