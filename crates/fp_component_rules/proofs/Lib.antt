@@ -1,0 +1,10 @@
+mod Folding
+mod Passing
+mod Meeting
+mod Clashing
+mod Waiting
+mod Lacking
+mod Noting
+mod Pairing
+mod Apart
+mod Unbroken
