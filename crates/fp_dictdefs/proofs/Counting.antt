@@ -39,7 +39,7 @@ given_by : (implied : ℤ → Type 0) (o : Option Given) (i : Option Long) → H
 given_by implied None i h f = h
 given_by implied (Some g) i h f = numbered g.number f
 
-past_given : (k : ℕ) (o : Option Given) (i : Option Long) → PastBy k i → PastBy k (given_or i o)
+pub past_given : (k : ℕ) (o : Option Given) (i : Option Long) → PastBy k i → PastBy k (given_or i o)
 past_given k None i h = h
 past_given k (Some g) i h = go g.number
   where
@@ -51,7 +51,7 @@ module _ (xs : List Listed) where
   abbrev pub HasLong : ℕ → Long → Type 0
   HasLong k p = (n : ℤ) × HasId xs k n × StandsFor p n
 
-  id_given : (k : ℕ) (x : Listed) (i : Option Long) → slice_get xs k ≡ Some x → HoldsOnly (IsImplied xs k) i → Fits (given_or i x.id)
+  pub id_given : (k : ℕ) (x : Listed) (i : Option Long) → slice_get xs k ≡ Some x → HoldsOnly (IsImplied xs k) i → Fits (given_or i x.id)
       → HoldsOnly (HasId xs k) (given_or i x.id)
   id_given k x i at h f =
       holds_same (IsGivenOr (IsImplied xs k) x.id) (HasId xs k) (λ n g. (x, at, g))
@@ -60,14 +60,14 @@ module _ (xs : List Listed) where
 
   -- ---- what is implied behind an id
 
-  implied_next : (k : ℕ) (id next : Option Long) → HoldsOnly (HasId xs k) id → MatchOption next (id ≡ None) (λ q. (p : Long) × (id ≡ Some p) × IsAfter p q)
+  pub implied_next : (k : ℕ) (id next : Option Long) → HoldsOnly (HasId xs k) id → MatchOption next (id ≡ None) (λ q. (p : Long) × (id ≡ Some p) × IsAfter p q)
       → HoldsOnly (IsImplied xs (suc k)) next
   implied_next k id None h is = λ n t. subst (HoldsOnly (HasId xs k)) is h t.0 t.1
   implied_next k id (Some q) h is =
       let one = subst (HoldsOnly (HasId xs k)) is.1 h in
       (one.0 +ℤ pos 1, (one.0, one.1, refl), is.2.0 one.0 one.2, λ m t. t.2 ∙ ap (λ (z : ℤ). z +ℤ pos 1) (one.3 t.0 t.1))
 
-  past_next : (k : ℕ) (id next : Option Long) → PastBy k id → MatchOption next (id ≡ None) (λ q. (p : Long) × (id ≡ Some p) × IsAfter p q) → PastBy (k + 1) next
+  pub past_next : (k : ℕ) (id next : Option Long) → PastBy k id → MatchOption next (id ≡ None) (λ q. (p : Long) × (id ≡ Some p) × IsAfter p q) → PastBy (k + 1) next
   past_next k id None h is = tt
   past_next k id (Some q) h is = let low = subst (PastBy k) is.1 h in let more = is.2.1 in omega arith
 

@@ -1,6 +1,6 @@
 -- Ids and opcodes, written or implied. FPP Language Specification, "Command Specifiers", "Event Specifiers", "Telemetry Channel Specifiers", "Parameter
 -- Specifiers".
-use Rattle.std.specs.Prelude.{◌≡◌, ℕ, zero, suc, ℤ, pos, ◌+ℤ◌, List, slice_get, Option, None, Some}
+use Rattle.std.specs.Prelude.{◌≡◌, ℕ, zero, suc, ◌<◌, ◌^◌, ℤ, pos, ◌+ℤ◌, List, length, slice_get, Option, None, Some}
 use Rattle.fp_written_parts.specs.declared.port.Given.{Given}
 use Rattle.fp_dictdefs.specs.declared.listed.Listed.{Listed}
 
@@ -21,3 +21,8 @@ IsImplied xs (suc k) n = (m : ℤ) × IsIdBy (IsImplied xs k) xs k m × (n ≡ m
 -- the id of the k-th in a list
 abbrev pub HasId : List Listed → ℕ → ℤ → Type 0
 HasId xs k = IsIdBy (IsImplied xs k) xs k
+
+-- one for each of a list: its id, where that is one of 32 bits
+pub record AreIds (xs : List Listed) (ids : List ℕ) : Type 0 where
+  pub each : length ids ≡ length xs
+  pub of : (k id n : ℕ) → slice_get ids k ≡ Some id → HasId xs k (pos n) → n < 2 ^ 32 → id ≡ n

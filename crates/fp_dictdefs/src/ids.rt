@@ -48,7 +48,7 @@ fn note_id(
 }
 
 /// The id that the next one has where none is written.
-fn implied_after(id: Option<Long>) -> Option<Long>
+pub fn implied_after(id: Option<Long>) -> Option<Long>
     requires { HasRoom id }
     ensures is { MatchOption result (id ≡ None) (λ next. (p : Whole) × (id ≡ Some p) × IsAfter p next) }
     ensures fits { Fits result }

@@ -1,4 +1,4 @@
-//! Which rules the commands, events, channels and parameters of components break.
+//! Which commands, events, channels and parameters components list, their ids, and which rules they break.
 #![tactic(auto)]
 
 mod faults;
@@ -9,5 +9,8 @@ mod listed;
 mod longs;
 mod members;
 mod names;
+mod numbering;
 
 pub use faults::dictionary_faults;
+pub use listed::{Listed, Lists, lists_of};
+pub use numbering::ids_of;

@@ -20,12 +20,12 @@ use Rattle.fp_type_sizes.specs.declared.written.Own.TheVariants as own
 use Rattle.fp_types.specs.declared.target.Rest.TheVariants.{OfMembers}
 use Rattle.fp_type_sizes.specs.Sizes.{HasForm, IsOfSize, named, array}
 use Rattle.fp_type_sizes.specs.Found.{UsesType, LeadsTo, IsTypeOrder, AreExtents}
-use Rattle.fp_types.specs.Given.{AreDefaults, IsTypeGiven, AreTypesGiven}
+use Rattle.fp_types.specs.Given.{AreDefaults, IsDefaultIf, IsTypeGiven, AreTypesGiven}
 use Rattle.fp_type_sizes.specs.Found as found
 use Rattle.fp_type_sizes.specs.Sized.{kind_extent, is_few_if}
 use Rattle.fp_types.specs.Converting.{Opened, opened, Target, of_kind, constants, opaque, form_target, HasOwn, Becomes, Default, DefaultIs, Completes, of_each, first, the_one, plainly, by_form, by_value}
 use Rattle.fp_types.specs.Converting as convert
-use Rattle.fp_types.specs.Making.{StandsIn, itself, further, AreSoundDefaults, HasDefault, Suffices, SufficesIn, IsMade, IsDefault, AreCompleted, structured}
+use Rattle.fp_types.specs.Making.{StandsIn, itself, further, AreSoundDefaults, HasDefault, HasDefaultsIn, Suffices, SufficesIn, IsMade, IsDefault, AreCompleted, structured}
 use Rattle.fp_types.specs.Completing.{SufficesForLefts}
 use Rattle.fp_types.specs.Defaulted.{HasDefaultsInForm, MissesNoDefault, FindsDefault, FindsBy, DefaultedFirst, ConvertsIf, given_of}
 use Rattle.fp_type_sizes.proofs.OneSize.{one_form, one_size}
@@ -275,6 +275,17 @@ converts_if ws table are v k None h = record {
   only = λ w b.
       let s = result_of_size b in
       absurd (h (record { enough = λ a c m. let same = (one_size s.2 m).levels in let low = s.4 in omega arith; knows = λ i ins. has_default ws table are i }) w b);
+}
+
+pub default_if : (ws : List WrittenType) (table : List (Option Value)) → AreDefaults ws table → (k : Kind) (o : Option Value)
+    → IsDefault ws (HasDefaultsIn ws table k) (of_kind k) o → IsDefaultIf ws k o
+default_if ws table are k (Some x) h = record {
+  holds = λ v e. subst (λ (z : Value). DefaultIs ws k z) (same_some e) h;
+  only = λ v d. ap (λ (z : Value). Some z) (one_default h d);
+}
+default_if ws table are k None h = record {
+  holds = λ v e. no_some e;
+  only = λ v d. absurd (h (λ i s. has_default ws table are i) v d);
 }
 
 -- ---- types with their defaults

@@ -1,5 +1,5 @@
 ghost use Rattle.std.specs.Prelude.{◌≡◌, ◌<◌, ◌^◌, List, IfOk, Some, length, set, slice_get, option_map};
-ghost use Rattle.fp_types.specs.Given.{AreDefaults};
+ghost use Rattle.fp_types.specs.Given.{AreDefaults, IsDefaultIf};
 ghost use Rattle.fp_type_sizes.specs.Found.{AreExtents, IsTypeOrder};
 ghost use Rattle.fp_tables.specs.declared.kind.Constant.{Constant as EnumConstant};
 ghost use Rattle.fp_types.specs.Completing.{SufficesForLefts};
@@ -36,6 +36,20 @@ pub fn defaults(
         put(&mut table, *number, default);
     }
     Ok(table)
+}
+
+/// The default of a type, if it has one, from those of the types of the source.
+pub fn kind_default(
+    alloc: Global,
+    types: &[WrittenType],
+    defaults: &[Option<Value>],
+    kind: Kind,
+) -> Result<Option<Value>, NoMemory>
+    requires { AreDefaults types.now defaults.now }
+    ensures { IfOk result (IsDefaultIf types.now kind) }
+{
+    let _ = types;
+    default_of_kind(alloc, defaults, kind)
 }
 
 fn no_defaults(alloc: Global, count: usize) -> Result<Vec<Option<Value>>, NoMemory>

@@ -17,7 +17,7 @@ mod target;
 mod unfit;
 
 pub use converting::convert;
-pub use defaulting::defaults;
+pub use defaulting::{defaults, kind_default};
 pub use giving::{given, types_of};
 pub use index::{field_named, part_named, places_of_fields, places_of_parts};
 pub use laws::{

@@ -1,0 +1,7 @@
+mod Each
+mod Known
+mod Matched
+mod Noted
+mod Queued
+mod Roles
+mod Valued
