@@ -1,0 +1,13 @@
+mod Lists
+mod Each
+mod Given
+mod Listed
+mod Single
+mod Formals
+mod Ports
+mod Commands
+mod Events
+mod Channels
+mod Entries
+mod Rules
+mod Whole
