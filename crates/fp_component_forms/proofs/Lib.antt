@@ -1,0 +1,4 @@
+pub mod Ranked
+pub mod Firsts
+pub mod Readers
+pub mod Lists
