@@ -10,7 +10,22 @@ use Rattle.fp_meaning.specs.Layout.{items}
 use Rattle.fp_type_forms.specs.Broken.{FormsBroken}
 use Rattle.fp_type_forms.specs.Written.{AreWritten}
 use Rattle.fp_type_forms.proofs.OneForm.{one_list}
+use Rattle.fp_base.specs.declared.value.Value.{Value}
+use Rattle.fp_type_sizes.specs.declared.written.TypeExtent.{TypeExtent}
+use Rattle.fp_type_sizes.specs.Found.{AreExtents}
+use Rattle.fp_types.specs.Given.{AreDefaults}
+use Rattle.fp_source_types.specs.declared.measuring.Measured.{Measured}
 use Rattle.fp_source_types.specs.Broken.{TypesBroken, TypesBrokenBy, WholesBroken}
+use Rattle.fp_source_types.specs.Measured.{IsMeasured}
+
+-- slices of what is measured
+pub sized_slices : (found : Measured) (ws : List WrittenType) (es : List (Option TypeExtent)) → ws ≡ found.written → es ≡ found.extents → IsMeasured found → AreExtents ws es
+sized_slices found ws es types sizes h =
+    subst (λ (vs : List WrittenType). AreExtents vs es) (sym types) (subst (λ (xs : List (Option TypeExtent)). AreExtents found.written xs) (sym sizes) h.sized)
+
+pub defaulted_slices : (found : Measured) (ws : List WrittenType) (os : List (Option Value)) → ws ≡ found.written → os ≡ found.defaults → IsMeasured found → AreDefaults ws os
+defaulted_slices found ws os types defaults h =
+    subst (λ (vs : List WrittenType). AreDefaults vs os) (sym types) (subst (λ (xs : List (Option Value)). AreDefaults found.written xs) (sym defaults) h.defaulted)
 
 pub least_of_source : (source : Source) (ws : List WrittenType) (o : Option Refusal) → AreWritten source ws → IsLeast (TypesBrokenBy source ws) o → IsLeast (TypesBroken source) o
 least_of_source source ws o are least =

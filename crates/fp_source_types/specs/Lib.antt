@@ -5,3 +5,4 @@ pub mod Used
 pub mod Listed
 pub mod Resolved
 pub mod Named
+pub mod Measured

@@ -3,6 +3,7 @@
 
 mod laws;
 mod marks;
+mod measuring;
 mod ordering;
 mod places;
 mod resolving;
@@ -14,5 +15,6 @@ pub use laws::{
     unbroken_values_exist, values_are_of_size,
 };
 pub use marks::TypeMarks;
+pub use measuring::{Measured, measured_in};
 pub use resolving::{given_among, resolve_types};
-pub use typing::{types_all, types_in};
+pub use typing::{types_all, types_in, types_measured};

@@ -1,31 +1,33 @@
-ghost use Rattle.std.specs.Prelude.{flat_map, map, IfOk};
+ghost use Rattle.std.specs.Prelude.{◌≡◌, flat_map, map, IfOk};
 ghost use Rattle.fp_base.specs.Least.{InSome, IsLeast};
 ghost use Rattle.fp_consts.specs.Marked.{AreValues};
 ghost use Rattle.fp_meaning.specs.declared.group.Group.TheVariants.{Kind};
 ghost use Rattle.fp_meaning.specs.Meaning.{AreMeanings};
+ghost use Rattle.fp_meaning.specs.Layout as layout;
 ghost use Rattle.fp_meaning.specs.Names.{definitions, definitions_of, mentions, uses_of};
 ghost use Rattle.fp_meaning.specs.Origins.{expressions};
 ghost use Rattle.fp_meaning.specs.Uses.{BrokenByChains};
-ghost use Rattle.fp_type_forms.specs.Resolved.{AreItemsOf};
-ghost use Rattle.fp_type_forms.specs.Written.{types_of};
+ghost use Rattle.fp_type_forms.specs.Resolved.{AreItemsOf, AreResolved};
+ghost use Rattle.fp_type_forms.specs.Written.{AreWritten, types_of};
 ghost use Rattle.fp_type_sizes.specs.Found.{AreExtents};
 ghost use Rattle.fp_type_sizes.specs.Large.{IsTypeLarge};
 ghost use Rattle.fp_types.specs.Faults.{IsBadDefault};
 ghost use Rattle.fp_tree.specs.declared.source.Source.{Source as Files};
 ghost use Rattle.fp_source_types.specs.Broken.{TypesBroken, WholesBroken};
+ghost use Rattle.fp_source_types.specs.Measured.{IsMeasured};
 ghost use Rattle.fp_source_types.specs.Places.{default_place, name_place};
 ghost use Rattle.fp_source_types.specs.Typed.{AreTypesOf};
 
 use crate::marks::TypeMarks;
-use crate::ordering::order_of;
+use crate::measuring::{Measured, measured_in};
 use crate::places::{default_places, name_places};
 use fp_base::{NoMemory, Refusal, Value, lesser};
 use fp_layout::{definitions_in, lay_out};
 use fp_meaning::{Item, Marks};
 use fp_tree::{Source, Uses};
-use fp_type_forms::{form_faults_in, resolve_items, types_written_in};
-use fp_type_sizes::{TypeExtent, WrittenType, extents, large_types};
-use fp_types::{bad_defaults, defaults, given};
+use fp_type_forms::form_faults_in;
+use fp_type_sizes::{TypeExtent, WrittenType, large_types};
+use fp_types::{bad_defaults, given};
 use fp_uses::{Users, chain_faults, sorted_uses};
 use std::alloc::Global;
 
@@ -73,22 +75,32 @@ pub fn types_in(
     ensures at { IfOk result (λ types. (source : Files) → AreItemsOf source items.now uses.now.meanings values.now → AreTypesOf source types.at) }
     ensures first { IfOk result (λ types. (source : Files) → AreItemsOf source items.now uses.now.meanings values.now → IsLeast (TypesBroken source) types.first) }
 {
-    let resolved = resolve_items(alloc, items, uses, values)?;
-    let resolutions = resolved.as_slice();
-    let written = types_written_in(alloc, items, resolutions, values)?;
-    let types = written.as_slice();
-    if types.len() > u32::MAX as usize {
-        return Err(NoMemory);
-    }
-    let ordered = order_of(alloc, types)?;
-    let order = ordered.as_slice();
-    let measured = extents(alloc, types, order)?;
-    let sizes = measured.as_slice();
+    let measured = measured_in(alloc, items, uses, values)?;
+    let types = types_measured(alloc, items, uses, values, &measured)?;
+    Ok(types)
+}
+
+/// The same where what is written of the types is measured already.
+pub fn types_measured(
+    alloc: Global,
+    items: &[Item],
+    uses: &Uses,
+    values: &[Option<Value>],
+    measured: &Measured,
+) -> Result<TypeMarks, NoMemory>
+    requires meanings { AreMeanings (flat_map definitions_of items.now) (flat_map uses_of items.now) uses.now.meanings }
+    requires measured { IsMeasured measured.now }
+    ensures at { IfOk result (λ types. (source : Files) → AreWritten source measured.now.written → AreTypesOf source types.at) }
+    ensures first { IfOk result (λ types. (source : Files) → items.now ≡ layout.items source → AreResolved source values.now measured.now.resolutions items.now 0 → AreWritten source measured.now.written → IsLeast (TypesBroken source) types.first) }
+{
+    let types = measured.written.as_slice();
+    let sizes = measured.extents.as_slice();
+    let resolutions = measured.resolutions.as_slice();
     let parts = form_faults_in(alloc, items, sizes, resolutions, values)?;
     let wholes = wholes_broken(alloc, items, uses, types, sizes)?;
     let first = lesser(parts, wholes);
-    let found = defaults(alloc, types, sizes, order)?;
-    let at = given(alloc, types, found.as_slice())?;
+    let found = measured.defaults.as_slice();
+    let at = given(alloc, types, found)?;
     Ok(TypeMarks { at, first })
 }
 

@@ -1,0 +1,3 @@
+mod Converted
+mod Fits
+mod Passed

@@ -1,0 +1,3 @@
+pub mod Broken
+pub mod Standing
+pub mod Tested
