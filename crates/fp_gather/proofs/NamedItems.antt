@@ -1,5 +1,5 @@
 -- Where all names in members are names of the language, what their items define has such names.
-use Rattle.std.proofs.Common.{◌≡◌, ℕ, suc, true, List, [], ◌∷◌, ◌++◌, flat_map, map, Option, sym, subst, refl}
+use Rattle.std.proofs.Common.{◌≡◌, ℕ, suc, true, ◌&&◌, List, [], ◌∷◌, ◌++◌, flat_map, map, Option, sym, subst, refl}
 use Rattle.std.specs.List.{AllByRecursion as Each, list_all, Contains}
 use Rattle.fp_base.specs.Names.{is_name}
 use Rattle.fp_base.proofs.Bools.{both, join}
@@ -13,6 +13,7 @@ use Rattle.fp_tree.specs.declared.expression.Expr.{Expr}
 use Rattle.fp_tree.specs.declared.type_name.TypeName.{TypeName}
 use Rattle.fp_tree.specs.declared.part.EnumConst.{EnumConst}
 use Rattle.fp_tree.specs.declared.part.Field.{Field}
+use Rattle.fp_tree.specs.declared.part.Formal.{Formal}
 use Rattle.fp_tree.specs.declared.definition.Def.{Def}
 use Rattle.fp_tree.specs.declared.definition.Def.TheVariants as def
 use Rattle.fp_tree.specs.declared.definition.Enum.{Enum}
@@ -21,6 +22,8 @@ use Rattle.fp_tree.specs.declared.component.Component.{Component}
 use Rattle.fp_tree.specs.declared.component.Part.{Part}
 use Rattle.fp_tree.specs.declared.component.Part.TheVariants as part
 use Rattle.fp_tree.specs.declared.component.Interface.{Interface}
+use Rattle.fp_tree.specs.declared.component.InterfacePart.{InterfacePart}
+use Rattle.fp_tree.specs.declared.component.InterfacePart.TheVariants as interface_part
 use Rattle.fp_tree.specs.declared.instance.Instance.{Instance}
 use Rattle.fp_tree.specs.declared.topology.Topology.{Topology}
 use Rattle.fp_tree.specs.declared.member.Unit.{Unit as File}
@@ -37,15 +40,16 @@ use Rattle.fp_meaning.specs.Layout.{behavior_items, component_items, component_s
 use Rattle.fp_meaning.proofs.Since.{AllSince, since_behavior, since_each, since_fields, since_form, since_formals, since_instance, since_interface, since_optional, since_own, since_topology, since_type}
 use Rattle.fp_meaning.proofs.Throughout.{in_module, member_rolled, members_rolled}
 use Rattle.fp_sites.specs.Names.{names_in, names_of_member, names_of_module, names_within}
-use Rattle.fp_sites.specs.Parts.{names_in_constant, names_in_definition, names_in_expression, names_in_field, names_in_type}
+use Rattle.fp_sites.specs.Parts.{names_in_constant, names_in_definition, names_in_expression, names_in_field, names_in_formal, names_in_type}
 use Rattle.fp_sites.specs.Machines.{names_in_machine}
-use Rattle.fp_sites.specs.Components.{names_in_component, names_in_interface, names_in_part}
+use Rattle.fp_sites.specs.Components.{names_in_component, names_in_interface, names_in_interface_part, names_in_part}
 use Rattle.fp_sites.specs.Topologies.{names_in_instance, names_in_topology}
 use Rattle.fp_sites.specs.Written.{NamesAreWritten}
 use Rattle.fp_gather.proofs.ItemsKept.{file_given}
 use Rattle.fp_gather.proofs.KeptByWalks.{units_kept}
 use Rattle.fp_gather.proofs.PartsHold.{HaveNames, names_inside, names_opened, names_rolled, replaced_names}
 use Rattle.fp_gather.specs.gathering.Gathered.{file_of, source_of}
+use Rattle.fp_names.specs.Named.{HasNamedParts, formals_are_named, interface_part_is_named, part_is_named}
 use Rattle.fp_gather.specs.gathering.Names.{IsNamed}
 use Rattle.fp_gather.specs.gathering.Walks.{Walked, Went, WalksFiles, nothing_read}
 
@@ -90,6 +94,11 @@ field_names (f ∷ fs) h =
     join (is_name f.name.text) (list_all (λ (x : Field). is_name x.name.text) fs) h.0
     (field_names fs (each_behind IsName (names_in_field f) (flat_map names_in_field fs) h))
 
+formal_names : (fs : List Formal) → Each IsName (flat_map names_in_formal fs) → formals_are_named fs ≡ true
+formal_names [] h = refl
+formal_names (f ∷ fs) h =
+    join (is_name f.name.text) (formals_are_named fs) h.0 (formal_names fs (each_behind IsName (names_in_formal f) (flat_map names_in_formal fs) h))
+
 constants_named : (scope : Path) (e : Enum) (position : ℕ) (cs : List EnumConst) → AreNames (scope ++ e.name.text ∷ []) → Each IsName (flat_map names_in_constant cs)
     → Each IsNamed (constant_items scope e position cs)
 constants_named scope e position [] s h = tt
@@ -121,17 +130,61 @@ definition_named scope (def.Enum d) s h =
           (each_behind IsName (in_optional names_in_type d.repr) (flat_map names_in_constant d.constants) parts))) (quiet_optional _ scope d.default),
     )
 definition_named scope (def.Port d) s h = (
-  record { definitions = (named_behind scope d.name.text s h.0, tt); members = tt },
+  record {
+    definitions = (named_behind scope d.name.text s h.0, tt);
+    members = formal_names d.formals (each_before IsName (flat_map names_in_formal d.formals) (in_optional names_in_type d.result) h.1);
+  },
   each_append IsNamed _ _ (quiet 0 (flat_map (formal_items scope) d.formals) (since_formals scope d.formals)) (optional_type scope d.result),
 )
 
 -- ---- definitions beside constants, types and ports
 
-declared_named : (scope : Path) (d : ModelDef) (is : List Item) → AreNames scope → IsName (model_name d) → AllSince 0 is → Each IsNamed (item.Declared (declaration scope d) ∷ is)
-declared_named scope d is s n h = (record { definitions = (named_behind scope (model_name d).text s n, tt); members = tt }, quiet 0 is h)
+declared_named : (scope : Path) (d : ModelDef) (is : List Item) → AreNames scope → IsName (model_name d) → HasNamedParts d → AllSince 0 is → Each IsNamed (item.Declared (declaration scope d) ∷ is)
+declared_named scope d is s n k h = (record { definitions = (named_behind scope (model_name d).text s n, tt); members = k }, quiet 0 is h)
+
+-- a name, and the names of parameters behind it
+named_with_formals : (n : Name) (fs : List Formal) (more : List Name) → IsName n → Each IsName (flat_map names_in_formal fs ++ more) → (is_name n.text && formals_are_named fs) ≡ true
+named_with_formals n fs more h k = join (is_name n.text) (formals_are_named fs) h (formal_names fs (each_before IsName (flat_map names_in_formal fs) more k))
+
+part_named : (p : Part) → Each IsName (names_in_part p) → part_is_named p ≡ true
+part_named (part.Def d) h = refl
+part_named (part.Machine m) h = refl
+part_named (part.General p) h = h.0
+part_named (part.Special p) h = h.0
+part_named (part.Internal p) h = named_with_formals p.name p.formals (in_optional names_in_expression p.priority) h.0 h.1
+part_named (part.Command c) h =
+    named_with_formals c.name c.formals (in_optional names_in_expression c.opcode) h.0
+    (each_before IsName (flat_map names_in_formal c.formals ++ in_optional names_in_expression c.opcode) (in_optional names_in_expression c.priority) h.1)
+part_named (part.Event e) h =
+    named_with_formals e.name e.formals (in_optional names_in_expression e.id) h.0
+    (each_before IsName (flat_map names_in_formal e.formals ++ in_optional names_in_expression e.id) (in_optional names_in_expression e.throttle) h.1)
+part_named (part.Channel t) h = h.0
+part_named (part.Param p) h = h.0
+part_named (part.Match m) h = refl
+part_named (part.Running r) h = h.0
+part_named (part.Import i) h = refl
+part_named (part.Include i) h = refl
+
+parts_named : (ps : List Part) → Each IsName (flat_map names_in_part ps) → list_all part_is_named ps ≡ true
+parts_named [] h = refl
+parts_named (p ∷ ps) h =
+    join (part_is_named p) (list_all part_is_named ps) (part_named p (each_before IsName (names_in_part p) (flat_map names_in_part ps) h))
+    (parts_named ps (each_behind IsName (names_in_part p) (flat_map names_in_part ps) h))
+
+interface_part_named : (p : InterfacePart) → Each IsName (names_in_interface_part p) → interface_part_is_named p ≡ true
+interface_part_named (interface_part.General p) h = h.0
+interface_part_named (interface_part.Special p) h = h.0
+interface_part_named (interface_part.Import i) h = refl
+
+interface_parts_named : (ps : List InterfacePart) → Each IsName (flat_map names_in_interface_part ps) → list_all interface_part_is_named ps ≡ true
+interface_parts_named [] h = refl
+interface_parts_named (p ∷ ps) h =
+    join (interface_part_is_named p) (list_all interface_part_is_named ps)
+    (interface_part_named p (each_before IsName (names_in_interface_part p) (flat_map names_in_interface_part ps) h))
+    (interface_parts_named ps (each_behind IsName (names_in_interface_part p) (flat_map names_in_interface_part ps) h))
 
 machine_named : (scope : Path) (m : Machine) → AreNames scope → Each IsName (names_in_machine m) → Each IsNamed (machine_items scope m)
-machine_named scope m s h = declared_named scope (machine m) (in_optional (behavior_items scope) m.behavior) s h.0 (since_behavior scope m.behavior)
+machine_named scope m s h = declared_named scope (machine m) (in_optional (behavior_items scope) m.behavior) s h.0 tt (since_behavior scope m.behavior)
 
 inner_named : (scope : Path) (p : Part) → AreNames scope → Each IsName (names_in_part p) → Each IsNamed (inner_items scope p)
 inner_named scope (part.Def d) s h = definition_named scope d s h
@@ -159,19 +212,19 @@ component_named scope c s h =
     let inside : Path = component_scope scope c in
     let own : List Item = flat_map (own_items inside) c.parts in
     each_append IsNamed (item.Declared (declaration scope (component c)) ∷ own) (flat_map (inner_items inside) c.parts)
-    (declared_named scope (component c) own s h.0 (since_each (own_items inside) (since_own inside) c.parts))
+    (declared_named scope (component c) own s h.0 (parts_named c.parts h.1) (since_each (own_items inside) (since_own inside) c.parts))
     (all_inner inside c.parts (named_behind scope c.name.text s h.0) h.1)
 
 interface_named : (scope : Path) (f : Interface) → AreNames scope → Each IsName (names_in_interface f) → Each IsNamed (interface_items scope f)
 interface_named scope f s h =
-    declared_named scope (interface f) (flat_map (interface_part_items scope) f.parts) s h.0 (since_each (interface_part_items scope) (since_interface scope) f.parts)
+    declared_named scope (interface f) (flat_map (interface_part_items scope) f.parts) s h.0 (interface_parts_named f.parts h.1) (since_each (interface_part_items scope) (since_interface scope) f.parts)
 
 instance_named : (scope : Path) (n : Instance) → AreNames scope → Each IsName (names_in_instance n) → Each IsNamed (instance_items scope n)
-instance_named scope n s h = declared_named scope (instance n) (model_own_items scope (instance n)) s h.0 (since_instance scope n)
+instance_named scope n s h = declared_named scope (instance n) (model_own_items scope (instance n)) s h.0 tt (since_instance scope n)
 
 topology_named : (scope : Path) (t : Topology) → AreNames scope → Each IsName (names_in_topology t) → Each IsNamed (topology_items scope t)
 topology_named scope t s h =
-    declared_named scope (topology t) (flat_map (topology_member_items scope) t.members) s h.0 (since_each (topology_member_items scope) (since_topology scope) t.members)
+    declared_named scope (topology t) (flat_map (topology_member_items scope) t.members) s h.0 tt (since_each (topology_member_items scope) (since_topology scope) t.members)
 
 -- ---- members
 

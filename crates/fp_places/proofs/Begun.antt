@@ -7,14 +7,17 @@ use Rattle.fp_tree.specs.declared.definition.Def.{Def}
 use Rattle.fp_tree.specs.declared.expression.Expr.{Expr}
 use Rattle.fp_tree.specs.declared.type_name.TypeName.{TypeName}
 use Rattle.fp_meaning.specs.Layout.{expression_items, type_items, items_in}
+use Rattle.fp_meaning.specs.Sites.{ModelDef, machine, component, interface, instance, topology}
 use Rattle.fp_parse_defs.specs.Definitions.{noted_definition}
 use Rattle.fp_base.proofs.Lists.{each_of_any}
 use Rattle.fp_sites.specs.Parts.{names_in_expression, names_in_type, names_in_definition}
 use Rattle.fp_sites.proofs.Preserving.{gives_anything, gives_less}
 use Rattle.fp_sites.proofs.Held.{Held}
-use Rattle.fp_sites.proofs.Known.{Known}
+use Rattle.fp_sites.proofs.Known.{Known, Belonging}
+use Rattle.fp_places.specs.Places.{places_of_model}
 use Rattle.fp_places.proofs.Tokens.{Begins, name_yields}
 use Rattle.fp_places.proofs.Expressions.{StandIn, expression_yields}
+use Rattle.fp_places.proofs.Components.{component_yields, interface_yields, machine_yields}
 use Rattle.fp_places.proofs.Definitions.{StandInType, StandNoted, StandOf, type_placed, type_yields, definition_placed, definition_yields}
 
 -- nothing is said of names
@@ -37,6 +40,13 @@ module _ (G : Place → Type 0) (depth : ℕ) where
   pub definition_held : (d : Def) → StandNoted G d → DefinitionHeld d
   definition_held d h note = record { items = λ scope. definition_placed G scope (noted_definition d note) (h note); names = any_names (names_in_definition (noted_definition d note)) }
 
+  pub belonging : (d : ModelDef) → Belonging (λ m. Each G (places_of_model (machine m))) (λ c. Each G (places_of_model (component c))) (λ i. Each G (places_of_model (interface i))) d → Each G (places_of_model d)
+  belonging (component c) h = h
+  belonging (interface i) h = h
+  belonging (machine m) h = h
+  belonging (instance i) h = tt
+  belonging (topology t) h = tt
+
   unfoldable pub begun : Known depth
   begun = record {
     OfToken = Begins G;
@@ -48,7 +58,13 @@ module _ (G : Place → Type 0) (depth : ℕ) where
     using_given = gives_anything;
     named = λ n h. tt;
     all_named = λ q h. any_names q.names;
-    declared = λ scope d h. (h, tt);
+    OfMachine = λ m. Each G (places_of_model (machine m));
+    OfComponent = λ c. Each G (places_of_model (component c));
+    OfInterface = λ i. Each G (places_of_model (interface i));
+    machines_given = machine_yields G depth;
+    components_given = component_yields G depth;
+    interfaces_given = interface_yields G depth;
+    declared = λ scope d h b. (h, belonging d b);
     used = λ group scope q h. tt;
     port_used = λ scope u same h. tt;
     expressions_given = gives_less _ value_held (expression_yields G depth);

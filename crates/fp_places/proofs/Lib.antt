@@ -1,4 +1,5 @@
 mod Begun
+mod Components
 pub mod Definitions
 pub mod Expressions
 pub mod Members

@@ -1,8 +1,9 @@
--- The places in definitions at which rules of constants, types and formats can be broken: of names that are defined, of types, of
--- expressions and of the expressions and members that these are made of, and of formats. FPP Language Specification, "Definitions",
--- "Expressions" and "Type Names".
-use Rattle.std.specs.Prelude.{List, [], ◌∷◌, ◌++◌, flat_map}
+-- The places in definitions at which rules of constants, types, formats and components can be broken: of names that are defined, of types, of
+-- expressions and of the expressions and members that these are made of, of formats, and of the parts of components and interfaces.
+-- FPP Language Specification, "Definitions", "Expressions", "Type Names", "Component Definitions" and "Interface Definitions".
+use Rattle.std.specs.Prelude.{List, [], ◌∷◌, ◌++◌, flat_map, Option}
 use Rattle.fp_base.specs.declared.place.Place.{Place}
+use Rattle.fp_base.specs.declared.place.Span.{Span}
 use Rattle.fp_tree.specs.declared.name.Str.{Str}
 use Rattle.fp_tree.specs.declared.expression.Expr.{Expr, Expr-F, fold-Expr}
 use Rattle.fp_tree.specs.declared.expression.Form.{Form, Form-F, fold-Form}
@@ -16,8 +17,16 @@ use Rattle.fp_tree.specs.declared.part.Field.{Field}
 use Rattle.fp_tree.specs.declared.part.Formal.{Formal}
 use Rattle.fp_tree.specs.declared.definition.Def.{Def}
 use Rattle.fp_tree.specs.declared.definition.Def.TheVariants as def
+use Rattle.fp_tree.specs.declared.dictionary.Limit.{Limit}
+use Rattle.fp_tree.specs.declared.dictionary.Limits.{Limits}
+use Rattle.fp_tree.specs.declared.component.General.{General}
+use Rattle.fp_tree.specs.declared.component.Special.{Special}
+use Rattle.fp_tree.specs.declared.component.Part.{Part}
+use Rattle.fp_tree.specs.declared.component.Part.TheVariants as part
+use Rattle.fp_tree.specs.declared.component.InterfacePart.{InterfacePart}
+use Rattle.fp_tree.specs.declared.component.InterfacePart.TheVariants as interface_part
 use Rattle.fp_meaning.specs.Names.{model_name}
-use Rattle.fp_meaning.specs.Sites.{in_optional}
+use Rattle.fp_meaning.specs.Sites.{in_optional, ModelDef, machine, component, interface, instance, topology}
 use Rattle.fp_meaning.specs.declared.item.Item.{Item}
 use Rattle.fp_meaning.specs.declared.item.Item.TheVariants as item
 
@@ -75,10 +84,67 @@ places_in_definition (def.Enum d) =
     d.name.at.first ∷ (in_optional places_in_type d.repr ++ flat_map places_in_constant d.constants ++ in_optional places_in_expression d.default)
 places_in_definition (def.Port d) = d.name.at.first ∷ (flat_map places_in_formal d.formals ++ in_optional places_in_type d.result)
 
+-- ---- what belongs to components and interfaces
+
+-- where the first word stands that speaks of the queue
+abbrev pub places_of_word : Option Span → List Place
+places_of_word word = in_optional (λ (s : Span). s.first ∷ []) word
+
+abbrev pub places_in_value : Option Expr → List Place
+places_in_value o = in_optional places_in_expression o
+
+abbrev pub places_in_formals : List Formal → List Place
+places_in_formals fs = flat_map places_in_formal fs
+
+abbrev pub places_in_general : General → List Place
+places_in_general p = p.at.first ∷ p.name.at.first ∷ (places_in_value p.size ++ places_in_value p.priority ++ places_of_word p.queue_word)
+
+abbrev pub places_in_special : Special → List Place
+places_in_special p = p.at.first ∷ p.name.at.first ∷ []
+
+abbrev pub places_in_limit : Limit → List Place
+places_in_limit l = l.at.first ∷ places_in_expression l.value
+
+abbrev pub places_in_limits : Limits → List Place
+places_in_limits ls = flat_map places_in_limit ls.limits
+
+-- a definition or a machine inside a component is an item of its own
+abbrev pub places_in_part : Part → List Place
+places_in_part (part.Def d) = []
+places_in_part (part.Machine m) = []
+places_in_part (part.General p) = places_in_general p
+places_in_part (part.Special p) = places_in_special p
+places_in_part (part.Internal p) = p.at.first ∷ p.name.at.first ∷ (places_in_formals p.formals ++ places_in_value p.priority ++ places_of_word p.queue_word)
+places_in_part (part.Command c) =
+    c.at.first ∷ c.name.at.first ∷ (places_in_formals c.formals ++ places_in_value c.opcode ++ places_in_value c.priority ++ places_of_word c.queue_word)
+places_in_part (part.Event e) = e.name.at.first ∷ e.format.at.first ∷ (places_in_formals e.formals ++ places_in_value e.id ++ places_in_value e.throttle)
+places_in_part (part.Channel t) =
+    t.name.at.first ∷ (places_in_type t.of ++ places_in_value t.id ++ in_optional places_in_format t.format ++ in_optional places_in_limits t.low
+    ++ in_optional places_in_limits t.high)
+places_in_part (part.Param p) =
+    p.name.at.first ∷ (places_in_type p.of ++ places_in_value p.default ++ places_in_value p.id ++ places_in_value p.set ++ places_in_value p.save)
+places_in_part (part.Match m) = m.at.first ∷ []
+places_in_part (part.Running r) = r.at.first ∷ r.name.at.first ∷ (places_in_value r.priority ++ places_of_word r.queue_word)
+places_in_part (part.Import i) = i.at.first ∷ []
+places_in_part (part.Include i) = []
+
+abbrev pub places_in_interface_part : InterfacePart → List Place
+places_in_interface_part (interface_part.General p) = places_in_general p
+places_in_interface_part (interface_part.Special p) = places_in_special p
+places_in_interface_part (interface_part.Import i) = i.at.first ∷ []
+
+-- this profile: of instances and topologies no place is needed yet but that of the name, and of a machine its own
+abbrev pub places_of_model : ModelDef → List Place
+places_of_model (component c) = flat_map places_in_part c.parts
+places_of_model (interface i) = flat_map places_in_interface_part i.parts
+places_of_model (machine m) = m.at.first ∷ []
+places_of_model (instance i) = []
+places_of_model (topology t) = []
+
 -- of what an item stands for
 abbrev pub places_of : Item → List Place
 places_of (item.Defined s) = places_in_definition s.definition
 places_of (item.Enumerated e) = places_in_constant e.constant
-places_of (item.Declared d) = (model_name d.definition).at.first ∷ []
+places_of (item.Declared d) = (model_name d.definition).at.first ∷ places_of_model d.definition
 places_of (item.Used since n) = []
 places_of (item.Written since p) = places_in_expression p.expression

@@ -48,7 +48,7 @@ use Rattle.fp_meaning.specs.Names.{in_optional}
 use Rattle.fp_base.proofs.Lists.{InOption, each_append, each_flat, each_mapped, each_push, each_weaker}
 use Rattle.fp_sites.specs.Parts.{names_in_definition, names_in_expression, names_in_formal}
 use Rattle.fp_sites.specs.Components.{names_in_general, names_in_limits, names_in_part, names_in_component, names_in_interface_part, names_in_interface}
-use Rattle.fp_sites.proofs.Preserving.{LanguageGives, gives_anything, gives_less, gives_map, gives_seq, gives_alt, gives_optional, gives_seal, gives_after, gives_before}
+use Rattle.fp_sites.proofs.Preserving.{LanguageGives, gives_anything, gives_both, gives_less, gives_map, gives_seq, gives_alt, gives_optional, gives_seal, gives_after, gives_before}
 use Rattle.fp_sites.proofs.Lists.{each_or_none, gives_any_noted, gives_some_of}
 use Rattle.fp_sites.proofs.Held.{held_names, held_both, held_named, held_option, held_list}
 use Rattle.fp_sites.proofs.Known.{Known, Yields, Says, ValueSaid, MaybeSaid, TypeSaid, declares, uses, maybe_given, value_given}
@@ -274,14 +274,20 @@ module _ {depth : ℕ} (law : Known depth) where
   abbrev pub ComponentSaid : Component → Type 0
   ComponentSaid c = (note : List ℕ) → Says law (λ scope. component_items scope (record c { note = note })) (names_in_component (record c { note = note }))
 
-  component_said : (p : (Span × ComponentKind) × (Name × (List Part × Span))) → Unit {0} × (law.Naming p.1.0 × (Each PartSaid p.1.1.0 × Unit {0})) → ComponentSaid (made_component p)
-  component_said ((word, k), (n, (ps, closing))) h note =
-      let c : Component = made_component ((word, k), (n, (ps, closing))) in
-      declares law (component_def (record c { note = note })) h.1.0 (parts_said n.text ps h.1.1.0)
+  -- its name, and its parts
+  abbrev PartsSaid : Component → Type 0
+  PartsSaid c = law.Naming c.name × Each PartSaid c.parts
+
+  parts_of_component : (p : (Span × ComponentKind) × (Name × (List Part × Span))) → Unit {0} × (law.Naming p.1.0 × (Each PartSaid p.1.1.0 × Unit {0})) → PartsSaid (made_component p)
+  parts_of_component ((word, k), (n, (ps, closing))) h = (h.1.0, h.1.1.0)
+
+  component_said : (c : Component) → PartsSaid c × ((note : List ℕ) → law.OfComponent (record c { note = note })) → ComponentSaid c
+  component_said c h note = declares law (component_def (record c { note = note })) h.0.0 (h.1 note) (parts_said c.name.text c.parts h.0.1)
 
   pub component_yields : Yields law (component depth) ComponentSaid
-  component_yields = gives_map ComponentSaid made_component component_said
-      (gives_seq gives_anything (gives_after (k_word "component") (gives_seq law.naming_given (gives_after k_open_brace (gives_seq parts_yield gives_anything)))))
+  component_yields = gives_less ComponentSaid component_said (gives_both (gives_map PartsSaid made_component parts_of_component
+      (gives_seq gives_anything (gives_after (k_word "component") (gives_seq law.naming_given (gives_after k_open_brace (gives_seq parts_yield gives_anything))))))
+      law.components_given)
 
   abbrev InnerSaid : InterfacePart → Type 0
   InnerSaid p = Says law (λ scope. interface_part_items scope p) (names_in_interface_part p)
@@ -307,11 +313,17 @@ module _ {depth : ℕ} (law : Known depth) where
   abbrev pub InterfaceSaid : Interface → Type 0
   InterfaceSaid i = (note : List ℕ) → Says law (λ scope. interface_items scope (record i { note = note })) (names_in_interface (record i { note = note }))
 
-  interface_said : (p : Span × (Name × (List InterfacePart × Span))) → Unit {0} × (law.Naming p.1.0 × (Each InnerSaid p.1.1.0 × Unit {0})) → InterfaceSaid (made_interface p)
-  interface_said (word, (n, (ps, closing))) h note =
-      let i : Interface = made_interface (word, (n, (ps, closing))) in
-      declares law (interface_def (record i { note = note })) h.1.0 (held_list interface_part_items names_in_interface_part ps h.1.1.0)
+  abbrev InnersSaid : Interface → Type 0
+  InnersSaid i = law.Naming i.name × Each InnerSaid i.parts
+
+  parts_of_interface : (p : Span × (Name × (List InterfacePart × Span))) → Unit {0} × (law.Naming p.1.0 × (Each InnerSaid p.1.1.0 × Unit {0})) → InnersSaid (made_interface p)
+  parts_of_interface (word, (n, (ps, closing))) h = (h.1.0, h.1.1.0)
+
+  interface_said : (i : Interface) → InnersSaid i × ((note : List ℕ) → law.OfInterface (record i { note = note })) → InterfaceSaid i
+  interface_said i h note =
+      declares law (interface_def (record i { note = note })) h.0.0 (h.1 note) (held_list interface_part_items names_in_interface_part i.parts h.0.1)
 
   pub interface_yields : Yields law (interface depth) InterfaceSaid
-  interface_yields = gives_map InterfaceSaid made_interface interface_said
-      (gives_seq gives_anything (gives_seq law.naming_given (gives_after k_open_brace (gives_seq inners_yield gives_anything))))
+  interface_yields = gives_less InterfaceSaid interface_said (gives_both (gives_map InnersSaid made_interface parts_of_interface
+      (gives_seq gives_anything (gives_seq law.naming_given (gives_after k_open_brace (gives_seq inners_yield gives_anything)))))
+      law.interfaces_given)

@@ -28,7 +28,7 @@ use Rattle.fp_meaning.specs.Names.{in_optional}
 use Rattle.fp_base.proofs.Lists.{InOption, each_append, each_before, each_behind}
 use Rattle.fp_sites.specs.Parts.{names_in_type}
 use Rattle.fp_sites.specs.Machines.{names_in_do, names_in_goto, names_in_transition, names_in_element_form, names_in_element, names_in_behavior, names_in_machine}
-use Rattle.fp_sites.proofs.Preserving.{LanguageGives, gives_anything, gives_less, gives_map, gives_seq, gives_alt, gives_optional, gives_ref, gives_seal, gives_after}
+use Rattle.fp_sites.proofs.Preserving.{LanguageGives, gives_anything, gives_less, gives_map, gives_seq, gives_alt, gives_optional, gives_ref, gives_seal, gives_after, gives_both}
 use Rattle.fp_sites.proofs.Lists.{gives_any_noted, list_named, option_named}
 use Rattle.fp_sites.proofs.Held.{held_names, held_named, held_option, held_list}
 use Rattle.fp_sites.proofs.Known.{Known, Yields, Says, declares}
@@ -184,10 +184,17 @@ module _ {depth : ℕ} (law : Known depth) where
   abbrev pub MachineSaid : Machine → Type 0
   MachineSaid m = (note : List ℕ) → Says law (λ scope. machine_items scope (record m { note = note })) (names_in_machine (record m { note = note }))
 
-  machine_said : (p : Span × (Name × Option Behavior)) → Unit {0} × (law.Naming p.1.0 × InOption BehaviorSaid p.1.1) → MachineSaid (made_machine p)
-  machine_said (word, (n, behavior)) h note =
-      let m : Machine = made_machine (word, (n, behavior)) in
-      declares law (machine_def (record m { note = note })) h.1.0 (held_option behavior_items names_in_behavior behavior h.1.1)
+  -- its name, and its behavior
+  abbrev OwnSaid : Machine → Type 0
+  OwnSaid m = law.Naming m.name × InOption BehaviorSaid m.behavior
+
+  own_of_machine : (p : Span × (Name × Option Behavior)) → Unit {0} × (law.Naming p.1.0 × InOption BehaviorSaid p.1.1) → OwnSaid (made_machine p)
+  own_of_machine (word, (n, behavior)) h = h.1
+
+  machine_said : (m : Machine) → OwnSaid m × ((note : List ℕ) → law.OfMachine (record m { note = note })) → MachineSaid m
+  machine_said m h note =
+      declares law (machine_def (record m { note = note })) h.0.0 (h.1 note) (held_option behavior_items names_in_behavior m.behavior h.0.1)
 
   pub machine_yields : Yields law (machine depth) MachineSaid
-  machine_yields = gives_map MachineSaid made_machine machine_said (gives_seq gives_anything (gives_after k_machine (gives_seq law.naming_given (gives_optional body_yields))))
+  machine_yields = gives_less MachineSaid machine_said (gives_both (gives_map OwnSaid made_machine own_of_machine
+      (gives_seq gives_anything (gives_after k_machine (gives_seq law.naming_given (gives_optional body_yields))))) law.machines_given)

@@ -52,6 +52,9 @@ module _ {T : Type 0} {kind : T → ℕ} {P : T → Type 0} where
   pub gives_less : {X : Type 0} {a : Grammar T X} {Q : X → Type 0} (R : X → Type 0) → ((x : X) → Q x → R x) → Gives kind P a Q → Gives kind P a R
   gives_less R to p = record { given = λ w x s h. to x (p.given w x s h) }
 
+  pub gives_both : {X : Type 0} {a : Grammar T X} {Q R : X → Type 0} → Gives kind P a Q → Gives kind P a R → Gives kind P a (λ x. Q x × R x)
+  gives_both p q = record { given = λ w x s h. (p.given w x s h, q.given w x s h) }
+
   pub gives_token : (k : ℕ) → Gives kind P (token k) (λ t. P t × (kind t ≡ k))
   gives_token k = record { given = λ w t s h. (one_alone P w t s.0 h, s.1) }
 

@@ -9,7 +9,7 @@ use Rattle.fp_tree.specs.declared.type_name.TypeName.{TypeName}
 use Rattle.fp_meaning.specs.Layout.{expression_items, type_items, items_in}
 use Rattle.fp_parse_defs.specs.Definitions.{noted_definition}
 use Rattle.fp_sites.specs.Parts.{names_in_expression, names_in_type, names_in_definition}
-use Rattle.fp_sites.proofs.Preserving.{gives_less}
+use Rattle.fp_sites.proofs.Preserving.{gives_anything, gives_less}
 use Rattle.fp_sites.proofs.Held.{Held}
 use Rattle.fp_sites.proofs.Known.{Known}
 use Rattle.fp_sites.proofs.Words.{IsTold, SitedName, SitedQual, name_yields, qual_yields}
@@ -39,7 +39,13 @@ module _ (G : Place → Type 0) (N : Name → Type 0) (depth : ℕ) where
     using_given = qual_yields G N;
     named = λ n h. h.named;
     all_named = λ q h. h.named;
-    declared = λ scope d h. record { defines = (h.begins, tt); uses = tt; kept = tt };
+    OfMachine = λ m. Unit {0};
+    OfComponent = λ c. Unit {0};
+    OfInterface = λ i. Unit {0};
+    machines_given = gives_less _ (λ m h note. tt) gives_anything;
+    components_given = gives_less _ (λ c h note. tt) gives_anything;
+    interfaces_given = gives_less _ (λ i h note. tt) gives_anything;
+    declared = λ scope d h b. record { defines = (h.begins, tt); uses = tt; kept = tt };
     used = λ group scope q h. record { defines = tt; uses = (h.begins, tt); kept = tt };
     port_used = λ scope u same h. record { defines = tt; uses = (subst G (sym same) h.begins, tt); kept = tt };
     expressions_given = gives_less _ value_held (part_yields G N depth);

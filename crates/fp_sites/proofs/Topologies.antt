@@ -80,7 +80,7 @@ module _ {depth : ℕ} (law : Known depth) where
   instance_said (word, (n, (of, (base, ((kind, file), ((queue, stack), ((priority, cpu), found))))))) h note =
       let i : Instance = made_instance (word, (n, (of, (base, ((kind, file), ((queue, stack), ((priority, cpu), found))))))) in
       let s = h.1.1.1.1 in
-      declares law (instance_def (record i { note = note })) h.1.0
+      declares law (instance_def (record i { note = note })) h.1.0 tt
       (held_before (flat_map names_in_phase i.phases) (held_both (held_both (held_both (held_both (held_both (uses law ComponentGroup of h.1.1.0) h.1.1.1.0) s.1.0.0) s.1.0.1) s.1.1.0.0) s.1.1.0.1) (phases_named _ found s.1.1.1))
 
   pub instance_yields : Yields law (component_instance depth) InstanceSaid
@@ -175,7 +175,7 @@ module _ {depth : ℕ} (law : Known depth) where
   topology_said : (p : Span × (Name × (List TMember × Span))) → Unit {0} × (law.Naming p.1.0 × (Each MemberSaid p.1.1.0 × Unit {0})) → TopologySaid (made_topology p)
   topology_said (word, (n, (found, closing))) h note =
       let t : Topology = made_topology (word, (n, (found, closing))) in
-      declares law (topology_def (record t { note = note })) h.1.0 (held_list topology_member_items names_in_topology_member found h.1.1.0)
+      declares law (topology_def (record t { note = note })) h.1.0 tt (held_list topology_member_items names_in_topology_member found h.1.1.0)
 
   pub topology_yields : Yields law (topology depth) TopologySaid
   topology_yields = gives_map TopologySaid made_topology topology_said

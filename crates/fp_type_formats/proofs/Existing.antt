@@ -1,5 +1,5 @@
 -- Each text has a reading.
-use Rattle.std.proofs.Common.{◌≡◌, ℕ, zero, suc, ◌≤◌, ◌⊎◌, inl, inr, Bool, true, false, ◌||◌, ◌==◌, List, [], ◌∷◌, ◌++◌, length, length-append, refl, sym, ◌∙◌, ap, arith}
+use Rattle.std.proofs.Common.{◌≡◌, ℕ, zero, suc, ◌≤◌, ◌⊎◌, inl, inr, Bool, true, false, ◌==◌, List, [], ◌∷◌, ◌++◌, length, length-append, refl, sym, ◌∙◌, ap, arith}
 use Rattle.std.proofs.lemmas.Bool.Decides.{nat_tests}
 use Rattle.fp_base.specs.Formats.{is_brace}
 use Rattle.fp_formats.specs.Spelling.{has_no_brace, begins_with, IsLone}
@@ -7,10 +7,10 @@ use Rattle.fp_formats.proofs.Braces.{no_brace-cons, no_brace-tail, no_closing, o
 use Rattle.fp_type_formats.specs.Elements.{Element, plain, escape, field, lone, element_text, IsElement, IsReading}
 use Rattle.fp_type_formats.proofs.Heads.{field_bytes}
 
-same_number : (b c : ℕ) → (b == c) ≡ true → b ≡ c
+pub same_number : (b c : ℕ) → (b == c) ≡ true → b ≡ c
 same_number b c h = grind (arith, nat_tests)
 
-other_number : (b c : ℕ) → (b == c) ≡ false → b ≡ c → ⊥
+pub other_number : (b c : ℕ) → (b == c) ≡ false → b ≡ c → ⊥
 other_number b c h e = grind (arith, nat_tests)
 
 no_brace_here : (b : ℕ) → (b == 123) ≡ false → (b == 125) ≡ false → is_brace b ≡ false

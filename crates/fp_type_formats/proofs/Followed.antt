@@ -3,7 +3,7 @@ use Rattle.std.specs.Prelude.{flat_map}
 use Rattle.std.proofs.lemmas.Grind.{flat_map-append}
 use Rattle.std.proofs.lemmas.List.{take_all}
 use Rattle.fp_base.proofs.Lists.{take_next}
-use Rattle.std.proofs.Common.{◌≡◌, ℕ, zero, suc, ◌+◌, ◌≤◌, ◌<◌, ◌-◌, append-nil, length, take, Bool, true, false, cond, List, [], ◌∷◌, ◌++◌, slice_get, Option, Some, None, refl, sym, ◌∙◌, ap, subst, arith}
+use Rattle.std.proofs.Common.{◌≡◌, ℕ, zero, suc, ◌+◌, ◌≤◌, ◌<◌, ◌-◌, append-nil, length, take, Bool, true, false, MatchBool, cond, List, [], ◌∷◌, ◌++◌, slice_get, Option, Some, None, refl, sym, ◌∙◌, ap, subst, arith}
 use Rattle.fp_base.proofs.Options.{same_some}
 use Rattle.fp_tree.specs.declared.definition.Def.{Def}
 use Rattle.fp_tree.specs.declared.definition.Def.TheVariants as def
@@ -155,11 +155,15 @@ module _ (is : List Item) (names : List Definition) (ss : List Sort) (found : Ar
   sort_here : IsSortOfName (flat_map definitions_of is) scope t s
   sort_here = subst (λ (l : List Definition). IsSortOfName l scope t s) found.names k
 
-  pub yes_other : ends_other n ss s ≡ true → NamesNoInteger is n scope t
+  yes_other : ends_other n ss s ≡ true → NamesNoInteger is n scope t
   yes_other e = follow is ss sorted_here n scope t s sort_here e
 
-  pub no_other : ends_other n ss s ≡ false → NamesNoInteger is n scope t → ⊥
+  no_other : ends_other n ss s ≡ false → NamesNoInteger is n scope t → ⊥
   no_other e h = no_both (ended is ss sorted_here h s sort_here) e
+
+  pub told : (b : Bool) → b ≡ ends_other n ss s → MatchBool b (NamesNoInteger is n scope t) (NamesNoInteger is n scope t → ⊥)
+  told true e = yes_other (sym e)
+  told false e = no_other (sym e)
 
 -- one step less
 pub step_less : (n : ℕ) (ss : List Sort) (number : ℕ) → 0 < n → ends_other n ss (sort.Named number) ≡ ends_other (n - 1) ss (sort_if (slice_get ss number))

@@ -6,3 +6,4 @@ mod Followed
 mod Existing
 mod Pieced
 mod Unbroken
+mod Unfit

@@ -1,17 +1,17 @@
 -- A reading in which nothing is wrong spells the pieces of a format.
 use Rattle.std.specs.Prelude.{flat_map}
 use Rattle.std.specs.List.{list_any}
-use Rattle.std.proofs.Common.{◌≡◌, ℕ, zero, suc, ◌⊎◌, inl, inr, Bool, true, false, cond, not, ◌&&◌, ◌||◌, ◌==◌, List, [], ◌∷◌, ◌++◌, refl, sym, ◌∙◌, ap, append_assoc, append-nil, arith}
-use Rattle.std.proofs.lemmas.Bool.Decides.{nat_tests}
-use Rattle.fp_base.proofs.Bools.{both, neither, or_cases}
+use Rattle.std.proofs.Common.{◌≡◌, ℕ, suc, ◌⊎◌, inl, inr, Bool, true, false, cond, not, ◌&&◌, ◌==◌, List, [], ◌∷◌, ◌++◌, length, slice_get, Some, refl, sym, ◌∙◌, ap, append_assoc, append-nil, arith}
+use Rattle.fp_base.proofs.Bools.{both, join, neither}
 use Rattle.fp_base.specs.declared.format.Piece.{Piece}
 use Rattle.fp_base.specs.declared.format.Piece.TheVariants as piece
 use Rattle.fp_base.specs.declared.value.Value.{Value}
 use Rattle.fp_base.specs.Formats.{is_brace, doubled, spelled, spelling, are_whole, is_empty_text}
 use Rattle.fp_formats.specs.Fits.{fits, is_integer, takes}
 use Rattle.fp_formats.specs.Spelling.{is_form, IsFormat}
-use Rattle.fp_type_formats.specs.Elements.{Element, plain, escape, field, lone, element_text, field_count, is_lone, is_numeric, is_other, IsElement, IsReading}
-use Rattle.fp_type_formats.proofs.Heads.{field_bytes}
+use Rattle.fp_type_formats.specs.Elements.{Element, plain, escape, field, lone, element_text, fields_of, is_lone, is_other, prints_number, IsReading}
+use Rattle.fp_type_formats.specs.Readable.{Agree}
+use Rattle.fp_type_formats.proofs.Existing.{same_number}
 
 no_both : {A : Type 0} {b : Bool} → b ≡ true → b ≡ false → A
 no_both e f = absurd (cc)
@@ -75,9 +75,6 @@ letter_by P b dec hex oct char = go (b == 100) (b == 120) (b == 111) dec hex oct
     go false true z d h o c = h refl
     go false false true d h o c = o refl
     go false false false d h o c = c refl refl refl
-
-same_number : (b c : ℕ) → (b == c) ≡ true → b ≡ c
-same_number b c h = grind (arith, nat_tests)
 
 last_letter : (b : ℕ) → is_form (b ∷ []) ≡ true → (b == 100) ≡ false → (b == 120) ≡ false → (b == 111) ≡ false → (b == 99) ≡ true
 last_letter b h p q r = rw (p, q, r) at h
@@ -153,7 +150,7 @@ whole_all (escape b ∷ es) = whole_byte b (pieces_of es) (whole_all es)
 whole_all (field w ∷ es) = whole_form w (pieces_of es) (whole_all es)
 whole_all (lone b ∷ es) = whole_all es
 
-fits_none : (es : List Element) → field_count es ≡ 0 → fits (pieces_of es) [] ≡ true
+fits_none : (es : List Element) → length (fields_of es) ≡ 0 → fits (pieces_of es) [] ≡ true
 unfolding pieces_of
 fits_none [] h = refl
 fits_none (plain b ∷ es) h = fits_byte b (pieces_of es) [] ∙ fits_none es h
@@ -161,25 +158,63 @@ fits_none (escape b ∷ es) h = fits_byte b (pieces_of es) [] ∙ fits_none es h
 fits_none (field w ∷ es) h = absurd (omega (arith, h))
 fits_none (lone b ∷ es) h = fits_none es h
 
-plain_form : (w : List ℕ) → is_form w ≡ true → (is_form w && not (is_empty_text w)) ≡ false → is_empty_text w ≡ true
+plain_form : (w : List ℕ) → is_form w ≡ true → (prints_number w ≡ true → ⊥) → is_empty_text w ≡ true
 plain_form [] h k = refl
-plain_form (b ∷ w) h k = no_both h (ap (λ (t : Bool). t) (and_true (is_form (b ∷ w)) k))
-  where
-    and_true : (x : Bool) → (x && true) ≡ false → x ≡ false
-    and_true true e = cc
-    and_true false e = refl
+plain_form (b ∷ w) h k = absurd (k (join (is_form (b ∷ w)) true h refl))
 
-pub fits_one : (v : Value) (es : List Element) → IsClean es → field_count es ≡ 1 → (list_any is_numeric es ≡ false) ⊎ (is_integer v ≡ true) → fits (pieces_of es) (v ∷ []) ≡ true
+-- no field prints a number
+abbrev pub PrintNoNumber : List Element → Type 0
+PrintNoNumber es = (k : ℕ) (w : List ℕ) → slice_get (fields_of es) k ≡ Some w → prints_number w ≡ true → ⊥
+
+pub fits_one : (v : Value) (es : List Element) → IsClean es → length (fields_of es) ≡ 1 → PrintNoNumber es ⊎ (is_integer v ≡ true) → fits (pieces_of es) (v ∷ []) ≡ true
 unfolding pieces_of
 fits_one v [] k h o = absurd (omega (arith, h))
 fits_one v (plain b ∷ es) k h o = fits_byte b (pieces_of es) (v ∷ []) ∙ fits_one v es (clean_rest (plain b) es k) h o
 fits_one v (escape b ∷ es) k h o = fits_byte b (pieces_of es) (v ∷ []) ∙ fits_one v es (clean_rest (escape b) es k) h o
-fits_one v (field w ∷ es) k h (inr o) = let z : field_count es ≡ 0 = omega (arith, h) in form_takes w v (pieces_of es) (inr o) (fits_none es z)
+fits_one v (field w ∷ es) k h (inr o) = let z : length (fields_of es) ≡ 0 = omega (arith, h) in form_takes w v (pieces_of es) (inr o) (fits_none es z)
 fits_one v (field w ∷ es) k h (inl o) =
-    let z : field_count es ≡ 0 = omega (arith, h) in
+    let z : length (fields_of es) ≡ 0 = omega (arith, h) in
     let good = good_form w (neither (not (is_form w)) (list_any is_other es) k.0).0 in
-    form_takes w v (pieces_of es) (inl (plain_form w good (neither (is_form w && not (is_empty_text w)) (list_any is_numeric es) o).0)) (fits_none es z)
+    form_takes w v (pieces_of es) (inl (plain_form w good (o 0 w refl))) (fits_none es z)
 fits_one v (lone b ∷ es) k h o = no_both refl k.1
+
+-- ---- one value for each field
+
+module _ {A : Type 0} (NoInteger : A → Type 0) where
+  agree_byte : (b : ℕ) (ps : List Piece) (xs : List A) → Agree NoInteger ps xs → Agree NoInteger (with_byte b ps) xs
+  unfolding with_byte
+  agree_byte b [] xs h = h
+  agree_byte b (piece.Plain s ∷ ps) xs h = h
+  agree_byte b (piece.Any ∷ ps) xs h = h
+  agree_byte b (piece.Dec ∷ ps) xs h = h
+  agree_byte b (piece.Hex ∷ ps) xs h = h
+  agree_byte b (piece.Oct ∷ ps) xs h = h
+  agree_byte b (piece.Char ∷ ps) xs h = h
+
+  agree_form : (w : List ℕ) (ps : List Piece) (x : A) (xs : List A) → (is_empty_text w ≡ false → NoInteger x → ⊥) → Agree NoInteger ps xs → Agree NoInteger (form_piece w ∷ ps) (x ∷ xs)
+  unfolding form_piece
+  agree_form [] ps x xs o h = (tt, h)
+  agree_form (b ∷ w) ps x xs o h = letter_by (λ (p : Piece). Agree NoInteger (p ∷ ps) (x ∷ xs)) b (λ e. (o refl, h)) (λ e. (o refl, h)) (λ e. (o refl, h)) (λ p q r. (o refl, h))
+
+  number_form : (w : List ℕ) → is_form w ≡ true → is_empty_text w ≡ false → prints_number w ≡ true
+  number_form w h e = join (is_form w) (not (is_empty_text w)) h (ap not e)
+
+  -- a field that prints a number is of an integer
+  abbrev PrintIntegers : List Element → List A → Type 0
+  PrintIntegers es xs = (k : ℕ) (w : List ℕ) (x : A) → slice_get (fields_of es) k ≡ Some w → prints_number w ≡ true → slice_get xs k ≡ Some x → NoInteger x → ⊥
+
+  pub agree_all : (es : List Element) (xs : List A) → IsClean es → length (fields_of es) ≡ length xs → PrintIntegers es xs → Agree NoInteger (pieces_of es) xs
+  unfolding pieces_of
+  agree_all [] [] k h o = tt
+  agree_all [] (x ∷ xs) k h o = absurd (omega (arith, h))
+  agree_all (plain b ∷ es) xs k h o = agree_byte b (pieces_of es) xs (agree_all es xs (clean_rest (plain b) es k) h o)
+  agree_all (escape b ∷ es) xs k h o = agree_byte b (pieces_of es) xs (agree_all es xs (clean_rest (escape b) es k) h o)
+  agree_all (field w ∷ es) [] k h o = absurd (omega (arith, h))
+  agree_all (field w ∷ es) (x ∷ xs) k h o =
+      let good = good_form w (neither (not (is_form w)) (list_any is_other es) k.0).0 in
+      agree_form w (pieces_of es) x xs (λ e. o 0 w x refl (number_form w good e) refl)
+      (agree_all es xs (clean_rest (field w) es k) (omega (arith, h)) (λ j. o (suc j)))
+  agree_all (lone b ∷ es) xs k h o = no_both refl k.1
 
 pub format_of : (es : List Element) (text : List ℕ) → IsReading es text → IsClean es → IsFormat text (pieces_of es)
 format_of es text h k = record { spells = spelled_all es text h k; whole = whole_all es }

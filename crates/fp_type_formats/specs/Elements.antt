@@ -1,6 +1,6 @@
 -- How the text of a format is read, from its beginning on, also where it is no format: behind a brace that is part of no field or escape the
 -- reading goes on with the next byte. FPP Language Specification, "Format Strings".
-use Rattle.std.specs.Prelude.{◌≡◌, ℕ, suc, Bool, true, false, not, ◌&&◌, ◌||◌, List, [], ◌∷◌, ◌++◌}
+use Rattle.std.specs.Prelude.{◌≡◌, ℕ, Bool, true, false, not, ◌&&◌, ◌||◌, List, [], ◌∷◌, ◌++◌, slice_get, Some}
 use Rattle.std.specs.List.{list_any}
 use Rattle.fp_base.specs.Formats.{is_brace, is_empty_text}
 use Rattle.fp_formats.specs.Spelling.{has_no_brace, is_form, IsLone}
@@ -35,19 +35,23 @@ abbrev pub is_other : Element → Bool
 is_other (field inside) = not (is_form inside)
 is_other _ = false
 
--- one of the last four of these, which print a number
-abbrev pub is_numeric : Element → Bool
-is_numeric (field inside) = is_form inside && not (is_empty_text inside)
-is_numeric _ = false
-
 abbrev pub is_lone : Element → Bool
 is_lone (lone b) = true
 is_lone _ = false
 
-abbrev pub field_count : List Element → ℕ
-field_count [] = 0
-field_count (field inside ∷ es) = suc (field_count es)
-field_count (e ∷ es) = field_count es
+-- what stands between the braces of the fields
+abbrev pub fields_of : List Element → List (List ℕ)
+fields_of [] = []
+fields_of (field inside ∷ es) = inside ∷ fields_of es
+fields_of (e ∷ es) = fields_of es
+
+-- one of the last four forms of a field
+abbrev pub prints_number : List ℕ → Bool
+prints_number inside = is_form inside && not (is_empty_text inside)
+
+-- the field k, counted from 0, prints a number, where what it prints is none
+abbrev pub HasUnfitField : (ℕ → Type 0) → List Element → Type 0
+HasUnfitField unfit es = (k : ℕ) × (inside : List ℕ) × (slice_get (fields_of es) k ≡ Some inside) × (prints_number inside ≡ true) × unfit k
 
 -- it is no format, so that nothing is said of how many fields it has
 abbrev pub is_malformed : List Element → Bool

@@ -1,5 +1,5 @@
 -- What the code finds on its way: of elements what they are for the rules, and of definitions what they are as types.
-use Rattle.std.specs.Prelude.{◌≡◌, ℕ, zero, suc, Bool, true, false, cond, not, ◌&&◌, ◌||◌, List, [], ◌∷◌, ◌++◌, flat_map, Option, Some, None, slice_get}
+use Rattle.std.specs.Prelude.{◌≡◌, ℕ, zero, suc, Bool, true, false, cond, not, ◌&&◌, ◌||◌, ◌+◌, ◌==◌, List, [], ◌∷◌, ◌++◌, flat_map, Option, Some, None, slice_get, unwrap_or, MatchBool}
 use Rattle.fp_base.specs.declared.place.Place.{Place}
 use Rattle.fp_base.specs.declared.refusal.Refusal.{Refusal}
 use Rattle.fp_base.specs.declared.rule.Rule.TheVariants.{FieldCount, FieldKind, LoneBrace}
@@ -7,6 +7,7 @@ use Rattle.fp_base.specs.Least.{broken_at, lesser_of}
 use Rattle.fp_tree.specs.declared.definition.Def.{Def}
 use Rattle.fp_tree.specs.declared.definition.Def.TheVariants as def
 use Rattle.fp_tree.specs.declared.name.Qual.{Qual}
+use Rattle.fp_tree.specs.declared.part.Formal.{Formal}
 use Rattle.fp_tree.specs.declared.type_name.TypeForm.{TypeForm}
 use Rattle.fp_tree.specs.declared.type_name.TypeForm.TheVariants as type
 use Rattle.fp_meaning.specs.declared.group.Group.TheVariants.{Kind}
@@ -18,15 +19,13 @@ use Rattle.fp_meaning.specs.Sites.{Site}
 use Rattle.fp_meaning.specs.Values.{names_of}
 use Rattle.fp_formats.specs.Spelling.{is_form}
 use Rattle.fp_base.specs.Formats.{is_empty_text}
-use Rattle.fp_type_formats.specs.declared.reading.Count.{Count}
-use Rattle.fp_type_formats.specs.declared.reading.Count.TheVariants as count
 use Rattle.fp_type_formats.specs.declared.reading.Mark.{Mark}
 use Rattle.fp_type_formats.specs.declared.reading.Mark.TheVariants as mark
 use Rattle.fp_type_formats.specs.declared.reading.Reading.{Reading}
 use Rattle.fp_type_formats.specs.declared.sorts.Sort.{Sort}
 use Rattle.fp_type_formats.specs.declared.sorts.Sort.TheVariants as sort
 use Rattle.fp_type_formats.specs.Elements.{Element, plain, escape, field, lone, element_text, IsElement, IsReading}
-use Rattle.fp_type_formats.specs.Integers.{is_other_definition, is_other_word, sites_of}
+use Rattle.fp_type_formats.specs.Integers.{NamesNoInteger, is_other_definition, is_other_word, sites_of}
 
 -- ---- a text
 
@@ -46,40 +45,38 @@ pub record IsNext (text : List ℕ) (m : Mark) (after : List ℕ) : Type 0 where
   pub is : IsElement element after
   pub marked : mark_of element ≡ m
 
-abbrev pub one_more : Count → Count
-one_more count.Zero = count.One
-one_more count.One = count.Many
-one_more count.Many = count.Many
-
 abbrev pub nothing_read : Reading
-nothing_read = record { fields = count.Zero; other = false; numeric = false; lone = false }
+nothing_read = record { fields = 0; other = false; unfit = false; lone = false }
 
-abbrev pub with_mark : Mark → Reading → Reading
-with_mark mark.Text r = r
-with_mark mark.Any r = record { fields = one_more r.fields; other = r.other; numeric = r.numeric; lone = r.lone }
-with_mark mark.Numeric r = record { fields = one_more r.fields; other = r.other; numeric = true; lone = r.lone }
-with_mark mark.Other r = record { fields = one_more r.fields; other = true; numeric = r.numeric; lone = r.lone }
-with_mark mark.Lone r = record { fields = r.fields; other = r.other; numeric = r.numeric; lone = true }
+-- whether what the field k prints is no integer, by a list of the first fields and one answer for all behind these
+abbrev pub unfit_at : List Bool → Bool → ℕ → Bool
+unfit_at unfit others k = unwrap_or (slice_get unfit k) others
 
-abbrev pub read_on : Reading → List Element → Reading
-read_on r [] = r
-read_on r (e ∷ es) = read_on (with_mark (mark_of e) r) es
+abbrev pub with_field : Reading → Reading
+with_field r = record { fields = r.fields + 1; other = r.other; unfit = r.unfit; lone = r.lone }
+
+abbrev pub with_mark : (ℕ → Bool) → Mark → Reading → Reading
+with_mark unfit mark.Text r = r
+with_mark unfit mark.Any r = with_field r
+with_mark unfit mark.Numeric r = record { fields = r.fields + 1; other = r.other; unfit = r.unfit || unfit r.fields; lone = r.lone }
+with_mark unfit mark.Other r = record { fields = r.fields + 1; other = true; unfit = r.unfit; lone = r.lone }
+with_mark unfit mark.Lone r = record { fields = r.fields; other = r.other; unfit = r.unfit; lone = true }
+
+abbrev pub read_on : (ℕ → Bool) → Reading → List Element → Reading
+read_on unfit r [] = r
+read_on unfit r (e ∷ es) = read_on unfit (with_mark unfit (mark_of e) r) es
 
 -- the text can be read, and this is what is read of it
-pub record IsReadAs (text : List ℕ) (r : Reading) : Type 0 where
+pub record IsReadAs (unfit : ℕ → Bool) (text : List ℕ) (r : Reading) : Type 0 where
   pub elements : List Element
   pub reading : IsReading elements text
-  pub exact : (es : List Element) → IsReading es text → r ≡ read_on nothing_read es
+  pub exact : (es : List Element) → IsReading es text → r ≡ read_on unfit nothing_read es
 
-abbrev pub is_one : Count → Bool
-is_one count.One = true
-is_one _ = false
-
--- what is found of the format of a value, which is or isn't of an integer type
-abbrev pub fault_found : Reading → Bool → Place → Option Refusal
-fault_found r unfit place =
-    lesser_of (cond (not (r.other || r.lone) && not (is_one r.fields)) (Some (broken_at FieldCount place)) None)
-    (lesser_of (cond (r.other || (r.numeric && unfit)) (Some (broken_at FieldKind place)) None)
+-- what is found of the format of so many values
+abbrev pub fault_found : Reading → ℕ → Place → Option Refusal
+fault_found r values place =
+    lesser_of (cond (not (r.other || r.lone) && not (r.fields == values)) (Some (broken_at FieldCount place)) None)
+    (lesser_of (cond (r.other || r.unfit) (Some (broken_at FieldKind place)) None)
     (cond r.lone (Some (broken_at LoneBrace place)) None))
 
 -- ---- types
@@ -132,3 +129,16 @@ ends_other (suc n) ss (sort.Named number) = ends_other n ss (sort_if (slice_get 
 pub record AreFound (is : List Item) (ds : List Definition) (ss : List Sort) : Type 0 where
   pub names : ds ≡ flat_map definitions_of is
   pub sorts : AreSorts ds (flat_map sites_of is) ss
+
+-- ---- what formats print
+
+-- whether a type name in a scope names a type that is no integer type
+abbrev pub IsUnfit : List Item → Path → TypeForm → Bool → Type 0
+IsUnfit is scope t unfit = MatchBool unfit (NamesNoInteger is 256 scope t) (NamesNoInteger is 256 scope t → ⊥)
+
+-- the same of each parameter
+abbrev pub AreUnfit : List Item → Path → List Formal → List Bool → Type 0
+AreUnfit is scope [] [] = Unit {0}
+AreUnfit is scope [] (b ∷ bs) = ⊥
+AreUnfit is scope (x ∷ xs) [] = ⊥
+AreUnfit is scope (x ∷ xs) (b ∷ bs) = IsUnfit is scope x.of.form b × AreUnfit is scope xs bs

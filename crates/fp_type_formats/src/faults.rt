@@ -1,23 +1,25 @@
-ghost use Rattle.std.specs.Prelude.{◌≡◌, List, Option, IfOk, flat_map};
+ghost use Rattle.std.specs.Prelude.{◌≡◌, List, Option, IfOk, flat_map, length, true};
 ghost use Rattle.fp_base.specs.Least.{InSome, IsLeast};
 ghost use Rattle.fp_meaning.specs.declared.item.Item.{Item as Part};
 ghost use Rattle.fp_meaning.specs.Names.{definitions, definitions_of};
-ghost use Rattle.fp_type_formats.specs.Broken.{BrokenByDefinition, BrokenByFormat, BrokenByFormats, BrokenByItem, BrokenByMember, BrokenByText, FormatsBroken};
+ghost use Rattle.fp_meaning.specs.Read.{read as borrowed};
+ghost use Rattle.fp_type_formats.specs.Broken.{BrokenByDefinition, BrokenByFields, BrokenByFormat, BrokenByFormats, BrokenByItem, BrokenByMember, BrokenByModelDef, BrokenByText, FormatsBroken};
 ghost use Rattle.fp_type_formats.specs.Integers.{NamesNoInteger};
-ghost use Rattle.fp_type_formats.specs.Sorted.{AreFound, fault_found};
+ghost use Rattle.fp_type_formats.specs.Sorted.{AreFound, fault_found, unfit_at};
 
-use crate::reading::{Reading, is_one, read};
-use crate::sorts::{Sort, is_other, sort_of_name, sorts_of};
+use crate::components::component_fault;
+use crate::reading::{Reading, read};
+use crate::sorts::{Sort, names_no_integer, sorts_of};
 use fp_base::{NoMemory, Place, Refusal, Row, Rule, Text, lesser, refusal_if};
 use fp_layout::lay_out;
-use fp_meaning::Item;
+use fp_meaning::{Item, ModelDef};
 use fp_names::Names;
 use fp_tree::{Def, Field, Source, Str, TypeForm, TypeName};
 use std::alloc::Global;
 
-/// The least rule that the formats of arrays and struct fields break: not one field for the one value, a field of another form than `{}`,
-/// `{d}`, `{x}`, `{o}` and `{c}`, one of the last four where the type is no integer type, a brace that is part of no field or escape. `names`
-/// are the definitions of the source, as `collect` gives them. None exactly where none is broken.
+/// The least rule that the formats of arrays, struct fields, events and channels break: not one field for each value, a field of another
+/// form than `{}`, `{d}`, `{x}`, `{o}` and `{c}`, one of the last four where the type is no integer type, a brace that is part of no field or
+/// escape. `names` are the definitions of the source, as `collect` gives them. None exactly where none is broken.
 pub fn format_faults(
     alloc: Global,
     source: &Source,
@@ -73,9 +75,29 @@ fn item_fault(
             definition_fault(alloc, sited.scope(), sited.definition(), names, sorts)
         }
         Item::Enumerated(_) => Ok(None),
-        Item::Declared(_) => Ok(None),
+        Item::Declared(declared) => {
+            declared_fault(alloc, declared.scope(), declared.definition(), names, sorts)
+        }
         Item::Used { .. } => Ok(None),
         Item::Written { .. } => Ok(None),
+    }
+}
+
+fn declared_fault(
+    alloc: Global,
+    scope: &Row<Text>,
+    definition: ModelDef,
+    names: &Names,
+    sorts: &[Sort],
+) -> Result<Option<Refusal>, NoMemory>
+    ensures { IfOk result (λ one. (is : List Part) → AreFound is names.now sorts.now → IsLeast (BrokenByModelDef is scope.now (borrowed definition.entry)) one) }
+{
+    match definition {
+        ModelDef::Machine(_) => Ok(None),
+        ModelDef::Component(component) => { component_fault(alloc, scope, component, names, sorts) }
+        ModelDef::Interface(_) => Ok(None),
+        ModelDef::Instance(_) => Ok(None),
+        ModelDef::Topology(_) => Ok(None),
     }
 }
 
@@ -121,7 +143,7 @@ fn fields_fault(
     Ok(first)
 }
 
-fn format_fault(
+pub fn format_fault(
     alloc: Global,
     scope: &Row<Text>,
     of: &TypeName,
@@ -147,19 +169,26 @@ fn text_fault(
 ) -> Result<Option<Refusal>, NoMemory>
     ensures { IfOk result (λ one. (is : List Part) → AreFound is names.now sorts.now → IsLeast (BrokenByText format.now.text format.now.at.first (NamesNoInteger is 256 scope.now form.now)) one) }
 {
-    let sort = sort_of_name(alloc, scope, form, names)?;
-    let reading = read(format.text.as_bytes());
-    let unfit = is_other(sorts, sort);
-    Ok(fault_found(reading, unfit, format.at.first))
+    let unfit = names_no_integer(alloc, scope, form, names, sorts)?;
+    Ok(first_broken(format, &[unfit], unfit))
 }
 
-/// What is found of the format of a value, which is or isn't of an integer type.
-fn fault_found(reading: Reading, unfit: bool, place: Place) -> Option<Refusal>
-    ensures { result ≡ fault_found reading unfit place }
+/// What is found of a format with a field for each value: `unfit` says of each whether it is no integer, and `others` of what any further
+/// field prints.
+pub fn first_broken(format: &Str, unfit: &[bool], others: bool) -> Option<Refusal>
+    ensures { IsLeast (BrokenByFields format.now.text format.now.at.first (length unfit.now) (λ k. unfit_at unfit.now others k ≡ true)) result }
+{
+    let reading = read(format.text.as_bytes(), unfit, others);
+    fault_found(reading, unfit.len(), format.at.first)
+}
+
+/// What is found by what was read of the format of so many values.
+fn fault_found(reading: Reading, values: usize, place: Place) -> Option<Refusal>
+    ensures { result ≡ fault_found reading values place }
 {
     let well_formed = !(reading.other | reading.lone);
-    let miscounted = well_formed & !is_one(reading.fields);
-    let bad_field = reading.other | (reading.numeric & unfit);
+    let miscounted = well_formed & (reading.fields != values);
+    let bad_field = reading.other | reading.unfit;
     let count = refusal_if(miscounted, Rule::FieldCount, place);
     let field = refusal_if(bad_field, Rule::FieldKind, place);
     let brace = refusal_if(reading.lone, Rule::LoneBrace, place);

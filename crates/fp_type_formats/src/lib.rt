@@ -1,6 +1,7 @@
-//! The formats of the arrays and of the struct fields of a source, and the first rule that they break.
+//! The formats of the arrays, struct fields, events and channels of a source, and the first rule that they break.
 #![tactic(auto)]
 
+mod components;
 mod faults;
 mod laws;
 mod reading;

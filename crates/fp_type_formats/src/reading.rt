@@ -1,23 +1,15 @@
-ghost use Rattle.std.specs.Prelude.{◌≡◌, ◌++◌, ◌∷◌, ℕ, List, true, false, MatchOption};
+ghost use Rattle.std.specs.Prelude.{◌≡◌, ◌+◌, ◌<◌, ◌^◌, ◌++◌, ◌∷◌, ℕ, List, true, false, MatchOption};
 ghost use Rattle.fp_formats.specs.Spelling.{begins_with, has_no_brace};
-ghost use Rattle.fp_type_formats.specs.Sorted.{IsNext, IsReadAs, field_mark, is_one, nothing_read, one_more, with_mark};
-
-/// How many fields a format has.
-#[derive(Clone, Copy)]
-pub enum Count {
-    Zero,
-    One,
-    Many,
-}
+ghost use Rattle.fp_type_formats.specs.Sorted.{IsNext, IsReadAs, field_mark, nothing_read, unfit_at, with_field, with_mark};
 
 /// What was read of a format.
 #[derive(Clone, Copy)]
 pub struct Reading {
-    pub fields: Count,
+    pub fields: usize,
     /// A field has another form than `{}`, `{d}`, `{x}`, `{o}` and `{c}`.
     pub other: bool,
-    /// A field is one of the last four.
-    pub numeric: bool,
+    /// A field is one of the last four, and what it prints is no integer.
+    pub unfit: bool,
     /// A brace is part of no field or escape.
     pub lone: bool,
 }
@@ -32,15 +24,16 @@ pub enum Mark {
     Lone,
 }
 
-/// What a format's text has, to its end.
-pub fn read(text: &[u8]) -> Reading
-    ensures { IsReadAs text.now result }
+/// What a format's text has, to its end. Whether what a field prints is no integer, `unfit` says of the first fields, one by one, and
+/// `others` of all behind these.
+pub fn read(text: &[u8], unfit: &[bool], others: bool) -> Reading
+    ensures { IsReadAs (unfit_at unfit.now others) text.now result }
 {
     let mut reading = nothing_read();
     let mut rest = text;
     while let Some((first, behind)) = rest.split_first() {
         let next = first_mark(*first, behind);
-        reading = with_mark(next.0, reading);
+        reading = with_mark(next.0, reading, unfit, others);
         rest = next.1;
     }
     reading
@@ -50,9 +43,9 @@ fn nothing_read() -> Reading
     ensures { result ≡ nothing_read }
 {
     Reading {
-        fields: Count::Zero,
+        fields: 0,
         other: false,
-        numeric: false,
+        unfit: false,
         lone: false,
     }
 }
@@ -135,14 +128,15 @@ fn before_closing(bytes: &[u8]) -> Option<(&[u8], &[u8])>
     None
 }
 
-fn with_mark(mark: Mark, reading: Reading) -> Reading
-    ensures { result ≡ with_mark mark reading }
+fn with_mark(mark: Mark, reading: Reading, unfit: &[bool], others: bool) -> Reading
+    requires { reading.fields + 1 < 2 ^ 64 }
+    ensures { result ≡ with_mark (unfit_at unfit.now others) mark reading }
 {
     match mark {
         Mark::Text => reading,
         Mark::Any => with_field(reading),
         Mark::Numeric => Reading {
-            numeric: true,
+            unfit: reading.unfit | unfit_at(unfit, others, reading.fields),
             ..with_field(reading)
         },
         Mark::Other => Reading {
@@ -157,30 +151,20 @@ fn with_mark(mark: Mark, reading: Reading) -> Reading
 }
 
 fn with_field(reading: Reading) -> Reading
-    ensures { result ≡ with_mark Mark.Any reading }
+    requires { reading.fields + 1 < 2 ^ 64 }
+    ensures { result ≡ with_field reading }
 {
     Reading {
-        fields: one_more(reading.fields),
+        fields: reading.fields + 1,
         ..reading
     }
 }
 
-fn one_more(count: Count) -> Count
-    ensures { result ≡ one_more count }
+fn unfit_at(unfit: &[bool], others: bool, at: usize) -> bool
+    ensures { result ≡ unfit_at unfit.now others at }
 {
-    match count {
-        Count::Zero => Count::One,
-        Count::One => Count::Many,
-        Count::Many => Count::Many,
-    }
-}
-
-pub fn is_one(count: Count) -> bool
-    ensures { result ≡ is_one count }
-{
-    match count {
-        Count::Zero => false,
-        Count::One => true,
-        Count::Many => false,
+    match unfit.get(at) {
+        Some(unfit) => *unfit,
+        None => others,
     }
 }

@@ -1,8 +1,9 @@
 ghost use Rattle.std.specs.Prelude.{◌≡◌, ◌++◌, List, Option, IfOk, OnOk, flat_map, map, slice_get};
+ghost use Rattle.fp_meaning.specs.declared.item.Item.{Item as Laid};
 ghost use Rattle.fp_meaning.specs.Sites.{Site};
 ghost use Rattle.fp_tree.specs.declared.name.Name.{Name as Part};
 ghost use Rattle.fp_type_formats.specs.Integers.{sites_of};
-ghost use Rattle.fp_type_formats.specs.Sorted.{AreSorts, IsSortOfDefinition, IsSortOfName, IsSortOfUse, ends_other, sort_if};
+ghost use Rattle.fp_type_formats.specs.Sorted.{AreFound, AreSorts, IsSortOfDefinition, IsSortOfName, IsSortOfUse, IsUnfit, ends_other, sort_if};
 
 use fp_base::{NoMemory, Row, Text};
 use fp_meaning::Item;
@@ -77,7 +78,7 @@ fn sort_of_definition(
 }
 
 /// What a type name is in a scope.
-pub fn sort_of_name(
+fn sort_of_name(
     alloc: Global,
     scope: &Row<Text>,
     form: &TypeForm,
@@ -127,8 +128,22 @@ fn texts_of(alloc: Global, names: &[Name]) -> Result<Row<Text>, NoMemory>
     Ok(texts)
 }
 
+/// Whether a type name in a scope names a type that is no integer type.
+pub fn names_no_integer(
+    alloc: Global,
+    scope: &Row<Text>,
+    form: &TypeForm,
+    names: &Names,
+    sorts: &[Sort],
+) -> Result<bool, NoMemory>
+    ensures { IfOk result (λ unfit. (is : List Laid) → AreFound is names.now sorts.now → IsUnfit is scope.now form.now unfit) }
+{
+    let sort = sort_of_name(alloc, scope, form, names)?;
+    Ok(is_other(sorts, sort))
+}
+
 /// Whether it is a type, and no integer type.
-pub fn is_other(sorts: &[Sort], sort: Sort) -> bool
+fn is_other(sorts: &[Sort], sort: Sort) -> bool
     ensures { result ≡ ends_other 256 sorts.now sort }
 {
     ends_other(sorts, sort, STEPS)

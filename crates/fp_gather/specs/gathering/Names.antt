@@ -9,15 +9,16 @@ use Rattle.fp_meaning.specs.declared.item.Item.{Item}
 use Rattle.fp_meaning.specs.declared.item.Item.TheVariants as item
 use Rattle.fp_meaning.specs.declared.names.Definition.{Definition}
 use Rattle.fp_meaning.specs.Names.{definitions_of}
+use Rattle.fp_names.specs.Named.{HasNamedFormals, PartsOfItemAreNamed}
 
--- the name of each member of a struct is one
+-- the name of each member of a struct is one, and of each parameter of a port
 abbrev pub HasNamedMembers : Def → Type 0
 HasNamedMembers (def.Struct d) = list_all (λ (f : Field). is_name f.name.text) d.fields ≡ true
-HasNamedMembers _ = Unit {0}
+HasNamedMembers d = HasNamedFormals d
 
 abbrev pub MembersAreNamed : Item → Type 0
 MembersAreNamed (item.Defined s) = HasNamedMembers s.definition
-MembersAreNamed _ = Unit {0}
+MembersAreNamed i = PartsOfItemAreNamed i
 
 -- each name in the qualified names that an item defines is one, and so is that of each member
 pub record IsNamed (i : Item) : Type 0 where

@@ -1,18 +1,14 @@
-use Rattle.std.proofs.Common.{ℕ, List, sym, subst, ◌∙◌}
-use Rattle.fp_base.proofs.Calculus.{least_along}
-use Rattle.fp_type_formats.specs.Sorted.{IsReadAs}
-use Rattle.fp_type_formats.proofs.Followed.{no_other, yes_other}
-use Rattle.fp_type_formats.proofs.Judged.{least_found}
+use Rattle.std.proofs.Common.{◌≡◌, true, [], ◌∷◌, sym, ◌∙◌}
+use Rattle.fp_type_formats.specs.Integers.{NamesNoInteger}
+use Rattle.fp_type_formats.specs.Sorted.{unfit_at}
+use Rattle.fp_type_formats.proofs.Judged.{least_of_fields}
+use Rattle.fp_type_formats.proofs.Unfit.{always, no_unfit, yes_unfit}
 use Rattle.fp_type_formats.proofs.faults.text_fault.Goals as goal
 
 pub returns : goal.returns
 returns c is found =
-    let s = c.in_ok-sort.sort in
-    let ds = c.args.names.now in
-    let ss = c.args.sorts.now in
-    let text = c.args.format.now.text in
-    let read : IsReadAs text c.read-reading.result = subst (λ (t : List ℕ). IsReadAs t c.read-reading.result) c.as_bytes.ensures.value c.read-reading.ensures in
-    least_along (sym c.fault_found.ensures)
-    (least_found text c.read-reading.result read c.args.format.now.at.first c.is_other-unfit.result
-    (λ e. yes_other is ds ss found 256 c.args.scope.now c.args.form.now s c.in_ok-sort.ensures (sym c.is_other-unfit.ensures ∙ e))
-    (λ e. no_other is ds ss found 256 c.args.scope.now c.args.form.now s c.in_ok-sort.ensures (sym c.is_other-unfit.ensures ∙ e)))
+    let unfit = c.in_ok-unfit.unfit in
+    let told = c.in_ok-unfit.ensures is found in
+    least_of_fields c.args.format.now.text c.args.format.now.at.first 1 (λ k. unfit_at (unfit ∷ []) unfit k ≡ true) (λ k. NamesNoInteger is 256 c.args.scope.now c.args.form.now)
+    (λ k e. yes_unfit is c.args.scope.now c.args.form.now unfit told (sym (always unfit k) ∙ e))
+    (λ k h. always unfit k ∙ no_unfit is c.args.scope.now c.args.form.now unfit told h) c.first_broken.ensures
