@@ -1,0 +1,24 @@
+-- The least of what is broken by what is written is the least that the source breaks.
+use Rattle.std.proofs.Common.{◌≡◌, List, map, Option, Some, subst}
+use Rattle.fp_base.specs.declared.refusal.Refusal.{Refusal}
+use Rattle.fp_base.specs.Least.{IsLeast}
+use Rattle.fp_base.proofs.Calculus.{least_same}
+use Rattle.fp_base.specs.declared.value.Value.{Value}
+use Rattle.fp_tree.specs.declared.source.Source.{Source}
+use Rattle.fp_tables.specs.declared.kind.Kind.{Kind}
+use Rattle.fp_tables.specs.declared.kind.TypeDef.{TypeDef}
+use Rattle.fp_type_sizes.specs.declared.written.WrittenType.{WrittenType}
+use Rattle.fp_types.specs.Converting.{DefaultIs}
+use Rattle.fp_source_types.specs.Typed.{AreTypesOf}
+use Rattle.fp_component_forms.specs.declared.writing.WrittenSource.{WrittenSource}
+use Rattle.fp_component_forms.specs.Written.{IsWrittenSource}
+use Rattle.fp_source_components.specs.Broken.{BrokenBy, PartsBroken}
+use Rattle.fp_source_components.proofs.Given.{one_types}
+use Rattle.fp_source_components.proofs.Once.{one_source}
+
+pub parts_least : ((ws : List WrittenType) (k : Kind) (a b : Value) → DefaultIs ws k a → DefaultIs ws k b → a ≡ b) → (source : Source) (types : List TypeDef) (w : WrittenSource) (o : Option Refusal)
+    → IsWrittenSource source w → AreTypesOf source (map (λ (d : TypeDef). Some d) types) → IsLeast (BrokenBy types w) o → IsLeast (PartsBroken source) o
+parts_least one_default source types w o are given l =
+    least_same (λ f b. record { written = w; are = are; types = types; given = given; broken = b })
+    (λ f b. subst (λ (v : WrittenSource). BrokenBy types v f) (one_source source b.written w b.are are)
+    (subst (λ (ts : List TypeDef). BrokenBy ts b.written f) (one_types one_default source b.types types b.given given) b.broken)) l

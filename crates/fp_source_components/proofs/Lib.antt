@@ -1,0 +1,15 @@
+mod Places
+mod Positions
+mod Once
+mod Given
+mod Imports
+mod Least
+mod Values
+mod Members
+mod Ids
+mod Numbered
+mod Sized
+mod Whole
+mod Names
+mod Assembled
+mod Building

@@ -1,0 +1,8 @@
+//! From a source that is laid out to the definitions of its ports and its components, or the first rule that they break.
+#![tactic(auto)]
+
+mod laws;
+mod parts;
+
+pub use laws::{parts_are_least, unbroken_components_are_whole};
+pub use parts::{Parts, parts_of};
