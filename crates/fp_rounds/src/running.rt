@@ -44,7 +44,6 @@ fn crew_of<'a>(alloc: Global, hands: Row<Hand<'a>>) -> Result<Crew<'a>, Row<Hand
     for hand in hands.into_vec() {
         workers.push_reserved(Worker {
             hand,
-            took: false,
             failed: false,
         });
     }
@@ -64,21 +63,8 @@ fn hands_of<'a>(workers: Vec<Worker<'a>>, back: Vec<Hand<'a>>) -> Row<Hand<'a>>
     Row::from_vec(back)
 }
 
-// What a round came to.
-enum Outcome {
-    Failed,
-    Took,
-    Idle,
-}
-
-fn came_to<'a>(workers: &[Worker<'a>]) -> Outcome {
-    if workers.iter().any(|worker| worker.failed) {
-        Outcome::Failed
-    } else if workers.iter().any(|worker| worker.took) {
-        Outcome::Took
-    } else {
-        Outcome::Idle
-    }
+fn has_failed<'a>(workers: &[Worker<'a>]) -> bool {
+    workers.iter().any(|worker| worker.failed)
 }
 
 // Each is tried once, alone. Says whether one took a step.
@@ -103,7 +89,7 @@ fn try_each<'a, R: Wait, P: Passage>(
     Ok(any)
 }
 
-// Whether a round was the last one: it took no step, and alone none can take one.
+// Whether a round was the last one: after it none can take a step alone.
 fn is_last<'a, R: Wait, P: Passage>(
     rt: &R,
     alloc: Global,
@@ -115,14 +101,11 @@ fn is_last<'a, R: Wait, P: Passage>(
     ensures goes_on { EachChanged (λ old new. GoesOn plant.now old.hand new.hand) workers.old workers.new }
     ensures rests { IfOk result (λ last. last ≡ true → All (λ w. Rests w.hand) workers.new) }
 {
-    match came_to(workers) {
-        Outcome::Failed => Err(NoMemory),
-        Outcome::Took => Ok(false),
-        Outcome::Idle => {
-            let took = try_each(rt, alloc, plant, workers, gate)?;
-            Ok(!took)
-        }
+    if has_failed(workers) {
+        return Err(NoMemory);
     }
+    let took = try_each(rt, alloc, plant, workers, gate)?;
+    Ok(!took)
 }
 
 // Rounds until the last one.

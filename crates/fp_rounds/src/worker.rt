@@ -3,22 +3,18 @@ ghost use Rattle.fp_plant.specs.Planted.{Gives, Rests};
 ghost use Rattle.fp_plant.specs.declared.plant.Stepped.TheVariants.{Took};
 ghost use Rattle.fp_rounds.specs.Going.{GoesOn};
 
+use crate::bells::Bells;
+use crate::listener::Listener;
 use crate::works::Works;
 use fp_base::NoMemory;
 use fp_plant::{Hand, Passage, Plant, Stepped, answered};
 use std::alloc::Global;
 use std::sync::Wait;
-use std::thread::yield_now;
-
-// After so many tries in a row that take no step a worker gives up the round.
-const PATIENCE: u32 = 64;
 
 /// A hand, with what its last work came to.
 #[derive(Drop)]
 pub struct Worker<'a> {
     pub hand: Hand<'a>,
-    /// It took a step.
-    pub took: bool,
     /// It had no memory.
     pub failed: bool,
 }
@@ -30,45 +26,42 @@ impl<'a> Works for Worker<'a> {
 
     ghost becomes = { λ plant old new. GoesOn plant old.hand new.hand };
 
-    fn work<R: Wait, P: Passage>(&mut self, rt: &R, alloc: Global, plant: &Plant<'a>, gate: &P) {
-        let Worker { hand, took, failed } = self;
-        match step_until_idle(rt, alloc, plant, hand, gate) {
-            Ok(any) => {
-                *took = any;
-                *failed = false;
-            }
-            Err(_) => *failed = true,
-        }
+    fn work<R: Wait, P: Passage>(
+        &mut self,
+        rt: &R,
+        alloc: Global,
+        plant: &Plant<'a>,
+        gate: &P,
+        bells: &Bells,
+    ) {
+        let Worker { hand, failed } = self;
+        *failed = step_until_idle(rt, alloc, plant, hand, gate, bells).is_err();
+        bells.leave();
     }
 }
 
-// Steps until nothing is due or the hand was told so often to wait. Says whether it took a step.
+// Steps until none comes any more, or none of the other hands can help this one on.
 fn step_until_idle<'a, R: Wait, P: Passage>(
     rt: &R,
     alloc: Global,
     plant: &Plant<'a>,
     hand: &mut Hand<'a>,
     gate: &P,
-) -> Result<bool, NoMemory>
+    bells: &Bells,
+) -> Result<(), NoMemory>
     requires { Gives plant.now hand.old }
     ensures { GoesOn plant.now hand.old hand.new }
 {
-    let mut took = false;
-    let mut idle = 0;
+    let listener = Listener::new(gate, bells);
     for _ in rt.forever() {
-        match step(rt, alloc, plant, hand, gate)? {
-            Stepped::Took => {
-                took = true;
-                idle = 0;
-            }
-            Stepped::NotYet(_) | Stepped::AtLimit => {
-                if idle >= PATIENCE - 1 {
-                    return Ok(took);
+        match step(rt, alloc, plant, hand, &listener)? {
+            Stepped::Took => {}
+            Stepped::NotYet(_) => {
+                if !listener.wait(rt) {
+                    return Ok(());
                 }
-                idle += 1;
-                yield_now();
             }
-            Stepped::AtEnd | Stepped::Halted => return Ok(took),
+            Stepped::AtLimit | Stepped::AtEnd | Stepped::Halted => return Ok(()),
         }
     }
     unreachable!()

@@ -1,6 +1,7 @@
 ghost use Rattle.std.specs.Prelude.{All};
 ghost use Rattle.fp_rounds.specs.Changed.{EachChanged};
 
+use crate::bells::Bells;
 use fp_plant::Passage;
 use std::alloc::Global;
 use std::sync::Wait;
@@ -19,7 +20,14 @@ pub trait Works {
     /// What work at the plant may make of the old value.
     ghost becomes: { Self.Plant → Self → Self → Type 0 };
 
-    fn work<R: Wait, P: Passage>(&mut self, rt: &R, alloc: Global, plant: &Self::Plant, gate: &P)
+    fn work<R: Wait, P: Passage>(
+        &mut self,
+        rt: &R,
+        alloc: Global,
+        plant: &Self::Plant,
+        gate: &P,
+        bells: &Bells,
+    )
         requires { fits self.old plant.now }
         ensures { becomes plant.now self.old self.new };
 }
@@ -37,10 +45,11 @@ where
     requires { All (λ w. W.fits w plant.now) workers.old }
     ensures { EachChanged (λ old new. W.becomes plant.now old new) workers.old workers.new }
 {
+    let bells = Bells::new(workers.len() as u64);
     thread::for_each_chunk_mut(
         rt,
         workers,
         1,
-        &|_, part| part[0].work(rt, alloc, plant, gate),
+        &|_, part| part[0].work(rt, alloc, plant, gate, &bells),
     );
 }
