@@ -46,7 +46,7 @@ module _ {A : Type 0} (P : A → Type 0) where
   each_dropped zero (x ∷ xs) h = h
   each_dropped (suc k) (x ∷ xs) h = each_dropped k xs h.1
 
-owned : (source : Source) (Q : Item → Type 0) (k : ℕ) (d : Declaration) → slice_get (items source) k ≡ Some (item.Declared d) → AllByRecursion Q (items source)
+pub owned : (source : Source) (Q : Item → Type 0) (k : ℕ) (d : Declaration) → slice_get (items source) k ≡ Some (item.Declared d) → AllByRecursion Q (items source)
     → AllByRecursion Q (model_own_items d.scope d.definition)
 owned source Q k d at h =
     let t = items_owned source k d at in

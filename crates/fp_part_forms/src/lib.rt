@@ -12,3 +12,4 @@ mod topologies;
 
 pub use checking::part_form_faults;
 pub use laws::{unbroken_part_names_stand, unbroken_part_numbers_stand};
+pub use passing::{pass_name, pass_one, pass_value};

@@ -1,16 +1,12 @@
 -- What is found of a value and a type that may be wanting, and what is passed.
-use Rattle.std.specs.Prelude.{ℕ, cond, List, Option, Some, None}
+use Rattle.std.specs.Prelude.{cond, List, Option, Some, None}
 use Rattle.fp_base.specs.declared.place.Place.{Place}
 use Rattle.fp_base.specs.declared.refusal.Refusal.{Refusal}
 use Rattle.fp_base.specs.declared.value.Value.{Value}
-use Rattle.fp_tree.specs.declared.source.Source.{Source}
 use Rattle.fp_tables.specs.declared.kind.Kind.{Kind}
-use Rattle.fp_meaning.specs.declared.item.Item.{Item}
 use Rattle.fp_type_sizes.specs.declared.written.TypeExtent.{TypeExtent}
 use Rattle.fp_type_sizes.specs.declared.written.WrittenType.{WrittenType}
 use Rattle.fp_type_sizes.specs.Sized.{ends_in_integer, kind_extent}
-use Rattle.fp_type_forms.specs.declared.resolving.Resolution.{Resolution}
-use Rattle.fp_type_forms.specs.Resolved.{Takes}
 use Rattle.fp_types.specs.Converting.{of_kind, opened}
 use Rattle.fp_types.specs.Faults.{Misfits}
 
@@ -27,7 +23,3 @@ if_integer table k = cond (ends_in_integer (kind_extent table k)) (Some k) None
 abbrev pub integer_in : List (Option TypeExtent) → Option Kind → Option Kind
 integer_in table None = None
 integer_in table (Some k) = if_integer table k
-
--- nothing is read of these items, from one place to another
-abbrev pub Passes : Source → List (Option Value) → List Resolution → List Item → ℕ → ℕ → Type 0
-Passes source marks rs mine before after = Takes source marks rs mine before after (Unit {0})

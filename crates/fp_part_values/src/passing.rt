@@ -1,15 +1,15 @@
 ghost use Rattle.std.specs.Prelude.{◌≡◌, List, Option, None, flat_map};
 ghost use Rattle.fp_base.specs.declared.value.Value.{Value as Data};
-ghost use Rattle.fp_meaning.specs.Layout.{command_items, event_items, formal_items, formals_items, general_items, internal_items, running_items, use_items, value_items};
-ghost use Rattle.fp_meaning.specs.Names.{Path, in_optional};
-ghost use Rattle.fp_meaning.specs.declared.group.Group.{Group};
+ghost use Rattle.fp_meaning.specs.Layout.{command_items, event_items, formal_items, formals_items, general_items, internal_items, running_items};
+ghost use Rattle.fp_meaning.specs.Names.{Path};
 ghost use Rattle.fp_tree.specs.declared.source.Source.{Source};
 ghost use Rattle.fp_type_forms.specs.Resolved.{Moves};
-ghost use Rattle.fp_part_values.specs.Tested.{Passes};
+ghost use Rattle.fp_part_forms.specs.Passed.{Passes};
 
 use fp_base::{Refusal, Row, Value};
-use fp_tree::{Command, Event, Expr, Formal, General, Internal, Qual, Running};
-use fp_type_forms::{Resolution, kind_taken, taken};
+use fp_part_forms::{pass_name, pass_one, pass_value};
+use fp_tree::{Command, Event, Formal, General, Internal, Running};
+use fp_type_forms::{Resolution, kind_taken};
 
 /// What stands in a port is passed; nothing in it converts to a type.
 pub fn past_general(port: &General, resolutions: &[Resolution], next: &mut usize) -> Option<Refusal>
@@ -17,7 +17,7 @@ pub fn past_general(port: &General, resolutions: &[Resolution], next: &mut usize
     ensures passes { (source : Source) (marks : List (Option Data)) (scope : Path) → Passes source marks resolutions.now (general_items scope port.now) next.old next.new }
 {
     pass_value(&port.size, resolutions, next);
-    pass_use(&port.of, resolutions, next);
+    pass_name(&port.of, resolutions, next);
     pass_value(&port.priority, resolutions, next);
     None
 }
@@ -109,30 +109,4 @@ fn pass_each(
     for formal in formals {
         kind_taken(&formal.of.form, resolutions, marks, next);
     }
-}
-
-/// An expression that may be left out is passed.
-pub fn pass_value(value: &Option<Expr>, resolutions: &[Resolution], next: &mut usize)
-    ensures { (source : Source) (marks : List (Option Data)) (scope : Path) → Passes source marks resolutions.now (value_items scope value.now) next.old next.new }
-{
-    match value {
-        Some(_) => pass_one(resolutions, next),
-        None => (),
-    }
-}
-
-fn pass_use(name: &Option<Qual>, resolutions: &[Resolution], next: &mut usize)
-    ensures { (source : Source) (marks : List (Option Data)) (group : Group) (scope : Path) → Passes source marks resolutions.now (in_optional (use_items group scope) name.now) next.old next.new }
-{
-    match name {
-        Some(_) => pass_one(resolutions, next),
-        None => (),
-    }
-}
-
-/// One item is passed.
-fn pass_one(resolutions: &[Resolution], next: &mut usize)
-    ensures { Moves resolutions.now next.old next.new }
-{
-    taken(resolutions, next);
 }

@@ -30,6 +30,8 @@ use Rattle.fp_type_sizes.specs.declared.written.WrittenType.{WrittenType}
 use Rattle.fp_type_sizes.specs.Sizes.{IsOfSize}
 use Rattle.fp_types.specs.Converting.{Converts, DefaultIs}
 use Rattle.fp_types.specs.Given.{AreTypesGiven}
+use Rattle.fp_type_forms.specs.declared.resolving.Resolution.{Resolution}
+use Rattle.fp_type_forms.specs.Resolved.{AreResolved}
 use Rattle.fp_type_forms.specs.Written.{AreWritten, KindIs}
 use Rattle.fp_type_forms.proofs.OneForm.{one_list}
 use Rattle.fp_source_types.specs.Typed.{AreTypesOf}
@@ -153,7 +155,8 @@ module _ (source : Source) (ws : List WrittenType) (types : List TypeDef) (w : W
   port_lies_within scope (part.Machine p) v h = absurd h
   port_lies_within scope (part.Include p) v h = absurd h
 
-  module _ (written : AreWritten source ws) (given : AreTypesOf source (map (λ (d : TypeDef). Some d) types)) (unbroken : IsUnbroken (BrokenBy types w)) (valued : AreValued source)
+  module _ (written : AreWritten source ws) (given : AreTypesOf source (map (λ (d : TypeDef). Some d) types)) (unbroken : IsUnbroken (BrokenBy types w))
+      (marks : List (Option Value)) (rs : List Resolution) (resolved : AreResolved source marks rs (items source) 0) (valued : AreValued source)
       (numbers : (k : ℕ) (d : Declaration) → slice_get (items source) k ≡ Some (item.Declared d) → NumbersStand source d.scope d.definition)
       (readable : (k : ℕ) (i : Item) → slice_get (items source) k ≡ Some i → AreReadable (items source) i)
       (limits : (scope : Path) (c : Channel) (l : Limit) (v : Value) → IsPart source scope (part.Channel c) → HasLimit c l → Val source scope (opened l.value) v → (n : ℤ) × (number_in v ≡ Some n))
@@ -178,7 +181,7 @@ module _ (source : Source) (ws : List WrittenType) (types : List TypeDef) (w : W
 
     inner_ports : (v k : ℕ) (f : WrittenInterface) (m : WrittenMember) → slice_get w.interfaces v ≡ Some f → slice_get f.members k ≡ Some m → OfPorts (PortOk w.definitions) m
     inner_ports v k f (member.Port p) at there =
-        let known = interface_member_known source w are valued numbers v k f (member.Port p) at there in
+        let known = interface_member_known source w are marks rs resolved valued numbers v k f (member.Port p) at there in
         record {
           numbered = interface_member_numbered source (member.Port p) known;
           of = port_lies_within known.scope (part_of known.of) p known.is;
@@ -195,7 +198,7 @@ module _ (source : Source) (ws : List WrittenType) (types : List TypeDef) (w : W
     module _ (v : ℕ) (c : WrittenComponent) (at : slice_get w.components v ≡ Some c) where
       member_ok : (k : ℕ) (m : WrittenMember) → slice_get c.members k ≡ Some m → MemberOk source ws types w.definitions m
       member_ok k m there =
-          let known = member_known source w are valued numbers v k c m at there in
+          let known = member_known source w are marks rs resolved valued numbers v k c m at there in
           record {
             known = known;
             numbered = member_numbered source limits m known;

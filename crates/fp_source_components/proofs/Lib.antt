@@ -1,14 +1,14 @@
-mod Places
-mod Positions
+pub mod Places
+pub mod Positions
 mod Once
 mod Given
 mod Imports
 mod Least
-mod Values
-mod Members
+pub mod Values
+pub mod Members
 mod Ids
-mod Numbered
-mod Sized
+pub mod Numbered
+pub mod Sized
 mod Whole
 mod Names
 mod Assembled

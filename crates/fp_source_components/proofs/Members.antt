@@ -1,6 +1,7 @@
 -- Each written member is that of a part of the source.
-use Rattle.std.proofs.Common.{◌≡◌, ℕ, zero, suc, List, [], ◌∷◌, ◌++◌, flat_map, slice_get, Some, refl, subst}
+use Rattle.std.proofs.Common.{◌≡◌, ℕ, zero, suc, List, [], ◌∷◌, ◌++◌, flat_map, slice_get, Option, Some, refl, subst}
 use Rattle.fp_base.proofs.Lists.{of_item}
+use Rattle.fp_base.specs.declared.value.Value.{Value}
 use Rattle.fp_tree.specs.declared.source.Source.{Source}
 use Rattle.fp_tree.specs.declared.component.Component.{Component}
 use Rattle.fp_tree.specs.declared.component.Interface.{Interface}
@@ -12,6 +13,8 @@ use Rattle.fp_meaning.specs.declared.item.Item.TheVariants as item
 use Rattle.fp_meaning.specs.Layout.{component_scope, items}
 use Rattle.fp_meaning.specs.Names.{Path}
 use Rattle.fp_meaning.specs.Sites.{Declaration, ModelDef, component, declaration, instance, interface, machine, topology}
+use Rattle.fp_type_forms.specs.declared.resolving.Resolution.{Resolution}
+use Rattle.fp_type_forms.specs.Resolved.{AreResolved}
 use Rattle.fp_part_forms.specs.Standing.{AreValued, NumbersStand}
 use Rattle.fp_part_values.specs.Standing.{IsPart}
 use Rattle.fp_written_parts.specs.declared.member.WrittenComponent.{WrittenComponent}
@@ -122,7 +125,8 @@ pub record InterfaceMemberKnown (source : Source) (m : WrittenMember) : Type 0 w
   pub is : MemberIs source scope (part_of of) m
   pub known : InnerKnown source scope of
 
-module _ (source : Source) (w : WrittenSource) (are : IsWrittenSource source w) (valued : AreValued source)
+module _ (source : Source) (w : WrittenSource) (are : IsWrittenSource source w) (marks : List (Option Value)) (rs : List Resolution)
+    (resolved : AreResolved source marks rs (items source) 0) (valued : AreValued source)
     (numbers : (k : ℕ) (d : Declaration) → slice_get (items source) k ≡ Some (item.Declared d) → NumbersStand source d.scope d.definition) where
   pub member_known : (v k : ℕ) (c : WrittenComponent) (m : WrittenMember) → slice_get w.components v ≡ Some c → slice_get c.members k ≡ Some m → MemberKnown source m
   member_known v k c m at there =
@@ -138,7 +142,7 @@ module _ (source : Source) (w : WrittenSource) (are : IsWrittenSource source w) 
         of = member.one;
         is = member.related;
         part_of = record { at = here.k; outside = s.scope; whole = s.node; here = here.at; place = from.k; there = stands; inside = refl };
-        known = of_item (PartKnown source scope) s.node.parts from.k member.one (component_known source valued numbers here.k s.scope s.node here.at) stands;
+        known = of_item (PartKnown source scope) s.node.parts from.k member.one (component_known source marks rs resolved valued numbers here.k s.scope s.node here.at) stands;
       }
 
   pub interface_member_known : (v k : ℕ) (f : WrittenInterface) (m : WrittenMember) → slice_get w.interfaces v ≡ Some f → slice_get f.members k ≡ Some m → InterfaceMemberKnown source m
@@ -151,5 +155,5 @@ module _ (source : Source) (w : WrittenSource) (are : IsWrittenSource source w) 
         scope = s.scope;
         of = member.one;
         is = member.related;
-        known = of_item (InnerKnown source s.scope) s.node.parts k member.one (interface_known source valued numbers here.k s.scope s.node here.at) member.here;
+        known = of_item (InnerKnown source s.scope) s.node.parts k member.one (interface_known source marks rs resolved valued numbers here.k s.scope s.node here.at) member.here;
       }

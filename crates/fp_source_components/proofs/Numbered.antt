@@ -38,7 +38,8 @@ use Rattle.fp_components.specs.Whole.{AreWholeLimits, HasNumber}
 use Rattle.fp_source_components.proofs.Ids.{GivenThere}
 use Rattle.fp_source_components.proofs.Members.{InterfaceMemberKnown, MemberKnown}
 use Rattle.fp_source_components.proofs.Places.{second_read}
-use Rattle.fp_source_components.proofs.Values.{InnerKnown, Numbered, PartKnown, Stands}
+use Rattle.fp_part_forms.proofs.Standing.{Stands}
+use Rattle.fp_source_components.proofs.Values.{InnerKnown, Numbered, PartKnown}
 
 -- the numbers of a port, and of a member, that are written
 pub record PortNumbered (p : WrittenPort) : Type 0 where

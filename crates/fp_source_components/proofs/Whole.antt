@@ -52,7 +52,8 @@ use Rattle.fp_component_forms.specs.Written.{DefaultIs as WrittenDefaultIs, Even
 use Rattle.fp_source_components.proofs.Ids.{GivenThere}
 use Rattle.fp_source_components.proofs.Members.{MemberKnown}
 use Rattle.fp_source_components.proofs.Numbered.{MemberNumbered, PortNumbered}
-use Rattle.fp_source_components.proofs.Values.{HasValue, PartKnown, Stands}
+use Rattle.fp_part_forms.proofs.Standing.{Stands}
+use Rattle.fp_source_components.proofs.Values.{HasValue, PartKnown}
 
 -- ---- numbers that are in their ranges
 

@@ -1,4 +1,5 @@
-ghost use Rattle.std.specs.Prelude.{◌≡◌, IfErr, IfOk, OnOk, map};
+ghost use Rattle.std.specs.Prelude.{◌≡◌, IfErr, IfOk, OnOk, map, true};
+ghost use Rattle.std.specs.List.{list_all};
 ghost use Rattle.fp_base.specs.Least.{IsLeast, IsUnbroken};
 ghost use Rattle.fp_components.specs.Resolved.{AreComponents, port_def_of};
 ghost use Rattle.fp_components.specs.Whole.{AreWhole};
@@ -7,6 +8,7 @@ ghost use Rattle.fp_interfaces.specs.Gifts.{AreWithin};
 ghost use Rattle.fp_interfaces.specs.Lists.{AreImportsWithin};
 ghost use Rattle.fp_meaning.specs.Layout as layout;
 ghost use Rattle.fp_source_types.specs.Measured.{IsMeasured};
+ghost use Rattle.fp_tables.specs.Positions.{component_is_short};
 ghost use Rattle.fp_source_components.specs.Broken.{BrokenBy, PartsBroken};
 ghost use Rattle.fp_source_components.specs.Built.{ArePartsOf};
 ghost use Rattle.fp_source_components.specs.Valued.{IsValued};
@@ -47,6 +49,7 @@ pub fn parts_of(
     requires measured { IsMeasured measured.now }
     requires valued { IsValued source.now values.now measured.now.resolutions measured.now.written types.now }
     ensures parts { IfOk result (ArePartsOf source.now measured.now.written) }
+    ensures short { IfOk result (λ parts. list_all component_is_short parts.components ≡ true) }
     ensures unbroken { OnOk result (IsUnbroken (PartsBroken source.now)) }
     ensures stop { IfErr result (IsStop (PartsBroken source.now)) }
 {
@@ -94,6 +97,7 @@ fn built(alloc: Global, measured: &Measured, written: &WrittenSource) -> Result<
     ensures ports { IfOk result (λ parts. parts.ports ≡ map port_def_of written.now.definitions) }
     ensures components { IfOk result (λ parts. AreWhole written.now.interfaces written.now.definitions measured.now.written written.now.components
         → AreComponents written.now.interfaces written.now.definitions measured.now.written written.now.components parts.components) }
+    ensures short { IfOk result (λ parts. list_all component_is_short parts.components ≡ true) }
 {
     let definitions = written.definitions.as_slice();
     let interfaces = written.interfaces.as_slice();

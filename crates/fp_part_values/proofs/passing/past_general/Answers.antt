@@ -11,6 +11,6 @@ returns-clause-passes c source marks scope =
     let rs = c.args.resolutions.now in
     let size = value_items scope p.size in
     let of = in_optional (use_items Port scope) p.of in
-    passed_then source marks rs (size ++ of) (value_items scope p.priority) c.args.next.now c.pass_use.new.next c.pass_value-2.new.next
-    (passed_then source marks rs size of c.args.next.now c.pass_value.new.next c.pass_use.new.next (c.pass_value.ensures source marks scope) (c.pass_use.ensures source marks Port scope))
+    passed_then source marks rs (size ++ of) (value_items scope p.priority) c.args.next.now c.pass_name.new.next c.pass_value-2.new.next
+    (passed_then source marks rs size of c.args.next.now c.pass_value.new.next c.pass_name.new.next (c.pass_value.ensures source marks scope) (c.pass_name.ensures source marks Port scope))
     (c.pass_value-2.ensures source marks scope)

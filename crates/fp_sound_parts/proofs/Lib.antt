@@ -1,0 +1,10 @@
+mod Each
+mod Named
+mod Lying
+mod Suiting
+mod Well
+mod Good
+mod Fitting
+mod FormatsKinds
+mod Formats
+mod Ready
