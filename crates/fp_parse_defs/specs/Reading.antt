@@ -25,7 +25,7 @@ BeginsAt before [] place = (front : List Token) × (t : Token) × (before ≡ fr
 
 -- a word that begins a form of the language which is left out, wherever it stands
 abbrev pub left_out : Word → Bool
-left_out (word.Reserved r) = r == reserved "container" || (r == reserved "dictionary" || (r == reserved "every" || (r == reserved "external" || (r == reserved "import" || (r == reserved "interface" || (r == reserved "packets" || (r == reserved "product" || (r == reserved "record" || r == reserved "serial"))))))))
+left_out (word.Reserved r) = r == reserved "container" || (r == reserved "dictionary" || (r == reserved "every" || (r == reserved "external" || (r == reserved "packets" || (r == reserved "product" || (r == reserved "record" || r == reserved "serial"))))))
 left_out _ = false
 
 -- the rule that a token breaks which can't stand where it stands: it begins a form of the language that is left out, or not

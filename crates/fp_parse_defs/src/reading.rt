@@ -14,7 +14,7 @@ use crate::type_names::Value;
 use fp_base::{NoMemory, Refusal, Row, Rule, Stop};
 use fp_grammar::Halt;
 use fp_lexer::reserved::{
-    CONTAINER, DICTIONARY, EVERY, EXTERNAL, IMPORT, INTERFACE, PACKETS, PRODUCT, RECORD, SERIAL,
+    CONTAINER, DICTIONARY, EVERY, EXTERNAL, PACKETS, PRODUCT, RECORD, SERIAL,
 };
 use fp_lexer::{Token, Word};
 use fp_parse_pieces::Piece;
@@ -98,16 +98,7 @@ pub fn is_left_out(word: &Word) -> bool
     match word {
         Word::Reserved(reserved) => matches!(
             *reserved,
-            CONTAINER
-                | DICTIONARY
-                | EVERY
-                | EXTERNAL
-                | IMPORT
-                | INTERFACE
-                | PACKETS
-                | PRODUCT
-                | RECORD
-                | SERIAL
+            CONTAINER | DICTIONARY | EVERY | EXTERNAL | PACKETS | PRODUCT | RECORD | SERIAL
         ),
         _ => false,
     }
