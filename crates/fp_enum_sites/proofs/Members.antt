@@ -8,6 +8,7 @@ use Rattle.fp_tree.specs.declared.name.Name.{Name}
 use Rattle.fp_tree.specs.declared.name.Qual.{Qual}
 use Rattle.fp_tree.specs.declared.name.Str.{Str}
 use Rattle.fp_tree.specs.declared.definition.Def.{Def}
+use Rattle.fp_tree.specs.declared.component.Part.{Part}
 use Rattle.fp_tree.specs.declared.member.Member.{Member}
 use Rattle.fp_tree.specs.declared.member.Module.{Module, out-Module}
 use Rattle.fp_tree.specs.declared.member.Member.TheVariants as node
@@ -25,7 +26,10 @@ use Rattle.fp_parse_parts.specs.declared.bare.BareMember.{BareMember}
 use Rattle.fp_parse_parts.specs.declared.bare.BareMember.TheVariants as bare
 use Rattle.fp_parse_parts.specs.Members.{k_module, semicolons, definition_begins, definition_goes_on, definition_member, made_include, include, made_locate, locate, model_member, noted_definition, noted_member, with_member, member_of, members_of, made_module, modules, members}
 use Rattle.fp_parse_parts.specs.Omitted.{unbuilt}
-use Rattle.fp_parse_parts.specs.Units.{SpellsUnit}
+use Rattle.fp_parse_parts.specs.Files.{SpellsFile}
+use Rattle.fp_parse_parts.specs.Units.{SpellsUnit, component_parts}
+use Rattle.fp_sites.specs.Sites.{in_parts}
+use Rattle.fp_sites.proofs.Components.{parts_given}
 use Rattle.fp_sites.proofs.Preserving.{LanguageGives, gives_anything, gives_map, gives_seq, gives_alt, gives_optional, gives_ref, gives_seal, gives_after}
 use Rattle.fp_sites.proofs.Lists.{each_or_none, gives_some_of}
 use Rattle.fp_sites.proofs.Models.{models_yield}
@@ -111,3 +115,10 @@ pub all_listed : (tokens : List Token) (ms : List Member) → SpellsUnit tokens 
 all_listed tokens ms spelled scope i there =
     let hold = (all_yield unbuilt limit limit).given tokens ms spelled (each_of_any Any (λ t. tt) tokens) in
     of_contained IsListed (in_members scope ms) i (all_hold ms hold scope) there
+
+parts_hold : (tokens : List Token) (ps : List Part) → SpellsFile component_parts tokens ps → (scope : Path) → Each IsListed (in_parts scope ps)
+unfolding having
+parts_hold tokens ps spelled = ((parts_given (having limit)).given tokens ps spelled (each_of_any Any (λ t. tt) tokens)).items
+
+pub parts_listed : (tokens : List Token) (ps : List Part) → SpellsFile component_parts tokens ps → (scope : Path) (i : Item) → Contains (in_parts scope ps) i → IsListed i
+parts_listed tokens ps spelled scope i there = of_contained IsListed (in_parts scope ps) i (parts_hold tokens ps spelled scope) there

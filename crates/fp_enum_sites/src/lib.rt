@@ -3,4 +3,4 @@
 
 mod laws;
 
-pub use laws::enumerations_have_constants;
+pub use laws::{enumerations_have_constants, part_enumerations_have_constants};

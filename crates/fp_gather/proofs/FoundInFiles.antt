@@ -11,23 +11,17 @@ use Rattle.fp_lexer.proofs.Unique.{one_lexing}
 use Rattle.fp_lexer.specs.Broken.{BreaksTokens, IsFirstBroken, NotBehind, IsUnbroken as IsWhole}
 use Rattle.fp_lexer.specs.Tokens.{Lexed}
 use Rattle.fp_lexer.specs.declared.token.Token.{Token}
-use Rattle.fp_tree.specs.declared.member.Member.{Member}
 use Rattle.fp_base.specs.Least.{broken_at, Either, IsLeast, NoLater, lesser_of, no_later}
 use Rattle.fp_base.proofs.Calculus.{least_none, least_only, least_one, least_same, least_either, least_flag, none_broken}
-use Rattle.fp_parse_parts.specs.Units.{SpellsInside, SpellsUnit, BreaksUnit}
+use Rattle.fp_parse_parts.specs.Units.{SpellsInside, BreaksInside, StopsInside}
+use Rattle.fp_parse_parts.specs.declared.parsing.Inside.{Inside}
 use Rattle.fp_parse_parts.specs.declared.parsing.Inside.TheVariants as inside
+use Rattle.fp_base.specs.declared.refusal.Stop.TheVariants as stop
 use Rattle.fp_parse_parts.specs.declared.parsing.Members.{Members}
-use Rattle.fp_parse_parts.specs.declared.parsing.Members.TheVariants as parsed
 use Rattle.fp_gather.specs.gathering.Answers.{IsFound}
 use Rattle.fp_gather.specs.gathering.Gathered.{InFiles}
-use Rattle.fp_gather.specs.gathering.Reading.{Reading, BreaksText, BreaksTokenRule, HasTokens, Passes}
+use Rattle.fp_gather.specs.gathering.Reading.{Reading, BreaksText, BreaksTokenRule, HasTokens, Passes, nothing_in}
 use Rattle.fp_gather.specs.gathering.Walks.{Walked, with_reading}
-
--- what tokens spell that stand in a file are members
-pub found_unit : (tokens : List Token) (m : Members) → SpellsInside tokens inside.Unit m → (ms : List Member) × (m ≡ parsed.Unit ms) × SpellsUnit tokens ms
-found_unit tokens (parsed.Unit ms) s = (ms, refl, s)
-found_unit tokens (parsed.Component ps) s = absurd s
-found_unit tokens (parsed.Topology ms) s = absurd s
 
 no_later_of : (number : ℕ) (text : List ℕ) (f g : Refusal) → BreaksTokens number text f.rule f.place → BreaksTokens number text g.rule g.place → NotBehind f.rule f.place g.rule g.place → NoLater f g
 no_later_of number text f g p q n =
@@ -56,12 +50,12 @@ tokens_least : (r : Reading) (passes : Bool) (own : Option Refusal) → MatchBoo
 tokens_least r passes own p l = least_either own _ l (least_flag (Passes r) passes (broken_at TextTooLong (place_at r.number r.text 0)) p)
 
 -- where a rule of tokens is broken
-found_broken : (r : Reading) (tokens : Option Refusal) (f : Refusal) → tokens ≡ Some f → IsLeast (BreaksTokenRule r) tokens
-    → IsFound r (record { members = []; tokens = tokens; grammar = None })
-found_broken r tokens f e l = record {
+found_broken : (r : Reading) (within : Inside) (tokens : Option Refusal) (f : Refusal) → r.inside ≡ within → tokens ≡ Some f → IsLeast (BreaksTokenRule r) tokens
+    → IsFound r (record { given = nothing_in within; tokens = tokens; grammar = None })
+found_broken r within tokens f ei e l = record {
   tokens = l;
   grammar = least_none (λ g q. q.1.unbroken f (l.holds f e));
-  gives = inr ((f, inl (l.holds f e)), refl);
+  gives = inr ((f, inl (l.holds f e)), ap nothing_in (sym ei));
 }
 
 some_lesser : (f : Refusal) (o : Option Refusal) → (h : Refusal) × (lesser_of (Some f) o ≡ Some h)
@@ -73,7 +67,7 @@ some_lesser f (Some g) = go (no_later f g)
     go false = (g, refl)
 
 -- the facts on a number and a text, of the reading that has them
-module _ (r : Reading) (number : ℕ) (text : List ℕ) (en : r.number ≡ number) (et : r.text ≡ text) where
+module _ (r : Reading) (number : ℕ) (text : List ℕ) (within : Inside) (en : r.number ≡ number) (et : r.text ≡ text) (ei : r.inside ≡ within) where
   first_at : (rule : Rule) (place : Place) → IsFirstBroken number text rule place → IsFirstBroken r.number r.text rule place
   first_at rule place h = subst (λ (n : ℕ). IsFirstBroken n r.text rule place) (sym en) (subst (λ (t : List ℕ). IsFirstBroken number t rule place) (sym et) h)
 
@@ -93,18 +87,18 @@ module _ (r : Reading) (number : ℕ) (text : List ℕ) (en : r.number ≡ numbe
   pub found_in_broken : (passes : Bool) (limit : Option Refusal) (place : Place) (f : Refusal) → MatchBool passes (Passes r) (Passes r → ⊥)
       → limit ≡ cond passes (Some (broken_at TextTooLong place)) None → place ≡ place_at number text 0
       → IsFirstBroken number text f.rule f.place → f.other ≡ None
-      → IsFound r (record { members = []; tokens = lesser_of (Some f) limit; grammar = None })
+      → IsFound r (record { given = nothing_in within; tokens = lesser_of (Some f) limit; grammar = None })
   found_in_broken passes limit place f p e at first o =
       let h = some_lesser f limit in
-      found_broken r (lesser_of (Some f) limit) h.0 h.1
+      found_broken r within (lesser_of (Some f) limit) h.0 ei h.1
       (subst (λ (x : Option Refusal). IsLeast (BreaksTokenRule r) (lesser_of (Some f) x)) (sym (limit_at passes limit place e at))
       (tokens_least r passes (Some f) p (text_least r f o (first_at f.rule f.place first))))
 
   -- a text with which there are too many bytes
   pub found_in_long : (limit : Option Refusal) (place : Place) → Passes r → limit ≡ Some (broken_at TextTooLong place) → place ≡ place_at number text 0
-      → IsWhole number text → IsFound r (record { members = []; tokens = limit; grammar = None })
+      → IsWhole number text → IsFound r (record { given = nothing_in within; tokens = limit; grammar = None })
   found_in_long limit place p e at whole =
-      found_broken r limit (broken_at TextTooLong place) e
+      found_broken r within limit (broken_at TextTooLong place) ei e
       (subst (λ (x : Option Refusal). IsLeast (BreaksTokenRule r) x) (sym (limit_at true limit place e at))
       (tokens_least r true None p (text_none r (whole_at whole))))
 
@@ -123,27 +117,42 @@ same_refusal f g a b c =
     ∙ ap (λ (x : Place). record { rule = g.rule; place = x; other = f.other }) b
     ∙ ap (λ (x : Option Place). record { rule = g.rule; place = g.place; other = x }) c
 
--- the members that the tokens of a file spell
-pub found_members : ((tokens : List Token) (rule : Rule) (place : Place) (xs : List Member) → BreaksUnit tokens rule place → SpellsUnit tokens xs → ⊥)
-    → (r : Reading) (tokens : List Token) (ms : List Member) → HasTokens r tokens → SpellsUnit tokens ms
-    → IsFound r (record { members = ms; tokens = None; grammar = None })
-found_members never r tokens ms has spelled = record {
-  tokens = least_none has.unbroken;
-  grammar = least_none (λ f q. never tokens f.rule f.place ms (subst (λ (ts : List Token). BreaksUnit ts f.rule f.place) (same_tokens r q.0 tokens q.1 has) q.3) spelled);
-  gives = inl (tokens, has, spelled);
-}
+-- what the tokens of a file spell
+pub found_given : ((tokens : List Token) (i : Inside) (rule : Rule) (place : Place) (xs : Members) → BreaksInside tokens i rule place → SpellsInside tokens i xs → ⊥)
+    → (r : Reading) (within : Inside) (tokens : List Token) (x : Members) → r.inside ≡ within → HasTokens r tokens → SpellsInside tokens within x
+    → IsFound r (record { given = x; tokens = None; grammar = None })
+found_given never r within tokens x ei has spelled =
+    let own : SpellsInside tokens r.inside x = subst (λ (i : Inside). SpellsInside tokens i x) (sym ei) spelled in
+    record {
+      tokens = least_none has.unbroken;
+      grammar = least_none (λ f q. never tokens r.inside f.rule f.place x (subst (λ (ts : List Token). BreaksInside ts r.inside f.rule f.place) (same_tokens r q.0 tokens q.1 has) q.3) own);
+      gives = inl (tokens, has, own);
+    }
 
 -- the rule of the grammar that they break
-pub found_refused : ((tokens : List Token) (rule other : Rule) (place elsewhere : Place) → BreaksUnit tokens rule place → BreaksUnit tokens other elsewhere → (rule ≡ other) × (place ≡ elsewhere))
-    → (r : Reading) (tokens : List Token) (f : Refusal) → HasTokens r tokens → f.other ≡ None → BreaksUnit tokens f.rule f.place
-    → IsFound r (record { members = []; tokens = None; grammar = Some f })
-found_refused one r tokens f has o broken = record {
-  tokens = least_none has.unbroken;
-  grammar = least_only f (tokens, has, o, broken) (λ g q.
-      let same = one tokens f.rule g.rule f.place g.place broken (subst (λ (ts : List Token). BreaksUnit ts g.rule g.place) (same_tokens r q.0 tokens q.1 has) q.3) in
-      same_refusal g f (sym same.0) (sym same.1) (q.2 ∙ sym o));
-  gives = inr ((f, inr (tokens, has, o, broken)), refl);
-}
+found_refused : ((tokens : List Token) (i : Inside) (rule other : Rule) (place elsewhere : Place) → BreaksInside tokens i rule place → BreaksInside tokens i other elsewhere → (rule ≡ other) × (place ≡ elsewhere))
+    → (r : Reading) (within : Inside) (tokens : List Token) (f : Refusal) → r.inside ≡ within → HasTokens r tokens → f.other ≡ None → BreaksInside tokens within f.rule f.place
+    → IsFound r (record { given = nothing_in within; tokens = None; grammar = Some f })
+found_refused one r within tokens f ei has o broken =
+    let own : BreaksInside tokens r.inside f.rule f.place = subst (λ (i : Inside). BreaksInside tokens i f.rule f.place) (sym ei) broken in
+    record {
+      tokens = least_none has.unbroken;
+      grammar = least_only f (tokens, has, o, own) (λ g q.
+          let same = one tokens r.inside f.rule g.rule f.place g.place own (subst (λ (ts : List Token). BreaksInside ts r.inside g.rule g.place) (same_tokens r q.0 tokens q.1 has) q.3) in
+          same_refusal g f (sym same.0) (sym same.1) (q.2 ∙ sym o));
+      gives = inr ((f, inr (tokens, has, o, own)), ap nothing_in (sym ei));
+    }
+
+-- what a stop says, whatever the tokens stand in
+stops_at : (tokens : List Token) (i : Inside) (f : Refusal) → StopsInside tokens i (stop.Broken f) → (f.other ≡ None) × BreaksInside tokens i f.rule f.place
+stops_at tokens inside.Unit f h = h
+stops_at tokens inside.Component f h = h
+stops_at tokens inside.Topology f h = h
+
+pub found_stopped : ((tokens : List Token) (i : Inside) (rule other : Rule) (place elsewhere : Place) → BreaksInside tokens i rule place → BreaksInside tokens i other elsewhere → (rule ≡ other) × (place ≡ elsewhere))
+    → (r : Reading) (within : Inside) (tokens : List Token) (f : Refusal) → r.inside ≡ within → HasTokens r tokens → StopsInside tokens within (stop.Broken f)
+    → IsFound r (record { given = nothing_in within; tokens = None; grammar = Some f })
+found_stopped one r within tokens f ei has stops = let at = stops_at tokens within f stops in found_refused one r within tokens f ei has at.0 at.1
 
 -- the least over the files, with one more
 pub in_files_least : {P : Reading → Refusal → Type 0} (walked : Walked) (r : Reading) (a b : Option Refusal) → IsLeast (InFiles P walked) a → IsLeast (P r) b

@@ -1,35 +1,93 @@
 -- What holds of each item of what the tokens of a file spell, holds of each item of a source that is gathered.
 use Rattle.std.proofs.Common.{ℕ, List, [], ◌∷◌, flat_map, map, Option, inl, inr, sym, subst}
-use Rattle.std.specs.List.{AllByRecursion}
-use Rattle.fp_base.proofs.Lists.{each_append}
+use Rattle.std.specs.List.{AllByRecursion, Contains}
+use Rattle.fp_base.proofs.Lists.{each_append, each_contained, each_of_any}
 use Rattle.fp_lexer.specs.Tokens.{Lexed}
 use Rattle.fp_lexer.specs.declared.token.Token.{Token}
 use Rattle.fp_outside.specs.declared.files.HeldFile.{HeldFile}
-use Rattle.fp_parse_parts.specs.Units.{SpellsUnit}
+use Rattle.fp_parse_parts.specs.Files.{SpellsFile}
+use Rattle.fp_parse_parts.specs.Units.{SpellsInside, SpellsUnit, component_parts}
+use Rattle.fp_parse_parts.specs.declared.parsing.Inside.{Inside}
+use Rattle.fp_parse_parts.specs.declared.parsing.Inside.TheVariants as inside
+use Rattle.fp_parse_parts.specs.declared.parsing.Members.{Members}
+use Rattle.fp_parse_parts.specs.declared.parsing.Members.TheVariants as given
+use Rattle.fp_tree.specs.declared.component.Component.{Component}
+use Rattle.fp_tree.specs.declared.component.Part.{Part}
 use Rattle.fp_tree.specs.declared.member.Member.{Member}
 use Rattle.fp_tree.specs.declared.member.Unit.{Unit as File}
+use Rattle.fp_tree.specs.declared.topology.TMember.{TMember}
 use Rattle.fp_meaning.specs.declared.item.Item.{Item}
+use Rattle.fp_meaning.specs.declared.item.Item.TheVariants as item
+use Rattle.fp_meaning.specs.Sites.{Path, ModelDef, component, declaration}
 use Rattle.fp_meaning.specs.Layout.{in_members, items}
+use Rattle.fp_sites.specs.Sites.{in_parts}
 use Rattle.fp_gather.proofs.KeptByWalks.{units_kept}
-use Rattle.fp_gather.proofs.PartsHold.{Hold, replaced_hold}
+use Rattle.fp_gather.proofs.PartsHold.{Hold, held_members, members_hold, nothing_holds, parts_hold, replaced_hold}
+use Rattle.fp_gather.proofs.PartsKept.{with_parts}
 use Rattle.fp_gather.specs.gathering.Gathered.{file_of, source_of}
-use Rattle.fp_gather.specs.gathering.Reading.{Reading, Gives}
+use Rattle.fp_gather.specs.gathering.Reading.{Reading, Gives, nothing_in}
 use Rattle.fp_gather.specs.gathering.Walks.{Walked, Went, WalksFiles, nothing_read}
 
+-- of what tokens spell, where it holds of each kind of it
+pub by_kind : (K : Members → Type 0) (tokens : List Token) → ((ms : List Member) → SpellsUnit tokens ms → K (given.Unit ms))
+    → ((ps : List Part) → SpellsFile component_parts tokens ps → K (given.Component ps)) → ((ts : List TMember) → K (given.Topology ts))
+    → (i : Inside) (x : Members) → SpellsInside tokens i x → K x
+by_kind K tokens unit parts topology inside.Unit (given.Unit ms) s = unit ms s
+by_kind K tokens unit parts topology inside.Unit (given.Component ps) s = absurd s
+by_kind K tokens unit parts topology inside.Unit (given.Topology ts) s = absurd s
+by_kind K tokens unit parts topology inside.Component (given.Unit ms) s = absurd s
+by_kind K tokens unit parts topology inside.Component (given.Component ps) s = parts ps s
+by_kind K tokens unit parts topology inside.Component (given.Topology ts) s = absurd s
+by_kind K tokens unit parts topology inside.Topology (given.Unit ms) s = absurd s
+by_kind K tokens unit parts topology inside.Topology (given.Component ps) s = absurd s
+by_kind K tokens unit parts topology inside.Topology (given.Topology ts) s = topology ts
+
 -- of what a file gives, where it holds of what its tokens spell, and of nothing
-pub file_given : (K : List Member → Type 0) → K [] → ((file : ℕ) (text : List ℕ) (tokens : List Token) (ms : List Member) → Lexed file text tokens → SpellsUnit tokens ms → K ms)
-    → (r : Reading) (ms : List Member) → Gives r ms → K ms
-file_given K none spelled r ms (inl (tokens, has, s)) = spelled r.number r.text tokens ms has.lexed s
-file_given K none spelled r ms (inr (broken, e)) = subst K (sym e) none
+pub file_given : (K : Members → Type 0) → ((i : Inside) → K (nothing_in i))
+    → ((file : ℕ) (text : List ℕ) (tokens : List Token) (i : Inside) (x : Members) → Lexed file text tokens → SpellsInside tokens i x → K x)
+    → (r : Reading) (x : Members) → Gives r x → K x
+file_given K none spelled r x (inl (tokens, has, s)) = spelled r.number r.text tokens r.inside x has.lexed s
+file_given K none spelled r x (inr (broken, e)) = subst K (sym e) (none r.inside)
 
 -- of the items of units
-pub units_items : (P : Item → Type 0) (units : List (List Member)) → AllByRecursion (Hold P) units → AllByRecursion P (flat_map (λ (u : File). in_members [] u.members) (map file_of units))
-units_items P [] h = tt
-units_items P (ms ∷ units) h = each_append P (in_members [] ms) (flat_map (λ (u : File). in_members [] u.members) (map file_of units)) (h.0 []) (units_items P units h.1)
+pub units_items : (P : Item → Type 0) (Q : Part → Type 0) (units : List (List Member)) → AllByRecursion (λ (ms : List Member). Hold P Q (given.Unit ms)) units
+    → AllByRecursion P (flat_map (λ (u : File). in_members [] u.members) (map file_of units))
+units_items P Q [] h = tt
+units_items P Q (ms ∷ units) h =
+    each_append P (in_members [] ms) (flat_map (λ (u : File). in_members [] u.members) (map file_of units)) (held_members P Q ms h.0 []) (units_items P Q units h.1)
 
-pub items_kept : (P : Item → Type 0) → ((tokens : List Token) (ms : List Member) → SpellsUnit tokens ms → Hold P ms)
+-- where of a component it holds whatever its parts are of which something holds that it says of each part
+pub items_kept : (P : Item → Type 0) (Q : Part → Type 0)
+    → ((scope : Path) (c : Component) → P (item.Declared (declaration scope (component c))) → AllByRecursion Q c.parts)
+    → ((scope : Path) (c : Component) (ps : List Part) → P (item.Declared (declaration scope (component c))) → AllByRecursion Q ps
+    → P (item.Declared (declaration scope (component (with_parts c ps)))))
+    → ((tokens : List Token) (ms : List Member) → SpellsUnit tokens ms → (scope : Path) → AllByRecursion P (in_members scope ms))
+    → ((tokens : List Token) (ps : List Part) → SpellsFile component_parts tokens ps → AllByRecursion Q ps × ((scope : Path) → AllByRecursion P (in_parts scope ps)))
     → (told : Option (List HeldFile)) (names : List (List ℕ)) (walked : Walked) (units : List (List Member))
     → WalksFiles told names nothing_read (Went walked units) → AllByRecursion P (items (source_of walked units))
-items_kept P spelled told names walked units h =
-    units_items P units
-    (units_kept (Hold P) (λ scope. tt) (replaced_hold P) (file_given (Hold P) (λ scope. tt) (λ file text tokens ms lexed s. spelled tokens ms s)) told names walked units h)
+items_kept P Q says again unit parts told names walked units h =
+    units_items P Q units
+    (units_kept (Hold P Q) (nothing_holds P Q) (replaced_hold P Q says again)
+    (file_given (Hold P Q) (nothing_holds P Q) (λ file text tokens i x lexed s.
+    by_kind (Hold P Q) tokens (λ ms q. members_hold P Q ms (unit tokens ms q)) (λ ps q. let has = parts tokens ps q in parts_hold P Q ps has.0 has.1) (λ ts. tt) i x s))
+    told names walked units h)
+
+-- it holds of each item of what the tokens of a file spell, of a file of members and of one that is included in a component
+abbrev pub MembersGive : (Item → Type 0) → Type 0
+MembersGive P = (tokens : List Token) (ms : List Member) → SpellsUnit tokens ms → (scope : Path) (i : Item) → Contains (in_members scope ms) i → P i
+
+abbrev pub PartsGive : (Item → Type 0) → Type 0
+PartsGive P = (tokens : List Token) (ps : List Part) → SpellsFile component_parts tokens ps → (scope : Path) (i : Item) → Contains (in_parts scope ps) i → P i
+
+-- nothing is asked of a part by itself
+abbrev AnyPart : Part → Type 0
+AnyPart p = Unit {0}
+
+-- where it holds of each definition beside constants, types and ports
+pub items_have : (P : Item → Type 0) → ((scope : Path) (d : ModelDef) → P (item.Declared (declaration scope d))) → MembersGive P → PartsGive P
+    → (told : Option (List HeldFile)) (names : List (List ℕ)) (walked : Walked) (units : List (List Member))
+    → WalksFiles told names nothing_read (Went walked units) → AllByRecursion P (items (source_of walked units))
+items_have P declared members parts =
+    items_kept P AnyPart (λ scope c h. each_of_any AnyPart (λ p. tt) c.parts) (λ scope c ps h k. declared scope (component (with_parts c ps)))
+    (λ tokens ms s scope. each_contained P (in_members scope ms) (members tokens ms s scope))
+    (λ tokens ps s. (each_of_any AnyPart (λ p. tt) ps, λ scope. each_contained P (in_parts scope ps) (parts tokens ps s scope)))

@@ -1,15 +1,17 @@
--- What holds of the members that each file gives, and goes over to members with parts in place of includes, holds of what files give that
--- names ask for.
+-- What holds of what each file gives, and goes over to that with inserts in place of includes, holds of what files give that names ask for.
 use Rattle.std.proofs.Common.{ℕ, zero, suc, List, [], ◌∷◌, Option, inl, inr, sym, subst}
 use Rattle.std.specs.List.{AllByRecursion}
 use Rattle.fp_outside.specs.declared.files.HeldFile.{HeldFile}
-use Rattle.fp_tree.specs.declared.member.Include.{Include}
+use Rattle.fp_parse_parts.specs.declared.parsing.Inside.{Inside}
+use Rattle.fp_parse_parts.specs.declared.parsing.Inside.TheVariants as inside
+use Rattle.fp_parse_parts.specs.declared.parsing.Members.{Members}
+use Rattle.fp_parse_parts.specs.declared.parsing.Members.TheVariants as given
 use Rattle.fp_tree.specs.declared.member.Member.{Member}
-use Rattle.fp_sites.specs.Includes.{includes_in}
+use Rattle.fp_gather.specs.declared.gathering.including.Inclusion.{Inclusion}
 use Rattle.fp_gather.proofs.OneWalk.{same_given}
-use Rattle.fp_gather.specs.gathering.Includes.{included_name, replaced}
-use Rattle.fp_gather.specs.gathering.Reading.{Reading, Gives}
-use Rattle.fp_gather.specs.gathering.Walks.{Walked, Walk, Went, Each, IsRefused, Reads, WalksFile, WalksInclude, WalksFiles, most_levels, next_reading, nothing_read}
+use Rattle.fp_gather.specs.gathering.Includes.{included_name, inclusions_in, replaced}
+use Rattle.fp_gather.specs.gathering.Reading.{Reading, Gives, nothing_in}
+use Rattle.fp_gather.specs.gathering.Walks.{Walked, Walk, Went, Each, IsRefused, Reads, WalksFile, WalksInclude, WalksNamed, WalksFiles, most_levels, next_reading, nothing_read}
 
 -- what a walk gives has it
 abbrev GivesKept : {A : Type 0} → (A → Type 0) → Walk A → Type 0
@@ -20,25 +22,31 @@ each_kept Q P kept [] before after ys h = subst (AllByRecursion Q) (sym h.1) tt
 each_kept Q P kept (x ∷ xs) before after ys (between, first, others, p, rest, e) =
     subst (AllByRecursion Q) (sym e) (kept x before between first p, each_kept Q P kept xs between after others rest)
 
-module _ (K : List Member → Type 0) (none : K []) (replace : (own : List Member) (parts : List (List Member)) → K own → AllByRecursion K parts → K (replaced own parts))
-    (given : (r : Reading) (ms : List Member) → Gives r ms → K ms) (told : Option (List HeldFile)) where
-  read_kept : (round : List (List ℕ)) (name : List ℕ) → GivesKept K (Reads told round name)
-  read_kept round name before after own (text, held, e, g) = given (next_reading before round name text) own g
+module _ (K : Members → Type 0) (none : (i : Inside) → K (nothing_in i))
+    (replace : (own : Members) (inserts : List Members) → K own → AllByRecursion K inserts → K (replaced own inserts))
+    (gift : (r : Reading) (x : Members) → Gives r x → K x) (told : Option (List HeldFile)) where
+  read_kept : (round : List (List ℕ)) (within : Inside) (name : List ℕ) → GivesKept K (Reads told round within name)
+  read_kept round within name before after own (text, held, e, g) = gift (next_reading before round within name text) own g
 
-  file_kept : (inclusion : List (List ℕ) → Include → Walk (List Member)) → ((round : List (List ℕ)) (i : Include) → GivesKept K (inclusion round i))
-      → (round : List (List ℕ)) (name : List ℕ) → GivesKept K (WalksFile told inclusion round name)
-  file_kept inclusion kept round name before after ms (read, own, parts, h, hs, e) =
-      subst K (sym e) (replace own parts (read_kept round name before read own h) (each_kept K (inclusion (name ∷ round)) (kept (name ∷ round)) (includes_in own) read after parts hs))
+  file_kept : (inclusion : List (List ℕ) → Inclusion → Walk Members) → ((round : List (List ℕ)) (i : Inclusion) → GivesKept K (inclusion round i))
+      → (round : List (List ℕ)) (within : Inside) (name : List ℕ) → GivesKept K (WalksFile told inclusion round within name)
+  file_kept inclusion kept round within name before after whole (read, own, inserts, h, hs, e) =
+      subst K (sym e) (replace own inserts (read_kept round within name before read own h)
+      (each_kept K (inclusion (name ∷ round)) (kept (name ∷ round)) (inclusions_in own) read after inserts hs))
 
-  refused_kept : (i : Include) → GivesKept K (IsRefused i)
-  refused_kept i before after ms h = subst K (sym (same_given h)) none
+  refused_kept : (i : Inclusion) → GivesKept K (IsRefused i)
+  refused_kept i before after x h = subst K (sym (same_given h)) (none i.inside)
 
-  include_kept : (levels : ℕ) (round : List (List ℕ)) (i : Include) → GivesKept K (WalksInclude told levels round i)
-  include_kept zero round i before after ms h = refused_kept i before after ms h
-  include_kept (suc levels) round i before after ms (inl h) = refused_kept i before after ms h.1
-  include_kept (suc levels) round i before after ms (inr h) = file_kept (WalksInclude told levels) (include_kept levels) round (included_name round i) before after ms h.1
+  include_kept : (levels : ℕ) (round : List (List ℕ)) (i : Inclusion) → GivesKept K (WalksInclude told levels round i)
+  include_kept zero round i before after x h = refused_kept i before after x h
+  include_kept (suc levels) round i before after x (inl h) = refused_kept i before after x h.1
+  include_kept (suc levels) round i before after x (inr h) =
+      file_kept (WalksInclude told levels) (include_kept levels) round i.inside (included_name round i.include) before after x h.1
+
+  named_kept : (name : List ℕ) → GivesKept (λ (ms : List Member). K (given.Unit ms)) (WalksNamed told name)
+  named_kept name before after ms h = file_kept (WalksInclude told most_levels) (include_kept most_levels) [] inside.Unit name before after (given.Unit ms) h
 
   -- the members of each file that the names ask for
-  pub units_kept : (names : List (List ℕ)) (walked : Walked) (units : List (List Member)) → WalksFiles told names nothing_read (Went walked units) → AllByRecursion K units
-  units_kept names walked units h =
-      each_kept K (WalksFile told (WalksInclude told most_levels) []) (file_kept (WalksInclude told most_levels) (include_kept most_levels) []) names nothing_read walked units h
+  pub units_kept : (names : List (List ℕ)) (walked : Walked) (units : List (List Member)) → WalksFiles told names nothing_read (Went walked units)
+      → AllByRecursion (λ (ms : List Member). K (given.Unit ms)) units
+  units_kept names walked units h = each_kept (λ (ms : List Member). K (given.Unit ms)) (WalksNamed told) named_kept names nothing_read walked units h

@@ -7,6 +7,7 @@ use Rattle.std.proofs.lemmas.Bool.Decides.{nat_tests}
 use Rattle.fp_base.specs.declared.refusal.Refusal.{Refusal}
 use Rattle.fp_base.specs.Least.{IsLeast, lesser_of}
 use Rattle.fp_base.proofs.Calculus.{least_none}
+use Rattle.fp_parse_parts.specs.declared.parsing.Inside.{Inside}
 use Rattle.fp_gather.proofs.FoundInFiles.{in_files_least, refused_least}
 use Rattle.fp_gather.specs.gathering.Answers.{IsFound, Knows, room_left}
 use Rattle.fp_gather.specs.gathering.Reading.{Reading, Gives, Passes, most_bytes}
@@ -99,18 +100,18 @@ known_refused old new before f known e = subst (λ (p : Progress). Knows p (with
 })
 
 -- what is given of a file that is taken in, and what is kept then
-pub taken : (old : Progress) (before : Walked) (round : List (List ℕ)) (name copied text : List ℕ) (number inclusions : ℕ) (passes : Bool) (found : FileFound)
+pub taken : (old : Progress) (before : Walked) (round : List (List ℕ)) (within : Inside) (name copied text : List ℕ) (number inclusions : ℕ) (passes : Bool) (found : FileFound)
     (names : List (List ℕ)) (room : Option ℕ) (tokens grammar : Option Refusal) → Knows old before
     → number ≡ length old.names → inclusions ≡ old.inclusions + cond (has_some round) 1 0
     → MatchBool passes (IsSomeAnd old.room (λ left. left < length text)) (IsSomeAnd old.room (λ left. left < length text) → ⊥)
-    → ((r : Reading) → r.number ≡ number → r.text ≡ text → MatchBool passes (Passes r) (Passes r → ⊥) → IsFound r found)
+    → ((r : Reading) → r.number ≡ number → r.text ≡ text → r.inside ≡ within → MatchBool passes (Passes r) (Passes r → ⊥) → IsFound r found)
     → copied ≡ name → names ≡ old.names ++ copied ∷ [] → room ≡ room_left old.room (length text)
     → tokens ≡ lesser_of old.tokens found.tokens → grammar ≡ lesser_of old.grammar found.grammar
-    → Gives (next_reading before round name text) found.members
-    × Knows (record { names = names; room = room; inclusions = inclusions; tokens = tokens; grammar = grammar; includes = old.includes }) (with_reading before (next_reading before round name text))
-taken old before round name copied text number inclusions passes found names room tokens grammar known en ei ep is_found ec ens er et eg =
-    let r = next_reading before round name text in
-    let here = is_found r (sym (en ∙ ap length known.names ∙ length-map before.readings (λ (q : Reading). q.name))) refl
+    → Gives (next_reading before round within name text) found.given
+    × Knows (record { names = names; room = room; inclusions = inclusions; tokens = tokens; grammar = grammar; includes = old.includes }) (with_reading before (next_reading before round within name text))
+taken old before round within name copied text number inclusions passes found names room tokens grammar known en ei ep is_found ec ens er et eg =
+    let r = next_reading before round within name text in
+    let here = is_found r (sym (en ∙ ap length known.names ∙ length-map before.readings (λ (q : Reading). q.name))) refl refl
     (passes_step old.room (bytes_of before.readings) (length text) passes known.room ep) in (
       here.gives,
       known_more old (record { names = names; room = room; inclusions = inclusions; tokens = tokens; grammar = grammar; includes = old.includes }) before r found known here

@@ -4,6 +4,7 @@ pub mod Directories
 pub mod FirstInFiles
 pub mod FoundInFiles
 pub mod GatheredFiles
+pub mod InclusionsStand
 pub mod ItemsKept
 pub mod KeptByWalks
 pub mod KnownFiles

@@ -3,11 +3,15 @@ use Rattle.std.proofs.Common.{◌≡◌, ℕ, suc, true, ◌&&◌, List, [], ◌
 use Rattle.std.specs.List.{AllByRecursion as Each, list_all, Contains}
 use Rattle.fp_base.specs.Names.{is_name}
 use Rattle.fp_base.proofs.Bools.{both, join}
-use Rattle.fp_base.proofs.Lists.{each_append, each_before, each_behind, each_contained, of_contained}
+use Rattle.fp_base.proofs.Lists.{each_append, each_before, each_behind, each_contained, each_flat, of_contained}
 use Rattle.fp_lexer.specs.Tokens.{Lexed}
 use Rattle.fp_lexer.specs.declared.token.Token.{Token}
 use Rattle.fp_outside.specs.declared.files.HeldFile.{HeldFile}
-use Rattle.fp_parse_parts.specs.Units.{SpellsUnit}
+use Rattle.fp_parse_parts.specs.Files.{SpellsFile}
+use Rattle.fp_parse_parts.specs.Units.{SpellsUnit, component_parts}
+use Rattle.fp_parse_parts.specs.declared.parsing.Inside.{Inside}
+use Rattle.fp_parse_parts.specs.declared.parsing.Inside.TheVariants as inside
+use Rattle.fp_parse_parts.specs.declared.parsing.Members.TheVariants as given
 use Rattle.fp_tree.specs.declared.name.Name.{Name}
 use Rattle.fp_tree.specs.declared.expression.Expr.{Expr}
 use Rattle.fp_tree.specs.declared.type_name.TypeName.{TypeName}
@@ -44,13 +48,14 @@ use Rattle.fp_sites.specs.Parts.{names_in_constant, names_in_definition, names_i
 use Rattle.fp_sites.specs.Machines.{names_in_machine}
 use Rattle.fp_sites.specs.Components.{names_in_component, names_in_interface, names_in_interface_part, names_in_part}
 use Rattle.fp_sites.specs.Topologies.{names_in_instance, names_in_topology}
-use Rattle.fp_sites.specs.Written.{NamesAreWritten}
-use Rattle.fp_gather.proofs.ItemsKept.{file_given}
+use Rattle.fp_sites.specs.Written.{NamesAreWritten, PartNamesAreWritten}
+use Rattle.fp_gather.proofs.ItemsKept.{by_kind, file_given}
 use Rattle.fp_gather.proofs.KeptByWalks.{units_kept}
-use Rattle.fp_gather.proofs.PartsHold.{HaveNames, names_inside, names_opened, names_rolled, replaced_names}
+use Rattle.fp_gather.proofs.PartsHold.{HaveNames, in_each, names_inside, names_opened, names_rolled, replaced_names}
 use Rattle.fp_gather.specs.gathering.Gathered.{file_of, source_of}
 use Rattle.fp_names.specs.Named.{HasNamedParts, formals_are_named, interface_part_is_named, part_is_named}
 use Rattle.fp_gather.specs.gathering.Names.{IsNamed}
+use Rattle.fp_gather.specs.gathering.Reading.{nothing_in}
 use Rattle.fp_gather.specs.gathering.Walks.{Walked, Went, WalksFiles, nothing_read}
 
 -- a name of the language
@@ -288,16 +293,26 @@ members_named (m ∷ ms) scope s h =
 
 -- ---- files
 
-units_named : (units : List (List Member)) → Each (HaveNames IsName) units → Each IsNamed (flat_map (λ (u : File). in_members [] u.members) (map file_of units))
+units_named : (units : List (List Member)) → Each (λ (ms : List Member). HaveNames IsName (given.Unit ms)) units → Each IsNamed (flat_map (λ (u : File). in_members [] u.members) (map file_of units))
 units_named [] h = tt
 units_named (ms ∷ units) h =
-    each_append IsNamed (in_members [] ms) (flat_map (λ (u : File). in_members [] u.members) (map file_of units)) (members_named ms [] refl h.0) (units_named units h.1)
+    each_append IsNamed (in_members [] ms) (flat_map (λ (u : File). in_members [] u.members) (map file_of units)) (members_named ms [] refl (each_flat IsName names_within ms (h.0 [])))
+    (units_named units h.1)
+
+nothing_named : (i : Inside) → HaveNames IsName (nothing_in i)
+nothing_named inside.Unit = λ scope. tt
+nothing_named inside.Component = λ scope. tt
+nothing_named inside.Topology = tt
 
 pub named_items : ((file : ℕ) (text : List ℕ) (tokens : List Token) (ms : List Member) → Lexed file text tokens → SpellsUnit tokens ms → NamesAreWritten file text ms)
+    → ((file : ℕ) (text : List ℕ) (tokens : List Token) (ps : List Part) → Lexed file text tokens → SpellsFile component_parts tokens ps → PartNamesAreWritten file text ps)
     → (told : Option (List HeldFile)) (names : List (List ℕ)) (walked : Walked) (units : List (List Member)) (i : Item)
     → WalksFiles told names nothing_read (Went walked units) → Contains (items (source_of walked units)) i → IsNamed i
-named_items written told names walked units i h there =
+named_items written parts_written told names walked units i h there =
     of_contained IsNamed (items (source_of walked units)) i (units_named units
-    (units_kept (HaveNames IsName) tt (replaced_names IsName)
-    (file_given (HaveNames IsName) tt (λ file text tokens ms lexed s. each_contained IsName (names_in ms) (λ n there. (written file text tokens ms lexed s n there).spelled.0)))
+    (units_kept (HaveNames IsName) nothing_named (replaced_names IsName)
+    (file_given (HaveNames IsName) nothing_named (λ file text tokens within x lexed spelled. by_kind (HaveNames IsName) tokens
+    (λ ms s scope. in_each IsName names_within ms (each_contained IsName (names_in ms) (λ n there. (written file text tokens ms lexed s n there).spelled.0)))
+    (λ ps s scope. in_each IsName names_in_part ps (each_contained IsName (flat_map names_in_part ps) (λ n there. (parts_written file text tokens ps lexed s n there).spelled.0)))
+    (λ ts. tt) within x spelled))
     told names walked units h)) there

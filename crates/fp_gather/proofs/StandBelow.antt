@@ -5,23 +5,27 @@ use Rattle.std.proofs.lemmas.List.{length_push}
 use Rattle.fp_base.specs.declared.place.Place.{Place}
 use Rattle.fp_base.specs.declared.refusal.Refusal.{Refusal}
 use Rattle.fp_base.specs.declared.rule.Rule.TheVariants.{BadInclude}
-use Rattle.fp_tree.specs.declared.member.Include.{Include}
+use Rattle.fp_parse_parts.specs.declared.parsing.Inside.{Inside}
+use Rattle.fp_parse_parts.specs.declared.parsing.Inside.TheVariants as inside
+use Rattle.fp_parse_parts.specs.declared.parsing.Members.{Members}
+use Rattle.fp_parse_parts.specs.declared.parsing.Members.TheVariants as given
+use Rattle.fp_tree.specs.declared.component.Component.{Component}
+use Rattle.fp_tree.specs.declared.component.Part.{Part}
 use Rattle.fp_tree.specs.declared.member.Member.{Member}
 use Rattle.fp_base.specs.Least.{broken_at}
 use Rattle.fp_meaning.specs.declared.item.Item.{Item}
-use Rattle.fp_meaning.specs.Layout.{in_members}
 use Rattle.fp_meaning.specs.Names.{definitions_of, uses_of}
 use Rattle.fp_meaning.specs.declared.names.Definition.{Definition}
 use Rattle.fp_meaning.specs.declared.names.Mention.{Mention}
-use Rattle.fp_base.proofs.Lists.{each_append, each_of_any, each_weaker}
+use Rattle.fp_base.proofs.Lists.{each_append, each_flat, each_of_any, each_weaker}
 use Rattle.fp_gather.proofs.OneWalk.{same_given, same_walked}
-use Rattle.fp_gather.proofs.PartsHold.{Hold, replaced_hold}
-use Rattle.fp_places.specs.Places.{places_of}
+use Rattle.fp_gather.proofs.PartsHold.{Hold, hold_more, in_each, nothing_holds, replaced_hold}
+use Rattle.fp_places.specs.Places.{places_in_part, places_of}
 use Rattle.fp_outside.specs.declared.files.HeldFile.{HeldFile}
-use Rattle.fp_sites.specs.Includes.{includes_in}
-use Rattle.fp_gather.specs.gathering.Includes.{included_name, replaced}
-use Rattle.fp_gather.specs.gathering.Reading.{Reading, Gives}
-use Rattle.fp_gather.specs.gathering.Walks.{Walked, Walk, Went, Each, IsRefused, Reads, WalksFile, WalksInclude, WalksFiles, most_levels, next_reading, nothing_read, with_reading, with_refused}
+use Rattle.fp_gather.specs.declared.gathering.including.Inclusion.{Inclusion}
+use Rattle.fp_gather.specs.gathering.Includes.{included_name, inclusions_in, replaced}
+use Rattle.fp_gather.specs.gathering.Reading.{Reading, Gives, nothing_in}
+use Rattle.fp_gather.specs.gathering.Walks.{Walked, Walk, Went, Each, IsRefused, Reads, WalksFile, WalksInclude, WalksNamed, WalksFiles, most_levels, next_reading, nothing_read, with_reading, with_refused}
 
 -- what an item defines and uses stands in a file below this number
 abbrev pub DefinesBelow : ℕ → Item → Type 0
@@ -34,15 +38,22 @@ UsesBelow n i = AllByRecursion (λ (m : Mention). m.place.file < n) (uses_of i)
 abbrev pub PlacesBelow : ℕ → Item → Type 0
 PlacesBelow n i = AllByRecursion (λ (p : Place). p.file < n) (places_of i)
 
+-- and each of a part; of a component's parts no more is said where that is not asked
+abbrev pub PartBelow : ℕ → Part → Type 0
+PartBelow n p = AllByRecursion (λ (q : Place). q.file < n) (places_in_part p)
+
+abbrev pub AnyPart : Part → Type 0
+AnyPart p = Unit {0}
+
 -- and so does all, in any scope
-pub record StandBelow (n : ℕ) (ms : List Member) : Type 0 where
-  pub definitions : Hold (DefinesBelow n) ms
-  pub mentions : Hold (UsesBelow n) ms
-  pub places : Hold (PlacesBelow n) ms
+pub record StandBelow (n : ℕ) (x : Members) : Type 0 where
+  pub definitions : Hold (DefinesBelow n) AnyPart x
+  pub mentions : Hold (UsesBelow n) AnyPart x
+  pub places : Hold (PlacesBelow n) (PartBelow n) x
 
 -- and so does each include
-abbrev pub IncludesBelow : ℕ → List Member → Type 0
-IncludesBelow n ms = AllByRecursion (λ (i : Include). i.at.first.file < n) (includes_in ms)
+abbrev pub IncludesBelow : ℕ → Members → Type 0
+IncludesBelow n x = AllByRecursion (λ (i : Inclusion). i.include.at.first.file < n) (inclusions_in x)
 
 -- the files that were read have numbers below their count, and the includes that break their rule stand in them
 pub record IsNumbered (walked : Walked) : Type 0 where
@@ -55,25 +66,37 @@ KeepsNumbers {A = A} G low P =
     (before after : Walked) (x : A) → low ≤ length before.readings → IsNumbered before → P before (Went after x)
     → (length before.readings ≤ length after.readings) × IsNumbered after × G (length after.readings) x
 
-below_more : (m n : ℕ) (ms : List Member) → m ≤ n → StandBelow m ms → StandBelow n ms
-below_more m n ms le h = record {
-  definitions = λ scope. each_weaker (DefinesBelow m) (DefinesBelow n)
-      (λ i. each_weaker (λ (d : Definition). d.place.file < m) (λ (d : Definition). d.place.file < n) (λ d lt. omega (arith, le, lt)) (definitions_of i)) (in_members scope ms) (h.definitions scope);
-  mentions = λ scope. each_weaker (UsesBelow m) (UsesBelow n)
-      (λ i. each_weaker (λ (u : Mention). u.place.file < m) (λ (u : Mention). u.place.file < n) (λ u lt. omega (arith, le, lt)) (uses_of i)) (in_members scope ms) (h.mentions scope);
-  places = λ scope. each_weaker (PlacesBelow m) (PlacesBelow n)
-      (λ i. each_weaker (λ (p : Place). p.file < m) (λ (p : Place). p.file < n) (λ p lt. omega (arith, le, lt)) (places_of i)) (in_members scope ms) (h.places scope);
+below_more : (m n : ℕ) (x : Members) → m ≤ n → StandBelow m x → StandBelow n x
+below_more m n x le h = record {
+  definitions = hold_more (DefinesBelow m) (DefinesBelow n) AnyPart AnyPart
+      (λ i. each_weaker (λ (d : Definition). d.place.file < m) (λ (d : Definition). d.place.file < n) (λ d lt. omega (arith, le, lt)) (definitions_of i)) (λ p q. q) x h.definitions;
+  mentions = hold_more (UsesBelow m) (UsesBelow n) AnyPart AnyPart
+      (λ i. each_weaker (λ (u : Mention). u.place.file < m) (λ (u : Mention). u.place.file < n) (λ u lt. omega (arith, le, lt)) (uses_of i)) (λ p q. q) x h.mentions;
+  places = hold_more (PlacesBelow m) (PlacesBelow n) (PartBelow m) (PartBelow n)
+      (λ i. each_weaker (λ (p : Place). p.file < m) (λ (p : Place). p.file < n) (λ p lt. omega (arith, le, lt)) (places_of i))
+      (λ q. each_weaker (λ (p : Place). p.file < m) (λ (p : Place). p.file < n) (λ p lt. omega (arith, le, lt)) (places_in_part q)) x h.places;
 }
 
-replaced_below : (n : ℕ) (own : List Member) (parts : List (List Member)) → StandBelow n own → AllByRecursion (StandBelow n) parts → StandBelow n (replaced own parts)
-replaced_below n own parts h k = record {
-  definitions = replaced_hold (DefinesBelow n) own parts h.definitions (each_weaker (StandBelow n) (Hold (DefinesBelow n)) (λ ms q. q.definitions) parts k);
-  mentions = replaced_hold (UsesBelow n) own parts h.mentions (each_weaker (StandBelow n) (Hold (UsesBelow n)) (λ ms q. q.mentions) parts k);
-  places = replaced_hold (PlacesBelow n) own parts h.places (each_weaker (StandBelow n) (Hold (PlacesBelow n)) (λ ms q. q.places) parts k);
+any_parts : (c : Component) → AllByRecursion AnyPart c.parts
+any_parts c = each_of_any AnyPart (λ p. tt) c.parts
+
+replaced_below : (n : ℕ) (own : Members) (inserts : List Members) → StandBelow n own → AllByRecursion (StandBelow n) inserts → StandBelow n (replaced own inserts)
+replaced_below n own inserts h k = record {
+  definitions = replaced_hold (DefinesBelow n) AnyPart (λ scope c q. any_parts c) (λ scope c ps q r. q) own inserts h.definitions
+      (each_weaker (StandBelow n) (Hold (DefinesBelow n) AnyPart) (λ x q. q.definitions) inserts k);
+  mentions = replaced_hold (UsesBelow n) AnyPart (λ scope c q. any_parts c) (λ scope c ps q r. q) own inserts h.mentions
+      (each_weaker (StandBelow n) (Hold (UsesBelow n) AnyPart) (λ x q. q.mentions) inserts k);
+  places = replaced_hold (PlacesBelow n) (PartBelow n) (λ scope c q. in_each (λ (p : Place). p.file < n) places_in_part c.parts q.1)
+      (λ scope c ps q r. (q.0, each_flat (λ (p : Place). p.file < n) places_in_part ps r)) own inserts h.places
+      (each_weaker (StandBelow n) (Hold (PlacesBelow n) (PartBelow n)) (λ x q. q.places) inserts k);
 }
 
-pub none_below : (n : ℕ) → StandBelow n []
-none_below n = record { definitions = λ scope. tt; mentions = λ scope. tt; places = λ scope. tt }
+pub none_below : (n : ℕ) (i : Inside) → StandBelow n (nothing_in i)
+none_below n i = record {
+  definitions = nothing_holds (DefinesBelow n) AnyPart i;
+  mentions = nothing_holds (UsesBelow n) AnyPart i;
+  places = nothing_holds (PlacesBelow n) (PartBelow n) i;
+}
 
 -- ---- what is kept
 
@@ -119,58 +142,66 @@ each_keeps {A = A} G more P low (z ∷ zs) s before after ys le num (m, y, us, h
       subst (λ (vs : List A). AllByRecursion (G (length after.readings)) vs) (sym e) (more (length m.readings) (length after.readings) y goes here.2, rest.2),
     )
 
-refused_keeps : (i : Include) → KeepsNumbers StandBelow (suc i.at.first.file) (IsRefused i)
-refused_keeps i before after ms le num h =
-    subst (λ (w : Walked). (length before.readings ≤ length w.readings) × IsNumbered w × StandBelow (length w.readings) ms) (sym (same_walked h)) (
+refused_keeps : (i : Inclusion) → KeepsNumbers StandBelow (suc i.include.at.first.file) (IsRefused i)
+refused_keeps i before after x le num h =
+    subst (λ (w : Walked). (length before.readings ≤ length w.readings) × IsNumbered w × StandBelow (length w.readings) x) (sym (same_walked h)) (
       omega arith,
-      refused_numbered before (broken_at BadInclude i.at.first) (omega (arith, le)) num,
-      subst (λ (xs : List Member). StandBelow (length before.readings) xs) (sym (same_given h)) (none_below (length before.readings)),
+      refused_numbered before (broken_at BadInclude i.include.at.first) (omega (arith, le)) num,
+      subst (λ (y : Members). StandBelow (length before.readings) y) (sym (same_given h)) (none_below (length before.readings) i.inside),
     )
 
 -- each reading gives what stands in its file
-module _ (gives_below : (r : Reading) (ms : List Member) → Gives r ms → StandBelow (suc r.number) ms × IncludesBelow (suc r.number) ms) (told : Option (List HeldFile)) where
-  abbrev OwnBelow : ℕ → List Member → Type 0
-  OwnBelow n ms = StandBelow n ms × IncludesBelow n ms
+module _ (gives_below : (r : Reading) (x : Members) → Gives r x → StandBelow (suc r.number) x × IncludesBelow (suc r.number) x) (told : Option (List HeldFile)) where
+  abbrev OwnBelow : ℕ → Members → Type 0
+  OwnBelow n x = StandBelow n x × IncludesBelow n x
 
-  read_keeps : (round : List (List ℕ)) (name : List ℕ) → KeepsNumbers OwnBelow 0 (Reads told round name)
-  read_keeps round name before after own le num (text, held, e, g) =
-      let r : Reading = next_reading before round name text in
+  read_keeps : (round : List (List ℕ)) (within : Inside) (name : List ℕ) → KeepsNumbers OwnBelow 0 (Reads told round within name)
+  read_keeps round within name before after own le num (text, held, e, g) =
+      let r : Reading = next_reading before round within name text in
       let long = length_push before.readings r in
       let same : suc (length before.readings) ≡ length (before.readings ++ r ∷ []) = omega (arith, long) in
       subst (λ (w : Walked). (length before.readings ≤ length w.readings) × IsNumbered w × OwnBelow (length w.readings) own) (sym e)
       (omega (arith, long), reading_numbered before r refl num, subst (λ (n : ℕ). OwnBelow n own) same (gives_below r own g))
 
-  module _ (inclusion : List (List ℕ) → Include → Walk (List Member)) (keeps : (round : List (List ℕ)) (i : Include) → KeepsNumbers StandBelow (suc i.at.first.file) (inclusion round i)) where
+  module _ (inclusion : List (List ℕ) → Inclusion → Walk Members)
+      (keeps : (round : List (List ℕ)) (i : Inclusion) → KeepsNumbers StandBelow (suc i.include.at.first.file) (inclusion round i)) where
     -- behind a file in which the include stands
-    include_behind : (round : List (List ℕ)) (n : ℕ) (i : Include) → i.at.first.file < n → KeepsNumbers StandBelow n (inclusion round i)
-    include_behind round n i lt before after ms le num h = keeps round i before after ms (omega (arith, lt, le)) num h
+    include_behind : (round : List (List ℕ)) (n : ℕ) (i : Inclusion) → i.include.at.first.file < n → KeepsNumbers StandBelow n (inclusion round i)
+    include_behind round n i lt before after x le num h = keeps round i before after x (omega (arith, lt, le)) num h
 
-    file_keeps : (round : List (List ℕ)) (name : List ℕ) → KeepsNumbers StandBelow 0 (WalksFile told inclusion round name)
-    file_keeps round name before after ms le num (read, own, parts, h, hs, e) =
-        let first = read_keeps round name before read own le num h in
+    file_keeps : (round : List (List ℕ)) (within : Inside) (name : List ℕ) → KeepsNumbers StandBelow 0 (WalksFile told inclusion round within name)
+    file_keeps round within name before after whole le num (read, own, inserts, h, hs, e) =
+        let first = read_keeps round within name before read own le num h in
         let n : ℕ = length read.readings in
-        let rest = each_keeps StandBelow below_more (inclusion (name ∷ round)) n (includes_in own)
-        (each_weaker (λ (i : Include). i.at.first.file < n) (λ (i : Include). KeepsNumbers StandBelow n (inclusion (name ∷ round) i)) (include_behind (name ∷ round) n) (includes_in own) first.2.1)
-        read after parts (omega arith) first.1 hs in
+        let rest = each_keeps StandBelow below_more (inclusion (name ∷ round)) n (inclusions_in own)
+        (each_weaker (λ (i : Inclusion). i.include.at.first.file < n) (λ (i : Inclusion). KeepsNumbers StandBelow n (inclusion (name ∷ round) i)) (include_behind (name ∷ round) n) (inclusions_in own) first.2.1)
+        read after inserts (omega arith) first.1 hs in
         let grows = first.0 in
         let goes = rest.0 in (
           omega (arith, grows, goes),
           rest.1,
-          subst (λ (xs : List Member). StandBelow (length after.readings) xs) (sym e)
-              (replaced_below (length after.readings) own parts (below_more n (length after.readings) own goes first.2.0) rest.2),
+          subst (λ (x : Members). StandBelow (length after.readings) x) (sym e)
+              (replaced_below (length after.readings) own inserts (below_more n (length after.readings) own goes first.2.0) rest.2),
         )
 
-  include_keeps : (levels : ℕ) (round : List (List ℕ)) (i : Include) → KeepsNumbers StandBelow (suc i.at.first.file) (WalksInclude told levels round i)
-  include_keeps zero round i before after ms le num h = refused_keeps i before after ms le num h
-  include_keeps (suc levels) round i before after ms le num (inl h) = refused_keeps i before after ms le num h.1
-  include_keeps (suc levels) round i before after ms le num (inr h) =
-      file_keeps (WalksInclude told levels) (include_keeps levels) round (included_name round i) before after ms (omega arith) num h.1
+  include_keeps : (levels : ℕ) (round : List (List ℕ)) (i : Inclusion) → KeepsNumbers StandBelow (suc i.include.at.first.file) (WalksInclude told levels round i)
+  include_keeps zero round i before after x le num h = refused_keeps i before after x le num h
+  include_keeps (suc levels) round i before after x le num (inl h) = refused_keeps i before after x le num h.1
+  include_keeps (suc levels) round i before after x le num (inr h) =
+      file_keeps (WalksInclude told levels) (include_keeps levels) round i.inside (included_name round i.include) before after x (omega arith) num h.1
+
+  -- of the members that a file gives
+  abbrev UnitBelow : ℕ → List Member → Type 0
+  UnitBelow n ms = StandBelow n (given.Unit ms)
+
+  named_keeps : (name : List ℕ) → KeepsNumbers UnitBelow 0 (WalksNamed told name)
+  named_keeps name before after ms le num h =
+      file_keeps (WalksInclude told most_levels) (include_keeps most_levels) [] inside.Unit name before after (given.Unit ms) le num h
 
   -- of the files that names ask for
   pub files_below : (names : List (List ℕ)) (walked : Walked) (units : List (List Member)) → WalksFiles told names nothing_read (Went walked units)
-      → IsNumbered walked × AllByRecursion (StandBelow (length walked.readings)) units
+      → IsNumbered walked × AllByRecursion (λ (ms : List Member). StandBelow (length walked.readings) (given.Unit ms)) units
   files_below names walked units h =
-      let all = each_keeps StandBelow below_more (WalksFile told (WalksInclude told most_levels) []) 0 names
-      (each_of_any (λ (name : List ℕ). KeepsNumbers StandBelow 0 (WalksFile told (WalksInclude told most_levels) [] name)) (file_keeps (WalksInclude told most_levels) (include_keeps most_levels) []) names)
-      nothing_read walked units (omega arith) none_numbered h in
+      let all = each_keeps UnitBelow (λ m n ms. below_more m n (given.Unit ms)) (WalksNamed told) 0 names
+      (each_of_any (λ (name : List ℕ). KeepsNumbers UnitBelow 0 (WalksNamed told name)) named_keeps names) nothing_read walked units (omega arith) none_numbered h in
       (all.1, all.2)

@@ -9,15 +9,20 @@ use Rattle.fp_outside.specs.declared.files.ReadRefusal.TheVariants.{Failed}
 use Rattle.fp_outside.specs.declared.files.HeldFile.{HeldFile}
 use Rattle.fp_base.proofs.Options.{same_some}
 use Rattle.fp_base.specs.declared.rule.Rule.TheVariants.{BadInclude}
-use Rattle.fp_tree.specs.declared.member.Include.{Include}
+use Rattle.fp_parse_parts.specs.declared.parsing.Inside.{Inside}
+use Rattle.fp_parse_parts.specs.declared.parsing.Inside.TheVariants as inside
+use Rattle.fp_parse_parts.specs.declared.parsing.Members.{Members}
+use Rattle.fp_parse_parts.specs.declared.parsing.Members.TheVariants as given
+use Rattle.fp_lexer.specs.declared.token.Token.{Token}
+use Rattle.fp_parse_parts.specs.Units.{SpellsInside}
 use Rattle.fp_tree.specs.declared.member.Member.{Member}
 use Rattle.fp_base.specs.Least.{broken_at}
 use Rattle.fp_gather.specs.FilesRun.{FilesRun, files_run, IsHeld, NoFault, NoMiss}
 use Rattle.fp_gather.specs.gathering.Answers.{Comes, Knows}
-use Rattle.fp_sites.specs.Includes.{includes_in}
-use Rattle.fp_gather.specs.gathering.Includes.{included_name, replaced}
-use Rattle.fp_gather.specs.gathering.Reading.{Gives}
-use Rattle.fp_gather.specs.gathering.Walks.{Walked, Walk, Outcome, Went, Stops, Stopped, NoFile, ReadFault, Each, IsBad, IsRefused, Reads, WalksFile, WalksFiles, WalksInclude, next_reading, with_reading, with_refused}
+use Rattle.fp_gather.specs.declared.gathering.including.Inclusion.{Inclusion}
+use Rattle.fp_gather.specs.gathering.Includes.{included_name, inclusions_in, members_of, replaced}
+use Rattle.fp_gather.specs.gathering.Reading.{Reading, Gives, nothing_in}
+use Rattle.fp_gather.specs.gathering.Walks.{Walked, Walk, Outcome, Went, Stops, Stopped, NoFile, ReadFault, Each, IsBad, IsRefused, Reads, WalksFile, WalksFiles, WalksInclude, WalksNamed, most_levels, next_reading, with_reading, with_refused}
 use Rattle.fp_gather.specs.declared.gathering.Halt.{Halt}
 use Rattle.fp_gather.specs.declared.gathering.Halt.TheVariants as halt
 use Rattle.fp_gather.specs.declared.gathering.progress.Progress.{Progress}
@@ -60,33 +65,70 @@ mapped_split f xs i x lt is = ap (map f) (split_there xs i x lt is) ∙ map-appe
 
 -- ---- includes
 
-pub include_at_end : (told : Told) (levels : ℕ) (round : List (List ℕ)) (i : Include) (before : Walked) (o : Outcome (List Member))
+pub include_at_end : (told : Told) (levels : ℕ) (round : List (List ℕ)) (i : Inclusion) (before : Walked) (o : Outcome Members)
     → levels ≡ 0 → IsRefused i before o → WalksInclude told levels round i before o
 include_at_end told zero round i before o e h = h
 include_at_end told (suc levels) round i before o e h = absurd (omega (arith, e))
 
-pub include_bad : (told : Told) (levels : ℕ) (round : List (List ℕ)) (i : Include) (name : List ℕ) (before : Walked) (o : Outcome (List Member))
-    → name ≡ included_name round i → IsBad before round name → IsRefused i before o → WalksInclude told levels round i before o
+pub include_bad : (told : Told) (levels : ℕ) (round : List (List ℕ)) (i : Inclusion) (name : List ℕ) (before : Walked) (o : Outcome Members)
+    → name ≡ included_name round i.include → IsBad before round name → IsRefused i before o → WalksInclude told levels round i before o
 include_bad told zero round i name before o e bad h = h
 include_bad told (suc levels) round i name before o e bad h = inl (subst (λ (n : List ℕ). IsBad before round n) e bad, h)
 
 -- an include that breaks its rule, with what is kept then
-pub refused_comes : (files : FilesRun) (P : Told → Walk (List Member)) (i : Include) (before : Walked) (q : Progress) (gives : List Member) → NoFault files → NoMiss files → gives ≡ []
-    → Knows q (with_refused before (broken_at BadInclude i.at.first)) → ((o : Outcome (List Member)) → IsRefused i before o → P files.told before o) → Comes files P before q (Ok gives)
+pub refused_comes : (files : FilesRun) (P : Told → Walk Members) (i : Inclusion) (before : Walked) (q : Progress) (gives : Members) → NoFault files → NoMiss files → gives ≡ nothing_in i.inside
+    → Knows q (with_refused before (broken_at BadInclude i.include.at.first)) → ((o : Outcome Members) → IsRefused i before o → P files.told before o) → Comes files P before q (Ok gives)
 refused_comes files P i before q gives sound found e known to =
-    (sound, found, (with_refused before (broken_at BadInclude i.at.first), to _ (ap (λ (l : List Member). Went (with_refused before (broken_at BadInclude i.at.first)) l) e), known))
+    (sound, found, (with_refused before (broken_at BadInclude i.include.at.first), to _ (ap (λ (x : Members). Went (with_refused before (broken_at BadInclude i.include.at.first)) x) e), known))
 
-pub include_read : (told : Told) (levels : ℕ) (round : List (List ℕ)) (i : Include) (name : List ℕ) (before : Walked) (o : Outcome (List Member))
-    → (levels ≡ 0 → ⊥) → name ≡ included_name round i → (IsBad before round name → ⊥)
-    → WalksFile told (WalksInclude told (levels - 1)) round name before o → WalksInclude told levels round i before o
+pub include_read : (told : Told) (levels : ℕ) (round : List (List ℕ)) (i : Inclusion) (name : List ℕ) (before : Walked) (o : Outcome Members)
+    → (levels ≡ 0 → ⊥) → name ≡ included_name round i.include → (IsBad before round name → ⊥)
+    → WalksFile told (WalksInclude told (levels - 1)) round i.inside name before o → WalksInclude told levels round i before o
 include_read told zero round i name before o some e good h = absurd (some refl)
 include_read told (suc levels) round i name before o some e good h =
     let less : suc levels - 1 ≡ levels = omega arith in
     inr (
       subst (λ (n : List ℕ). IsBad before round n → ⊥) e good,
-      subst (λ (n : List ℕ). WalksFile told (WalksInclude told levels) round n before o) e
-          (subst (λ (n : ℕ). WalksFile told (WalksInclude told n) round name before o) less h),
+      subst (λ (n : List ℕ). WalksFile told (WalksInclude told levels) round i.inside n before o) e
+          (subst (λ (n : ℕ). WalksFile told (WalksInclude told n) round i.inside name before o) less h),
     )
+
+-- ---- files that names ask for
+
+-- what tokens spell that stand in a file are members, and so is what a file of members gives
+spelled_unit : (tokens : List Token) (x : Members) → SpellsInside tokens inside.Unit x → x ≡ given.Unit (members_of x)
+spelled_unit tokens (given.Unit ms) s = refl
+spelled_unit tokens (given.Component ps) s = absurd s
+spelled_unit tokens (given.Topology ms) s = absurd s
+
+gift_unit : (r : Reading) (x : Members) → r.inside ≡ inside.Unit → Gives r x → x ≡ given.Unit (members_of x)
+gift_unit r x e (inl (tokens, has, s)) = spelled_unit tokens x (subst (λ (i : Inside). SpellsInside tokens i x) e s)
+gift_unit r x e (inr (broken, is)) =
+    let none : x ≡ given.Unit [] = is ∙ ap nothing_in e in
+    none ∙ sym (ap (λ (y : Members). given.Unit (members_of y)) none)
+
+replaced_unit : (own whole : Members) (inserts : List Members) → own ≡ given.Unit (members_of own) → whole ≡ replaced own inserts → whole ≡ given.Unit (members_of whole)
+replaced_unit (given.Unit ms) whole inserts e is = is ∙ sym (ap (λ (y : Members). given.Unit (members_of y)) is)
+replaced_unit (given.Component ps) whole inserts e is = cc
+replaced_unit (given.Topology ms) whole inserts e is = cc
+
+named_gives : (told : Told) (inclusion : List (List ℕ) → Inclusion → Walk Members) (name : List ℕ) (before after : Walked) (whole : Members)
+    → WalksFile told inclusion [] inside.Unit name before (Went after whole) → whole ≡ given.Unit (members_of whole)
+named_gives told inclusion name before after whole (read, own, inserts, (text, held, e, g), hs, is) =
+    replaced_unit own whole inserts (gift_unit (next_reading before [] inside.Unit name text) own refl g) is
+
+-- the same file by another copy of its name
+pub asked_as : (told : Told) (round : List (List ℕ)) (name asked : List ℕ) (before : Walked) (o : Outcome Members) → round ≡ [] → name ≡ asked
+    → WalksFile told (WalksInclude told most_levels) round inside.Unit name before o → WalksFile told (WalksInclude told most_levels) [] inside.Unit asked before o
+asked_as told round name asked before o er en h =
+    subst (λ (n : List ℕ). WalksFile told (WalksInclude told most_levels) [] inside.Unit n before o) en
+    (subst (λ (r : List (List ℕ)). WalksFile told (WalksInclude told most_levels) r inside.Unit name before o) er h)
+
+pub named_comes : (files : FilesRun) (name : List ℕ) (before : Walked) (progress : Progress) (whole : Members) (out : List Member) → out ≡ members_of whole
+    → Comes files (λ t. WalksFile t (WalksInclude t most_levels) [] inside.Unit name) before progress (Ok whole) → Comes files (λ t. WalksNamed t name) before progress (Ok out)
+named_comes files name before progress whole out e c =
+    let is : whole ≡ given.Unit out = named_gives files.told (WalksInclude files.told most_levels) name before c.2.0 whole c.2.1 ∙ ap given.Unit (sym e) in
+    (c.0, c.1, (c.2.0, subst (λ (x : Members). WalksFile files.told (WalksInclude files.told most_levels) [] inside.Unit name before (Went c.2.0 x)) is c.2.1, c.2.2))
 
 -- ---- what walks come to
 
@@ -105,13 +147,13 @@ held_so None name o h = h
 held_so (Some held) name o h = sym h
 
 -- what was read is there
-pub reads_some : (files : FilesRun) (round : List (List ℕ)) (name asked slice text : List ℕ) (o : Option (List ℕ)) (gives : List Member) (before : Walked) (q : Progress)
+pub reads_some : (files : FilesRun) (round : List (List ℕ)) (within : Inside) (name asked slice text : List ℕ) (o : Option (List ℕ)) (gives : Members) (before : Walked) (q : Progress)
     → o ≡ Some text → slice ≡ text → asked ≡ name → NoFault files → CountsMiss (Ok o) files.misses_before files.misses_after → IfSome files.told (λ held. o ≡ held_bytes held asked)
-    → Gives (next_reading before round name slice) gives × Knows q (with_reading before (next_reading before round name slice))
-    → Comes files (λ t. Reads t round name) before q (Ok gives)
-reads_some files round name asked slice text None gives before q e es ea sound misses held t = cc
-reads_some files round name asked slice text (Some x) gives before q e es ea sound misses held t =
-    (sound, misses, (with_reading before (next_reading before round name slice), (slice, held_so files.told name (Some slice) there, refl, t.0), t.1))
+    → Gives (next_reading before round within name slice) gives × Knows q (with_reading before (next_reading before round within name slice))
+    → Comes files (λ t. Reads t round within name) before q (Ok gives)
+reads_some files round within name asked slice text None gives before q e es ea sound misses held t = cc
+reads_some files round within name asked slice text (Some x) gives before q e es ea sound misses held t =
+    (sound, misses, (with_reading before (next_reading before round within name slice), (slice, held_so files.told name (Some slice) there, refl, t.0), t.1))
   where
     there : IfSome files.told (λ h. Some slice ≡ held_bytes h name)
     there =
@@ -119,18 +161,18 @@ reads_some files round name asked slice text (Some x) gives before q e es ea sou
         (subst (λ (a : List ℕ). IfSome files.told (λ h. Some x ≡ held_bytes h a)) ea held)
 
 -- there is no such file
-pub reads_none : (files : FilesRun) (round : List (List ℕ)) (name asked copied : List ℕ) (o : Option (List ℕ)) (before : Walked) (q : Progress)
+pub reads_none : (files : FilesRun) (round : List (List ℕ)) (within : Inside) (name asked copied : List ℕ) (o : Option (List ℕ)) (before : Walked) (q : Progress)
     → o ≡ None → asked ≡ name → copied ≡ name → NoFault files → CountsMiss (Ok o) files.misses_before files.misses_after → IfSome files.told (λ held. o ≡ held_bytes held asked)
-    → Comes files (λ t. Reads t round name) before q (Err (halt.NoFile copied))
-reads_none files round name asked copied None before q e ea ec sound missed held =
+    → Comes files (λ t. Reads t round within name) before q (Err (halt.NoFile copied))
+reads_none files round within name asked copied None before q e ea ec sound missed held =
     (sound, missed, (ec, held_so files.told name None (subst (λ (a : List ℕ). IfSome files.told (λ h. None ≡ held_bytes h a)) ea held)))
-reads_none files round name asked copied (Some x) before q e ea ec sound missed held = cc
+reads_none files round within name asked copied (Some x) before q e ea ec sound missed held = cc
 
 -- the read failed
-pub reads_failed : (files : FilesRun) (round : List (List ℕ)) (name copied : List ℕ) (e : ReadRefusal) (before : Walked) (q : Progress)
+pub reads_failed : (files : FilesRun) (round : List (List ℕ)) (within : Inside) (name copied : List ℕ) (e : ReadRefusal) (before : Walked) (q : Progress)
     → e ≡ Failed → copied ≡ name → CountsFault (Err e) files.faults_before files.faults_after → CountsMiss (Err e) files.misses_before files.misses_after
-    → Comes files (λ t. Reads t round name) before q (Err (halt.ReadFault copied))
-reads_failed files round name copied e before q is ec fault found =
+    → Comes files (λ t. Reads t round within name) before q (Err (halt.ReadFault copied))
+reads_failed files round within name copied e before q is ec fault found =
     (subst (λ (x : ReadRefusal). CountsFault (Err x) files.faults_before files.faults_after) is fault, found, ec)
 
 -- the way out of a `?`
@@ -217,38 +259,38 @@ module _ {F : Type 0} (told : F → Told) (faults misses : F → ℕ) where
       (c.0, c.1, (c.2.0, subst (λ (l : List S). WalksFiles (told old) (map name l) before (Went c.2.0 ys)) (take_all i names le) c.2.1, c.2.2))
 
   -- a file, behind its own read
-  pub file_stops_later : (old mid new : F) (inclusion : Told → List (List ℕ) → Include → Walk (List Member)) (round inner : List (List ℕ)) (name : List ℕ)
-      (own : List Member) (includes : List Include) (before : Walked) (p q r : Progress) (h : Halt)
-      → inner ≡ name ∷ round → includes ≡ includes_in own → told mid ≡ told old
-      → Comes (run old mid) (λ t. Reads t round name) before p (Ok own)
+  pub file_stops_later : (old mid new : F) (inclusion : Told → List (List ℕ) → Inclusion → Walk Members) (round inner : List (List ℕ)) (within : Inside) (name : List ℕ)
+      (own : Members) (includes : List Inclusion) (before : Walked) (p q r : Progress) (h : Halt)
+      → inner ≡ name ∷ round → includes ≡ inclusions_in own → told mid ≡ told old
+      → Comes (run old mid) (λ t. Reads t round within name) before p (Ok own)
       → ((b : Walked) → Knows p b → Comes (run mid new) (λ t. Each (inclusion t inner) includes) b q (Err h))
-      → Comes (run old new) (λ t. WalksFile t (inclusion t) round name) before r (Err h)
-  file_stops_later old mid new inclusion round inner name own includes before p q r h ei el e c next =
-      stops_later old mid new (λ t. Each (inclusion t inner) includes) (λ t. WalksFile t (inclusion t) round name) before c.2.0 q r h e c.0 c.1
+      → Comes (run old new) (λ t. WalksFile t (inclusion t) round within name) before r (Err h)
+  file_stops_later old mid new inclusion round inner within name own includes before p q r h ei el e c next =
+      stops_later old mid new (λ t. Each (inclusion t inner) includes) (λ t. WalksFile t (inclusion t) round within name) before c.2.0 q r h e c.0 c.1
       (λ s k. inr (
         c.2.0,
         own,
         c.2.1,
-        subst (λ (w : List (List ℕ)). Each (inclusion (told old) w) (includes_in own) c.2.0 (Stops s)) ei
-            (subst (λ (l : List Include). Each (inclusion (told old) inner) l c.2.0 (Stops s)) el k),
+        subst (λ (w : List (List ℕ)). Each (inclusion (told old) w) (inclusions_in own) c.2.0 (Stops s)) ei
+            (subst (λ (l : List Inclusion). Each (inclusion (told old) inner) l c.2.0 (Stops s)) el k),
       ))
       (next c.2.0 c.2.2)
 
-  pub file_goes : (old mid new : F) (inclusion : Told → List (List ℕ) → Include → Walk (List Member)) (round inner : List (List ℕ)) (name : List ℕ)
-      (own : List Member) (includes : List Include) (parts : List (List Member)) (out : List Member) (before : Walked) (p q : Progress)
-      → inner ≡ name ∷ round → includes ≡ includes_in own → out ≡ replaced own parts → told mid ≡ told old
-      → Comes (run old mid) (λ t. Reads t round name) before p (Ok own)
-      → ((b : Walked) → Knows p b → Comes (run mid new) (λ t. Each (inclusion t inner) includes) b q (Ok parts))
-      → Comes (run old new) (λ t. WalksFile t (inclusion t) round name) before q (Ok out)
-  file_goes old mid new inclusion round inner name own includes parts out before p q ei el eo e c next =
-      goes_later old mid new (λ t. Each (inclusion t inner) includes) (λ t. WalksFile t (inclusion t) round name) before c.2.0 q parts out e c.0 c.1
+  pub file_goes : (old mid new : F) (inclusion : Told → List (List ℕ) → Inclusion → Walk Members) (round inner : List (List ℕ)) (within : Inside) (name : List ℕ)
+      (own : Members) (includes : List Inclusion) (inserts : List Members) (out : Members) (before : Walked) (p q : Progress)
+      → inner ≡ name ∷ round → includes ≡ inclusions_in own → out ≡ replaced own inserts → told mid ≡ told old
+      → Comes (run old mid) (λ t. Reads t round within name) before p (Ok own)
+      → ((b : Walked) → Knows p b → Comes (run mid new) (λ t. Each (inclusion t inner) includes) b q (Ok inserts))
+      → Comes (run old new) (λ t. WalksFile t (inclusion t) round within name) before q (Ok out)
+  file_goes old mid new inclusion round inner within name own includes inserts out before p q ei el eo e c next =
+      goes_later old mid new (λ t. Each (inclusion t inner) includes) (λ t. WalksFile t (inclusion t) round within name) before c.2.0 q inserts out e c.0 c.1
       (λ after k. (
         c.2.0,
         own,
-        parts,
+        inserts,
         c.2.1,
-        subst (λ (w : List (List ℕ)). Each (inclusion (told old) w) (includes_in own) c.2.0 (Went after parts)) ei
-            (subst (λ (l : List Include). Each (inclusion (told old) inner) l c.2.0 (Went after parts)) el k),
+        subst (λ (w : List (List ℕ)). Each (inclusion (told old) w) (inclusions_in own) c.2.0 (Went after inserts)) ei
+            (subst (λ (l : List Inclusion). Each (inclusion (told old) inner) l c.2.0 (Went after inserts)) el k),
         eo,
       ))
       (next c.2.0 c.2.2)

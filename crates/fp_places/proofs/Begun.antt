@@ -17,7 +17,8 @@ use Rattle.fp_sites.proofs.Known.{Known, Belonging}
 use Rattle.fp_places.specs.Places.{places_of_model}
 use Rattle.fp_places.proofs.Tokens.{Begins, name_yields}
 use Rattle.fp_places.proofs.Expressions.{StandIn, expression_yields}
-use Rattle.fp_places.proofs.Components.{component_yields, interface_yields, machine_yields}
+use Rattle.fp_places.proofs.Components.{component_yields, interface_yields}
+use Rattle.fp_places.proofs.Machines.{machine_yields}
 use Rattle.fp_places.proofs.Definitions.{StandInType, StandNoted, StandOf, type_placed, type_yields, definition_placed, definition_yields}
 
 -- nothing is said of names

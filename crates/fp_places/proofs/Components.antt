@@ -1,5 +1,5 @@
--- The places of machines, and of what belongs to components and interfaces, are such where tokens begin.
-use Rattle.std.proofs.Common.{ℕ, List, [], ◌∷◌, ◌++◌, flat_map, Option, Some, None}
+-- The places of what belongs to components and interfaces are such where tokens begin.
+use Rattle.std.proofs.Common.{ℕ, List, [], ◌∷◌, ◌++◌, Option, Some, None}
 use Rattle.std.specs.List.{AllByRecursion as Each}
 use Rattle.fp_base.specs.declared.place.Place.{Place}
 use Rattle.fp_base.specs.declared.place.Span.{Span}
@@ -18,7 +18,6 @@ use Rattle.fp_tree.specs.declared.dictionary.Update.{Update}
 use Rattle.fp_tree.specs.declared.dictionary.Color.{Color}
 use Rattle.fp_tree.specs.declared.dictionary.Limit.{Limit}
 use Rattle.fp_tree.specs.declared.dictionary.Limits.{Limits}
-use Rattle.fp_tree.specs.declared.machine.Behavior.{Behavior}
 use Rattle.fp_tree.specs.declared.machine.Machine.{Machine}
 use Rattle.fp_tree.specs.declared.component.Component.{Component}
 use Rattle.fp_tree.specs.declared.component.ComponentKind.{ComponentKind}
@@ -28,12 +27,12 @@ use Rattle.fp_tree.specs.declared.component.GeneralKind.{GeneralKind}
 use Rattle.fp_tree.specs.declared.component.Special.{Special}
 use Rattle.fp_tree.specs.declared.component.SpecialKind.{SpecialKind}
 use Rattle.fp_tree.specs.declared.component.Import.{Import}
+use Rattle.fp_tree.specs.declared.member.Include.{Include}
 use Rattle.fp_tree.specs.declared.component.Part.{Part}
 use Rattle.fp_tree.specs.declared.component.Part.TheVariants as part
 use Rattle.fp_tree.specs.declared.component.Interface.{Interface}
 use Rattle.fp_tree.specs.declared.component.InterfacePart.{InterfacePart}
-use Rattle.fp_tree.specs.declared.component.InterfacePart.TheVariants as inner
-use Rattle.fp_meaning.specs.Sites.{in_optional, component as component_def, interface as interface_def, machine as machine_def}
+use Rattle.fp_meaning.specs.Sites.{in_optional, component as component_def, interface as interface_def}
 use Rattle.fp_grammar.specs.Grammar.{Grammar, after}
 use Rattle.fp_grammar.specs.Grammar.Grammar.{map, one_of, optional, seq}
 use Rattle.fp_parse_pieces.specs.Kinds.{k_close_bracket, k_open, k_open_brace, k_open_bracket}
@@ -41,14 +40,12 @@ use Rattle.fp_parse_pieces.specs.Words.{at}
 use Rattle.fp_parse_pieces.specs.Lists.{commas, or_none}
 use Rattle.fp_parse_defs.specs.Language.{expression}
 use Rattle.fp_parse_defs.specs.Definitions.{k_colon, k_default, k_format, format_part, size_part, made_formal, formal, with_formal, formal_list}
-use Rattle.fp_parse_defs.specs.Specifiers.{k_import, made_import, imported}
+use Rattle.fp_parse_defs.specs.Specifiers.{k_import, made_import, imported, k_include, made_include, included}
 use Rattle.fp_parse_components.specs.declared.queue.QueueWords.{QueueWords}
 use Rattle.fp_parse_components.specs.declared.queue.FormalList.{FormalList}
 use Rattle.fp_parse_components.specs.declared.noting.NotedPart.{NotedPart}
 use Rattle.fp_parse_components.specs.declared.noting.NotedInterfacePart.{NotedInterfacePart}
-use Rattle.fp_parse_states.specs.Elements.{k_state}
-use Rattle.fp_parse_states.specs.Nested.{machine, made_machine}
-use Rattle.fp_parse_components.specs.Kinds.{k_word, color_word, command_kind, component_kind, full_word, general_kind, input_kind, input_word, output_word, sending_word, special_kind}
+use Rattle.fp_parse_components.specs.Kinds.{k_word, full_word, general_kind, input_kind, special_kind}
 use Rattle.fp_parse_components.specs.Ports.{made_queue_words, queue_words, made_formals, maybe_formals, made_general, general, made_special, special, made_internal, internal, made_match, matching, made_running, running}
 use Rattle.fp_parse_components.specs.Dictionary.{made_command, command, made_event, event, made_limit, limit_with_note, made_limits, limits, limits_part, made_channel, channel, opcode_part, made_param, param}
 use Rattle.fp_parse_components.specs.Noted.{noted_part, noted_parts, bare_part, part_with_note, with_its_note, noted_interface_part, noted_interface_parts, bare_interface_part, interface_part_with_note, with_inner_note}
@@ -58,7 +55,7 @@ use Rattle.fp_base.proofs.Lists.{InOption, each_append, each_flat, each_mapped, 
 use Rattle.fp_sites.proofs.Preserving.{gives_anything, gives_less, gives_map, gives_seq, gives_alt, gives_optional, gives_seal, gives_after, gives_before}
 use Rattle.fp_sites.proofs.Lists.{each_or_none, gives_any_noted, gives_some_of}
 use Rattle.fp_places.specs.Places.{places_in_expression, places_in_format, places_in_formal, places_in_formals, places_in_general, places_in_interface_part, places_in_limit, places_in_limits, places_in_part, places_in_special, places_in_type, places_in_value, places_of_model, places_of_word}
-use Rattle.fp_places.proofs.Tokens.{Yields, one_of_yields, at_yields, name_yields, string_yields, qual_yields, optional_stands}
+use Rattle.fp_places.proofs.Tokens.{Yields, one_of_yields, at_yields, name_yields, string_yields, optional_stands}
 use Rattle.fp_places.proofs.Expressions.{StandIn, expression_yields}
 use Rattle.fp_places.proofs.Definitions.{StandInType, type_yields}
 
@@ -165,7 +162,7 @@ module _ (G : Place → Type 0) (depth : ℕ) where
   special_yields = gives_map SpecialStands made_special special_stands (gives_seq special_kind_yields (gives_after (k_word "port") (name_yields G)))
 
   -- of a part of a component, in any annotation
-  abbrev PartStands : Part → Type 0
+  abbrev pub PartStands : Part → Type 0
   PartStands p = Each G (places_in_part p)
 
   abbrev PartNoted : Part → Type 0
@@ -298,9 +295,12 @@ module _ (G : Place → Type 0) (depth : ℕ) where
   import_yields : Yields G imported (λ (i : Import). G i.at.first)
   import_yields = gives_map (λ (i : Import). G i.at.first) made_import (λ p h. h.0) (gives_seq (at_yields G k_import) gives_anything)
 
+  include_yields : Yields G included (λ (i : Include). G i.at.first)
+  include_yields = gives_map (λ (i : Include). G i.at.first) made_include (λ p h. h.0) (gives_seq (at_yields G k_include) gives_anything)
+
   other_yields : Yields G other_part PartNoted
   other_yields = gives_alt match_yields (gives_alt (gives_map PartNoted made_import_part (λ i h note. (h, tt)) import_yields)
-      (gives_map PartNoted made_include_part (λ i h note. tt) gives_anything))
+      (gives_map PartNoted made_include_part (λ i h note. (h, tt)) include_yields))
 
   part_yields : Yields G (part_of depth) PartNoted
   part_yields = gives_seal {a = part_body depth} part_begins part_goes_on
@@ -311,22 +311,12 @@ module _ (G : Place → Type 0) (depth : ℕ) where
   abbrev BareStands : NotedPart → Type 0
   BareStands p = PartNoted p.bare
 
-  parts_yield : Yields G (parts depth) (Each PartStands)
+  pub parts_yield : Yields G (parts depth) (Each PartStands)
   parts_yield = gives_map (Each PartStands) noted_parts
       (λ ps hs. each_mapped PartStands with_its_note ps (each_weaker BareStands (λ p. PartStands (with_its_note p)) (λ p h. h p.note) ps hs))
       (gives_any_noted BareStands (mark ";") part_with_note (λ p note h. h) (gives_map BareStands bare_part (λ p h. h) part_yields))
 
-  -- ---- machines, components and interfaces
-
-  -- in any annotation
-  abbrev pub MachineStands : Machine → Type 0
-  MachineStands m = (note : List ℕ) → Each G (places_of_model (machine_def (record m { note = note })))
-
-  machine_stands : (p : Span × (Name × Option Behavior)) → G p.0.first × Unit {0} → MachineStands (made_machine p)
-  machine_stands (word, (n, behavior)) h note = (h.0, tt)
-
-  pub machine_yields : Yields G (machine depth) MachineStands
-  machine_yields = gives_map MachineStands made_machine machine_stands (gives_seq (at_yields G k_state) gives_anything)
+  -- ---- components and interfaces
 
   -- in any annotation
   abbrev pub ComponentStands : Component → Type 0

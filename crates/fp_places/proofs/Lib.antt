@@ -1,5 +1,6 @@
 mod Begun
 mod Components
+mod Machines
 pub mod Definitions
 pub mod Expressions
 pub mod Members

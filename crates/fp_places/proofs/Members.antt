@@ -1,5 +1,5 @@
 -- The places of the items of a member of a file, in any scope, are such where tokens begin.
-use Rattle.std.proofs.Common.{◌≡◌, ℕ, zero, suc, List, [], ◌∷◌, ◌++◌, subst, sym, refl}
+use Rattle.std.proofs.Common.{◌≡◌, ℕ, zero, suc, List, [], ◌∷◌, ◌++◌, flat_map, subst, sym, refl}
 use Rattle.std.specs.List.{AllByRecursion as Each, Contains}
 use Rattle.fp_base.specs.declared.place.Place.{Place}
 use Rattle.fp_base.specs.declared.place.Span.{Span}
@@ -7,6 +7,7 @@ use Rattle.fp_lexer.specs.declared.token.Token.{Token}
 use Rattle.fp_tree.specs.declared.name.Name.{Name}
 use Rattle.fp_tree.specs.declared.name.Qual.{Qual}
 use Rattle.fp_tree.specs.declared.name.Str.{Str}
+use Rattle.fp_tree.specs.declared.component.Part.{Part}
 use Rattle.fp_tree.specs.declared.member.Member.{Member}
 use Rattle.fp_tree.specs.declared.member.Module.{Module, out-Module}
 use Rattle.fp_tree.specs.declared.member.Member.TheVariants as node
@@ -24,13 +25,16 @@ use Rattle.fp_parse_parts.specs.declared.bare.BareMember.TheVariants as bare
 use Rattle.fp_parse_parts.specs.declared.bare.ModelMember.{ModelMember}
 use Rattle.fp_parse_parts.specs.Members.{semicolons, definition_begins, definition_goes_on, definition_member, made_include, include, made_locate, locate, model_member, noted_definition, noted_member, with_member, member_of, members_of, made_module, module_of, modules, members}
 use Rattle.fp_parse_parts.specs.Omitted.{unbuilt}
-use Rattle.fp_parse_parts.specs.Units.{SpellsUnit}
+use Rattle.fp_parse_parts.specs.Files.{SpellsFile}
+use Rattle.fp_parse_parts.specs.Units.{SpellsUnit, component_parts}
 use Rattle.fp_base.proofs.Lists.{each_contained, each_flat, each_push, each_weaker, of_contained}
-use Rattle.fp_sites.specs.Sites.{BeginsToken}
+use Rattle.fp_sites.specs.Sites.{BeginsToken, in_parts}
+use Rattle.fp_sites.proofs.Components.{parts_given}
 use Rattle.fp_sites.proofs.Preserving.{LanguageGives, gives_anything, gives_map, gives_seq, gives_alt, gives_optional, gives_ref, gives_seal, gives_after}
 use Rattle.fp_sites.proofs.Lists.{each_or_none, gives_some_of}
 use Rattle.fp_sites.proofs.Models.{ModelSaid, models_yield}
-use Rattle.fp_places.specs.Places.{places_of}
+use Rattle.fp_places.specs.Places.{places_in_part, places_of}
+use Rattle.fp_places.proofs.Components.{parts_yield}
 use Rattle.fp_places.proofs.Tokens.{Begins, Yields}
 use Rattle.fp_places.proofs.Begun.{begun}
 use Rattle.fp_places.proofs.Definitions.{StandOf, definition_placed, definition_yields}
@@ -119,3 +123,17 @@ placing tokens ms scope i place spelled there among =
     let all = (all_yield (BeginsToken tokens) limit unbuilt limit).given tokens ms spelled (all_begin tokens) in
     of_contained (BeginsToken tokens) (places_of i) place
     (of_contained (StandOf (BeginsToken tokens)) (in_members scope ms) i (all_placed (BeginsToken tokens) limit ms all scope) there) among
+
+pub placing_own : (tokens : List Token) (ps : List Part) (place : Place) → SpellsFile component_parts tokens ps → Contains (flat_map places_in_part ps) place → BeginsToken tokens place
+placing_own tokens ps place spelled there =
+    of_contained (BeginsToken tokens) (flat_map places_in_part ps) place
+    (each_flat (BeginsToken tokens) places_in_part ps ((parts_yield (BeginsToken tokens) limit).given tokens ps spelled (all_begin tokens))) there
+
+parts_placed : (tokens : List Token) (ps : List Part) → SpellsFile component_parts tokens ps → (scope : Path) → Each (StandOf (BeginsToken tokens)) (in_parts scope ps)
+unfolding begun
+parts_placed tokens ps spelled = ((parts_given (begun (BeginsToken tokens) limit)).given tokens ps spelled (all_begin tokens)).items
+
+pub placing_given : (tokens : List Token) (ps : List Part) (scope : Path) (i : Item) (place : Place)
+    → SpellsFile component_parts tokens ps → Contains (in_parts scope ps) i → Contains (places_of i) place → BeginsToken tokens place
+placing_given tokens ps scope i place spelled there among =
+    of_contained (BeginsToken tokens) (places_of i) place (of_contained (StandOf (BeginsToken tokens)) (in_parts scope ps) i (parts_placed tokens ps spelled scope) there) among

@@ -1,6 +1,7 @@
 -- The places in definitions at which rules of constants, types, formats and components can be broken: of names that are defined, of types, of
--- expressions and of the expressions and members that these are made of, of formats, and of the parts of components and interfaces.
--- FPP Language Specification, "Definitions", "Expressions", "Type Names", "Component Definitions" and "Interface Definitions".
+-- expressions and of the expressions and members that these are made of, of formats, and of the parts of components, interfaces and machines.
+-- FPP Language Specification, "Definitions", "Expressions", "Type Names", "Component Definitions", "Interface Definitions" and "State Machine
+-- Definitions".
 use Rattle.std.specs.Prelude.{List, [], ◌∷◌, ◌++◌, flat_map, Option}
 use Rattle.fp_base.specs.declared.place.Place.{Place}
 use Rattle.fp_base.specs.declared.place.Span.{Span}
@@ -19,6 +20,11 @@ use Rattle.fp_tree.specs.declared.definition.Def.{Def}
 use Rattle.fp_tree.specs.declared.definition.Def.TheVariants as def
 use Rattle.fp_tree.specs.declared.dictionary.Limit.{Limit}
 use Rattle.fp_tree.specs.declared.dictionary.Limits.{Limits}
+use Rattle.fp_tree.specs.declared.machine.ElementForm.{ElementForm}
+use Rattle.fp_tree.specs.declared.machine.ElementForm.TheVariants as element
+use Rattle.fp_tree.specs.declared.machine.BehaviorElement.{BehaviorElement}
+use Rattle.fp_tree.specs.declared.machine.Behavior.{Behavior}
+use Rattle.fp_tree.specs.declared.machine.TypedName.{TypedName}
 use Rattle.fp_tree.specs.declared.component.General.{General}
 use Rattle.fp_tree.specs.declared.component.Special.{Special}
 use Rattle.fp_tree.specs.declared.component.Part.{Part}
@@ -126,18 +132,36 @@ places_in_part (part.Param p) =
 places_in_part (part.Match m) = m.at.first ∷ []
 places_in_part (part.Running r) = r.at.first ∷ r.name.at.first ∷ (places_in_value r.priority ++ places_of_word r.queue_word)
 places_in_part (part.Import i) = i.at.first ∷ []
-places_in_part (part.Include i) = []
+places_in_part (part.Include i) = i.at.first ∷ []
 
 abbrev pub places_in_interface_part : InterfacePart → List Place
 places_in_interface_part (interface_part.General p) = places_in_general p
 places_in_interface_part (interface_part.Special p) = places_in_special p
 places_in_interface_part (interface_part.Import i) = i.at.first ∷ []
 
--- this profile: of instances and topologies no place is needed yet but that of the name, and of a machine its own
+-- ---- what belongs to machines
+
+abbrev pub places_in_typed : TypedName → List Place
+places_in_typed t = in_optional places_in_type t.of
+
+-- of the types of signals, actions and guards
+abbrev pub places_in_element_form : ElementForm → List Place
+places_in_element_form (element.Signal t) = places_in_typed t
+places_in_element_form (element.Action t) = places_in_typed t
+places_in_element_form (element.Guard t) = places_in_typed t
+places_in_element_form _ = []
+
+abbrev pub places_in_element : BehaviorElement → List Place
+places_in_element e = places_in_element_form e.form
+
+abbrev pub places_in_behavior : Behavior → List Place
+places_in_behavior b = flat_map places_in_element b.elements
+
+-- this profile: of instances and topologies no place is needed yet but that of the name; the expressions in them are items of their own
 abbrev pub places_of_model : ModelDef → List Place
 places_of_model (component c) = flat_map places_in_part c.parts
 places_of_model (interface i) = flat_map places_in_interface_part i.parts
-places_of_model (machine m) = m.at.first ∷ []
+places_of_model (machine m) = m.at.first ∷ in_optional places_in_behavior m.behavior
 places_of_model (instance i) = []
 places_of_model (topology t) = []
 

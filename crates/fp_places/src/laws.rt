@@ -1,16 +1,25 @@
-ghost use Rattle.std.specs.Prelude.{List, Contains};
+ghost use Rattle.std.specs.Prelude.{List, Contains, flat_map};
 ghost use Rattle.fp_base.specs.declared.place.Place.{Place};
 ghost use Rattle.fp_lexer.specs.declared.token.Token.{Token};
+ghost use Rattle.fp_tree.specs.declared.component.Part.{Part};
 ghost use Rattle.fp_tree.specs.declared.member.Member.{Member};
 ghost use Rattle.fp_meaning.specs.Layout.{in_members};
 ghost use Rattle.fp_meaning.specs.Sites.{Path};
 ghost use Rattle.fp_meaning.specs.declared.item.Item.{Item};
-ghost use Rattle.fp_parse_parts.specs.Units.{SpellsUnit};
-ghost use Rattle.fp_sites.specs.Sites.{BeginsToken};
-ghost use Rattle.fp_places.specs.Places.{places_of};
+ghost use Rattle.fp_parse_parts.specs.Files.{SpellsFile};
+ghost use Rattle.fp_parse_parts.specs.Units.{SpellsUnit, component_parts};
+ghost use Rattle.fp_sites.specs.Sites.{BeginsToken, in_parts};
+ghost use Rattle.fp_places.specs.Places.{places_in_part, places_of};
 
 /// Where the tokens of a file spell members, each place in these of a name that is defined, of a type, of an expression and of what it is
-/// made of, and of a format is one where one of the tokens begins.
+/// made of, of a format, and of a part of a component or an interface is one where one of the tokens begins.
 pub fn places_begin_tokens()
     ensures { (tokens : List Token) (ms : List Member) (scope : Path) (i : Item) (place : Place) → SpellsUnit tokens ms → Contains (in_members scope ms) i → Contains (places_of i) place → BeginsToken tokens place }
+{}
+
+/// Where the tokens of a file spell parts of a component, each such place of these, and of what they give in its scope, is one where one of
+/// the tokens begins.
+pub fn part_places_begin_tokens()
+    ensures own { (tokens : List Token) (ps : List Part) (place : Place) → SpellsFile component_parts tokens ps → Contains (flat_map places_in_part ps) place → BeginsToken tokens place }
+    ensures given { (tokens : List Token) (ps : List Part) (scope : Path) (i : Item) (place : Place) → SpellsFile component_parts tokens ps → Contains (in_parts scope ps) i → Contains (places_of i) place → BeginsToken tokens place }
 {}

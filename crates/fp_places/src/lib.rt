@@ -1,6 +1,6 @@
-//! That each place at which a rule of constants, types or formats can be broken is one where a token of its file begins.
+//! That each place at which a rule of constants, types, formats or components can be broken is one where a token of its file begins.
 #![tactic(auto)]
 
 mod laws;
 
-pub use laws::places_begin_tokens;
+pub use laws::{part_places_begin_tokens, places_begin_tokens};

@@ -47,6 +47,7 @@ use Rattle.fp_parse_components.specs.Components.{made_component, component, made
 use Rattle.fp_meaning.specs.Names.{in_optional}
 use Rattle.fp_base.proofs.Lists.{InOption, each_append, each_flat, each_mapped, each_push, each_weaker}
 use Rattle.fp_sites.specs.Parts.{names_in_definition, names_in_expression, names_in_formal}
+use Rattle.fp_sites.specs.Sites.{in_parts}
 use Rattle.fp_sites.specs.Components.{names_in_general, names_in_limits, names_in_part, names_in_component, names_in_interface_part, names_in_interface}
 use Rattle.fp_sites.proofs.Preserving.{LanguageGives, gives_anything, gives_both, gives_less, gives_map, gives_seq, gives_alt, gives_optional, gives_seal, gives_after, gives_before}
 use Rattle.fp_sites.proofs.Lists.{each_or_none, gives_any_noted, gives_some_of}
@@ -262,13 +263,23 @@ module _ {depth : ℕ} (law : Known depth) where
   inner_said : (scope : Path) (ps : List Part) → Each PartSaid ps → Each law.OfItem (flat_map (inner_items scope) ps)
   inner_said scope ps hs = each_flat law.OfItem (inner_items scope) ps (each_weaker PartSaid (λ p. Each law.OfItem (inner_items scope p)) (λ p h. h.inner scope) ps hs)
 
+  -- what is said of parts, in their component's scope
+  abbrev pub PartsGiven : List Part → Type 0
+  PartsGiven ps = Says law (λ scope. in_parts scope ps) (flat_map names_in_part ps)
+
+  parts_held : (ps : List Part) → Each PartSaid ps → PartsGiven ps
+  parts_held ps hs = record {
+    items = λ scope. each_append law.OfItem _ _ (own_said scope ps hs) (inner_said scope ps hs);
+    names = each_flat law.OfName names_in_part ps (each_weaker PartSaid (λ p. Each law.OfName (names_in_part p)) (λ p h. h.own.names) ps hs);
+  }
+
+  pub parts_given : Yields law (parts depth) PartsGiven
+  parts_given = gives_less PartsGiven parts_held parts_yield
+
   -- behind a component's name
   parts_said : (text : List ℕ) (ps : List Part) → Each PartSaid ps
       → Says law (λ scope. flat_map (own_items (scope ++ text ∷ [])) ps ++ flat_map (inner_items (scope ++ text ∷ [])) ps) (flat_map names_in_part ps)
-  parts_said text ps hs = record {
-    items = λ scope. each_append law.OfItem _ _ (own_said (scope ++ text ∷ []) ps hs) (inner_said (scope ++ text ∷ []) ps hs);
-    names = each_flat law.OfName names_in_part ps (each_weaker PartSaid (λ p. Each law.OfName (names_in_part p)) (λ p h. h.own.names) ps hs);
-  }
+  parts_said text ps hs = record { items = λ scope. (parts_held ps hs).items (scope ++ text ∷ []); names = (parts_held ps hs).names }
 
   -- in any annotation
   abbrev pub ComponentSaid : Component → Type 0

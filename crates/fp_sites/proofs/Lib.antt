@@ -10,7 +10,7 @@ pub mod Held
 pub mod Known
 mod Machines
 mod Topologies
-mod Components
+pub mod Components
 pub mod Models
 mod Telling
 mod Members

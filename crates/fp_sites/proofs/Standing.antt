@@ -1,17 +1,24 @@
--- The law from what the grammar of files yields: such a place is one where one of the file's tokens begins.
-use Rattle.std.proofs.Common.{List, refl}
+-- The laws from what the grammars of files yield: such a place is one where one of the file's tokens begins.
+use Rattle.std.proofs.Common.{List, flat_map, refl}
 use Rattle.std.specs.List.{AllByRecursion as Each}
-use Rattle.fp_base.proofs.Lists.{each_contained, of_contained}
+use Rattle.fp_base.proofs.Lists.{each_contained, each_flat, each_weaker, of_contained}
 use Rattle.fp_lexer.specs.declared.token.Token.{Token}
 use Rattle.fp_tree.specs.declared.name.Name.{Name}
+use Rattle.fp_tree.specs.declared.component.Part.{Part}
 use Rattle.fp_tree.specs.declared.member.Member.{Member}
 use Rattle.fp_tree.specs.declared.member.Include.{Include}
 use Rattle.fp_meaning.specs.declared.names.Definition.{Definition}
 use Rattle.fp_meaning.specs.declared.names.Mention.{Mention}
 use Rattle.fp_parse_defs.specs.Reading.{limit}
 use Rattle.fp_parse_parts.specs.Omitted.{unbuilt}
-use Rattle.fp_parse_parts.specs.Units.{SpellsUnit}
-use Rattle.fp_sites.specs.Sites.{BeginsToken, StandAtTokens}
+use Rattle.fp_meaning.specs.Names.{definitions_of, uses_of}
+use Rattle.fp_meaning.specs.Sites.{Path}
+use Rattle.fp_parse_parts.specs.Files.{SpellsFile}
+use Rattle.fp_parse_parts.specs.Units.{SpellsUnit, component_parts}
+use Rattle.fp_sites.specs.Sites.{BeginsToken, PartsStandAtTokens, StandAtTokens, in_parts}
+use Rattle.fp_sites.proofs.Components.{parts_given}
+use Rattle.fp_sites.proofs.Definitions.{SitedItem}
+use Rattle.fp_sites.proofs.Telling.{told}
 use Rattle.fp_sites.proofs.Words.{IsTold}
 use Rattle.fp_sites.proofs.Members.{definitions_of_all, uses_of_all, includes_of_all, all_yield}
 
@@ -31,3 +38,17 @@ standing tokens ms spelled =
       mentions = λ scope m there. of_contained (λ (x : Mention). BeginsToken tokens x.place) _ m (uses_of_all (BeginsToken tokens) Any limit limit ms all scope) there;
       includes = λ i there. of_contained (λ (x : Include). BeginsToken tokens x.at.first) _ i (includes_of_all (BeginsToken tokens) Any limit limit ms all) there;
     }
+
+parts_told : (tokens : List Token) (ps : List Part) → SpellsFile component_parts tokens ps → (scope : Path) → Each (SitedItem (BeginsToken tokens) Any limit) (in_parts scope ps)
+unfolding told
+parts_told tokens ps spelled = ((parts_given (told (BeginsToken tokens) Any limit)).given tokens ps spelled (all_begin tokens)).items
+
+pub parts_standing : (tokens : List Token) (ps : List Part) → SpellsFile component_parts tokens ps → PartsStandAtTokens tokens ps
+parts_standing tokens ps spelled = record {
+  definitions = λ scope d there. of_contained (λ (x : Definition). BeginsToken tokens x.place) (flat_map definitions_of (in_parts scope ps)) d
+      (each_flat (λ (x : Definition). BeginsToken tokens x.place) definitions_of (in_parts scope ps)
+      (each_weaker (SitedItem (BeginsToken tokens) Any limit) (λ i. Each (λ (x : Definition). BeginsToken tokens x.place) (definitions_of i)) (λ i h. h.defines) (in_parts scope ps) (parts_told tokens ps spelled scope))) there;
+  mentions = λ scope m there. of_contained (λ (x : Mention). BeginsToken tokens x.place) (flat_map uses_of (in_parts scope ps)) m
+      (each_flat (λ (x : Mention). BeginsToken tokens x.place) uses_of (in_parts scope ps)
+      (each_weaker (SitedItem (BeginsToken tokens) Any limit) (λ i. Each (λ (x : Mention). BeginsToken tokens x.place) (uses_of i)) (λ i h. h.uses) (in_parts scope ps) (parts_told tokens ps spelled scope))) there;
+}

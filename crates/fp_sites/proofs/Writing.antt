@@ -1,5 +1,5 @@
 -- Each name in a tree is written: from the pieces of a text to its tokens, and from these to what the grammar of files yields.
-use Rattle.std.proofs.Common.{◌≡◌, ℕ, List, [], ◌∷◌, Bool, true, false, cond, drop, length, Option, Some, None, refl, sym, ap, ◌∙◌, subst, inl, inr}
+use Rattle.std.proofs.Common.{◌≡◌, ℕ, List, [], ◌∷◌, Bool, true, false, cond, drop, flat_map, length, Option, Some, None, refl, sym, ap, ◌∙◌, subst, inl, inr}
 use Rattle.std.specs.Prelude.{◌||◌}
 use Rattle.std.specs.List.{AllByRecursion as Each}
 use Rattle.fp_base.proofs.Lists.{of_contained, each_weaker}
@@ -10,11 +10,16 @@ use Rattle.fp_lexer.specs.declared.token.Token.{Token}
 use Rattle.fp_lexer.specs.Bytes.{indent_at}
 use Rattle.fp_lexer.specs.Newlines.{Ground, ignores, ignored, after, after_newline, is_newline, ignored_by_rest, kept}
 use Rattle.fp_lexer.specs.Tokens.{Spells, Spelled, Lexeme, Cuts, Lexed, tokens_of, with_token, span_at, IsLexeme}
+use Rattle.fp_tree.specs.declared.component.Part.{Part}
 use Rattle.fp_tree.specs.declared.member.Member.{Member}
 use Rattle.fp_parse_defs.specs.Reading.{limit}
 use Rattle.fp_parse_parts.specs.Omitted.{unbuilt}
-use Rattle.fp_parse_parts.specs.Units.{SpellsUnit}
-use Rattle.fp_sites.specs.Written.{IsWritten, NamesAreWritten}
+use Rattle.fp_parse_parts.specs.Files.{SpellsFile}
+use Rattle.fp_parse_parts.specs.Units.{SpellsUnit, component_parts}
+use Rattle.fp_sites.specs.Components.{names_in_part}
+use Rattle.fp_sites.specs.Written.{IsWritten, NamesAreWritten, PartNamesAreWritten}
+use Rattle.fp_sites.proofs.Components.{parts_given}
+use Rattle.fp_sites.proofs.Telling.{told}
 use Rattle.fp_sites.proofs.Words.{IsTold}
 use Rattle.fp_sites.proofs.Members.{names_of_all, all_yield}
 
@@ -63,9 +68,21 @@ all_written file text from to (p ∷ ps) c = with_written file text p p.what _ r
 abbrev Anywhere : Place → Type 0
 Anywhere place = Unit {0}
 
-pub written : (file : ℕ) (text : List ℕ) (tokens : List Token) (ms : List Member) → Lexed file text tokens → SpellsUnit tokens ms → NamesAreWritten file text ms
-written file text tokens ms (ps, c, e) spelled name there =
+told_tokens : (file : ℕ) (text : List ℕ) (tokens : List Token) → Lexed file text tokens → Each (IsTold Anywhere (IsWritten file text)) tokens
+told_tokens file text tokens (ps, c, e) =
     let has = subst (Each (HasName file text)) (sym e) (kept_each (HasName file text) ignored _ (all_written file text 0 (length text) ps c)) in
-    let told = each_weaker (HasName file text) (IsTold Anywhere (IsWritten file text)) (λ t h. record { begins = tt; named = h }) tokens has in
-    let all = (all_yield Anywhere (IsWritten file text) limit unbuilt limit).given tokens ms spelled told in
+    each_weaker (HasName file text) (IsTold Anywhere (IsWritten file text)) (λ t h. record { begins = tt; named = h }) tokens has
+
+pub written : (file : ℕ) (text : List ℕ) (tokens : List Token) (ms : List Member) → Lexed file text tokens → SpellsUnit tokens ms → NamesAreWritten file text ms
+written file text tokens ms lexed spelled name there =
+    let all = (all_yield Anywhere (IsWritten file text) limit unbuilt limit).given tokens ms spelled (told_tokens file text tokens lexed) in
     of_contained (IsWritten file text) _ name (names_of_all Anywhere (IsWritten file text) limit limit ms all) there
+
+part_names : (file : ℕ) (text : List ℕ) (tokens : List Token) (ps : List Part) → Lexed file text tokens → SpellsFile component_parts tokens ps → Each (IsWritten file text) (flat_map names_in_part ps)
+unfolding told
+part_names file text tokens ps lexed spelled =
+    ((parts_given (told Anywhere (IsWritten file text) limit)).given tokens ps spelled (told_tokens file text tokens lexed)).names
+
+pub parts_written : (file : ℕ) (text : List ℕ) (tokens : List Token) (ps : List Part) → Lexed file text tokens → SpellsFile component_parts tokens ps → PartNamesAreWritten file text ps
+parts_written file text tokens ps lexed spelled name there =
+    of_contained (IsWritten file text) (flat_map names_in_part ps) name (part_names file text tokens ps lexed spelled) there

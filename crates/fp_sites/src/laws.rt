@@ -1,10 +1,12 @@
 ghost use Rattle.std.specs.Prelude.{ℕ, List};
 ghost use Rattle.fp_lexer.specs.Tokens.{Lexed};
 ghost use Rattle.fp_lexer.specs.declared.token.Token.{Token};
+ghost use Rattle.fp_tree.specs.declared.component.Part.{Part};
 ghost use Rattle.fp_tree.specs.declared.member.Member.{Member};
-ghost use Rattle.fp_parse_parts.specs.Units.{SpellsUnit};
-ghost use Rattle.fp_sites.specs.Sites.{StandAtTokens};
-ghost use Rattle.fp_sites.specs.Written.{NamesAreWritten};
+ghost use Rattle.fp_parse_parts.specs.Files.{SpellsFile};
+ghost use Rattle.fp_parse_parts.specs.Units.{SpellsUnit, component_parts};
+ghost use Rattle.fp_sites.specs.Sites.{PartsStandAtTokens, StandAtTokens};
+ghost use Rattle.fp_sites.specs.Written.{NamesAreWritten, PartNamesAreWritten};
 ghost use Rattle.fp_sites.specs.Nesting.{KeepsLimit};
 
 /// Where the tokens of a file spell members, each definition, use and include in these stands where one of the tokens begins.
@@ -16,6 +18,17 @@ pub fn stand_at_tokens()
 /// word, or stands behind a `$`.
 pub fn names_are_written()
     ensures { (file : ℕ) (text : List ℕ) (tokens : List Token) (ms : List Member) → Lexed file text tokens → SpellsUnit tokens ms → NamesAreWritten file text ms }
+{}
+
+/// Where the tokens of a file spell parts of a component, each definition and use in these stands where one of the tokens begins.
+pub fn parts_stand_at_tokens()
+    ensures { (tokens : List Token) (ps : List Part) → SpellsFile component_parts tokens ps → PartsStandAtTokens tokens ps }
+{}
+
+/// Where the tokens of a text spell parts of a component, each name in these is a name of the language that the text has at its place, and
+/// no reserved word, or stands behind a `$`.
+pub fn part_names_are_written()
+    ensures { (file : ℕ) (text : List ℕ) (tokens : List Token) (ps : List Part) → Lexed file text tokens → SpellsFile component_parts tokens ps → PartNamesAreWritten file text ps }
 {}
 
 /// Where the tokens of a file spell members, no expression in these nests deeper than is allowed, nor do modules.

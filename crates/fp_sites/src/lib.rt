@@ -4,4 +4,7 @@
 
 mod laws;
 
-pub use laws::{names_are_written, nesting_is_limited, stand_at_tokens};
+pub use laws::{
+    names_are_written, nesting_is_limited, part_names_are_written, parts_stand_at_tokens,
+    stand_at_tokens,
+};

@@ -19,7 +19,7 @@ use Rattle.fp_gather.specs.declared.gathering.reading.FileFound.{FileFound}
 pub record IsFound (r : Reading) (found : FileFound) : Type 0 where
   pub tokens : IsLeast (BreaksTokenRule r) found.tokens
   pub grammar : IsLeast (BreaksGrammar r) found.grammar
-  pub gives : Gives r found.members
+  pub gives : Gives r found.given
 
 -- what is left of room for bytes behind so many; none once they are more
 abbrev pub room_left : Option ℕ → ℕ → Option ℕ

@@ -1,11 +1,19 @@
--- The files that includes stand for, and the members that stand in their places. FPP Language Specification, "Include Specifiers".
-use Rattle.std.specs.Prelude.{ℕ, ◌-◌, ◌==◌, not, List, [], ◌∷◌, ◌++◌, length, take, map}
+-- The files that includes stand for, and what stands in their places. FPP Language Specification, "Include Specifiers". An include stands for
+-- members of what it stands in: of a file or a module, or of a component, whose parts these are.
+use Rattle.std.specs.Prelude.{ℕ, ◌-◌, ◌==◌, not, List, [], ◌∷◌, ◌++◌, length, take, map, flat_map}
 use Rattle.std.specs.List.{suffix_len}
+use Rattle.fp_parse_parts.specs.declared.parsing.Inside.TheVariants as inside
+use Rattle.fp_parse_parts.specs.declared.parsing.Members.{Members}
+use Rattle.fp_parse_parts.specs.declared.parsing.Members.TheVariants as given
+use Rattle.fp_tree.specs.declared.component.Component.{Component}
+use Rattle.fp_tree.specs.declared.component.Part.{Part}
+use Rattle.fp_tree.specs.declared.component.Part.TheVariants as part
 use Rattle.fp_tree.specs.declared.member.Include.{Include}
 use Rattle.fp_tree.specs.declared.member.Member.{Member, Member-F, fold-Member}
 use Rattle.fp_tree.specs.declared.member.Member.TheOpen as open_member
 use Rattle.fp_tree.specs.declared.member.Member.TheVariants as member
 use Rattle.fp_tree.specs.declared.member.Module.{Module, Module-F, fold-Module}
+use Rattle.fp_gather.specs.declared.gathering.including.Inclusion.{Inclusion}
 
 -- the directory part of a file's name: through its last `/`
 abbrev pub directory : List ℕ → List ℕ
@@ -20,53 +28,98 @@ nearest_directory (nearest ∷ round) = directory nearest
 abbrev pub included_name : List (List ℕ) → Include → List ℕ
 included_name round i = nearest_directory round ++ i.file.text
 
--- what stands in place of includes, for each the members of the file that it stands for
-abbrev pub Parts : Type 0
-Parts = List (List Member)
+-- ---- includes in what a file gives, in source order
 
--- what stands in place of members, and the parts that are left for the includes behind them
-pub record Placed : Type 0 where
-  pub members : List Member
-  pub left : Parts
+abbrev pub inclusions_in_part : Part → List Inclusion
+inclusions_in_part (part.Include i) = record { inside = inside.Component; include = i } ∷ []
+inclusions_in_part _ = []
+
+abbrev pub inclusions_of_member : Member-F (List Inclusion) (List Inclusion) → List Inclusion
+inclusions_of_member (open_member.Module inner) = inner
+inclusions_of_member (open_member.Component c) = flat_map inclusions_in_part c.parts
+inclusions_of_member (open_member.Include i) = record { inside = inside.Unit; include = i } ∷ []
+inclusions_of_member _ = []
+
+abbrev pub inclusions_of_module : Module-F (List Inclusion) (List Inclusion) → List Inclusion
+inclusions_of_module m = flat_map (λ is. is) m.members
+
+abbrev pub inclusions_within : Member → List Inclusion
+inclusions_within m = fold-Member (List Inclusion) (List Inclusion) inclusions_of_member inclusions_of_module m
+
+-- this profile: an include in a topology isn't read, and stays
+abbrev pub inclusions_in : Members → List Inclusion
+inclusions_in (given.Unit ms) = flat_map inclusions_within ms
+inclusions_in (given.Component ps) = flat_map inclusions_in_part ps
+inclusions_in (given.Topology ms) = []
+
+-- ---- what stands in their places
+
+-- for each include what the file gives that it stands for
+abbrev pub Inserts : Type 0
+Inserts = List Members
+
+-- what stands in place of something, and the inserts that are left for the includes behind it
+pub record Placed (A : Type 0) : Type 0 where
+  pub items : List A
+  pub left : Inserts
 
 -- one after another
-abbrev pub in_turn : List (Parts → Placed) → Parts → Placed
-in_turn [] parts = record { members = []; left = parts }
-in_turn (f ∷ fs) parts =
-    let here = f parts in
+abbrev pub in_turn : {A : Type 0} → List (Inserts → Placed A) → Inserts → Placed A
+in_turn [] inserts = record { items = []; left = inserts }
+in_turn (f ∷ fs) inserts =
+    let here = f inserts in
     let behind = in_turn fs here.left in
-    record { members = here.members ++ behind.members; left = behind.left }
+    record { items = here.items ++ behind.items; left = behind.left }
 
--- in place of an include stands the next part
-abbrev pub next_part : Parts → Placed
-next_part [] = record { members = []; left = [] }
-next_part (part ∷ parts) = record { members = part; left = parts }
+abbrev pub members_of : Members → List Member
+members_of (given.Unit ms) = ms
+members_of _ = []
 
-abbrev pub itself : Member → Parts → Placed
-itself m parts = record { members = m ∷ []; left = parts }
+abbrev pub parts_of : Members → List Part
+parts_of (given.Component ps) = ps
+parts_of _ = []
 
-abbrev pub place_in_member : Member-F (Parts → Placed) (Parts → Placed) → Parts → Placed
-place_in_member (open_member.Module m) parts = m parts
-place_in_member (open_member.Def d) parts = itself (member.Def d) parts
-place_in_member (open_member.Machine m) parts = itself (member.Machine m) parts
-place_in_member (open_member.Component c) parts = itself (member.Component c) parts
-place_in_member (open_member.Interface f) parts = itself (member.Interface f) parts
-place_in_member (open_member.Instance n) parts = itself (member.Instance n) parts
-place_in_member (open_member.Topology t) parts = itself (member.Topology t) parts
-place_in_member (open_member.Include i) parts = next_part parts
-place_in_member (open_member.Locate l) parts = itself (member.Locate l) parts
+-- in place of an include stands the next insert
+abbrev pub next_insert : {A : Type 0} → (Members → List A) → Inserts → Placed A
+next_insert of [] = record { items = []; left = [] }
+next_insert of (insert ∷ inserts) = record { items = of insert; left = inserts }
 
-abbrev pub place_in_module : Module-F (Parts → Placed) (Parts → Placed) → Parts → Placed
-place_in_module m parts =
-    let inner = in_turn m.members parts in
-    record { members = member.Module (record { name = m.name; members = inner.members; at = m.at; note = m.note }) ∷ []; left = inner.left }
+abbrev pub itself : {A : Type 0} → A → Inserts → Placed A
+itself x inserts = record { items = x ∷ []; left = inserts }
 
-abbrev pub placed : Member → Parts → Placed
-placed m = fold-Member (Parts → Placed) (Parts → Placed) place_in_member place_in_module m
+abbrev pub placed_part : Part → Inserts → Placed Part
+placed_part (part.Include i) inserts = next_insert parts_of inserts
+placed_part p inserts = itself p inserts
 
-abbrev pub placed_module : Module → Parts → Placed
-placed_module m = fold-Module (Parts → Placed) (Parts → Placed) place_in_member place_in_module m
+abbrev pub placed_component : Component → Inserts → Placed Member
+placed_component c inserts =
+    let inner = in_turn (map placed_part c.parts) inserts in
+    record { items = member.Component (record { kind = c.kind; name = c.name; parts = inner.items; at = c.at; note = c.note }) ∷ []; left = inner.left }
 
--- the members, with a part in place of each include, also of those in modules
-abbrev pub replaced : List Member → Parts → List Member
-replaced ms parts = (in_turn (map placed ms) parts).members
+abbrev pub place_in_member : Member-F (Inserts → Placed Member) (Inserts → Placed Member) → Inserts → Placed Member
+place_in_member (open_member.Module m) inserts = m inserts
+place_in_member (open_member.Def d) inserts = itself (member.Def d) inserts
+place_in_member (open_member.Machine m) inserts = itself (member.Machine m) inserts
+place_in_member (open_member.Component c) inserts = placed_component c inserts
+place_in_member (open_member.Interface f) inserts = itself (member.Interface f) inserts
+place_in_member (open_member.Instance n) inserts = itself (member.Instance n) inserts
+place_in_member (open_member.Topology t) inserts = itself (member.Topology t) inserts
+place_in_member (open_member.Include i) inserts = next_insert members_of inserts
+place_in_member (open_member.Locate l) inserts = itself (member.Locate l) inserts
+
+abbrev pub place_in_module : Module-F (Inserts → Placed Member) (Inserts → Placed Member) → Inserts → Placed Member
+place_in_module m inserts =
+    let inner = in_turn m.members inserts in
+    record { items = member.Module (record { name = m.name; members = inner.items; at = m.at; note = m.note }) ∷ []; left = inner.left }
+
+abbrev pub placed : Member → Inserts → Placed Member
+placed m = fold-Member (Inserts → Placed Member) (Inserts → Placed Member) place_in_member place_in_module m
+
+abbrev pub placed_module : Module → Inserts → Placed Member
+placed_module m = fold-Module (Inserts → Placed Member) (Inserts → Placed Member) place_in_member place_in_module m
+
+-- what a file gives, with an insert in place of each include, also of those in modules and components
+abbrev pub replaced : Members → Inserts → Members
+replaced (given.Unit ms) inserts = given.Unit (in_turn (map placed ms) inserts).items
+replaced (given.Component ps) inserts = given.Component (in_turn (map placed_part ps) inserts).items
+replaced (given.Topology ms) inserts = given.Topology ms

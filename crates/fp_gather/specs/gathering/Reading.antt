@@ -1,4 +1,4 @@
--- A file that is read: the rules that its text breaks, and the members that it gives.
+-- A file that is read: the rules that its text breaks, and what it gives.
 use Rattle.std.specs.Prelude.{ℕ, ◌≡◌, ◌+◌, ◌<◌, ◌≤◌, ◌⊎◌, List, [], length, None}
 use Rattle.fp_base.specs.Places.{place_at}
 use Rattle.fp_base.specs.declared.refusal.Refusal.{Refusal}
@@ -6,13 +6,18 @@ use Rattle.fp_base.specs.declared.rule.Rule.TheVariants.{TextTooLong}
 use Rattle.fp_lexer.specs.Broken.{BreaksTokens}
 use Rattle.fp_lexer.specs.Tokens.{Lexed}
 use Rattle.fp_lexer.specs.declared.token.Token.{Token}
-use Rattle.fp_tree.specs.declared.member.Member.{Member}
 use Rattle.fp_base.specs.Least.{broken_at, Either, IsUnbroken}
-use Rattle.fp_parse_parts.specs.Units.{SpellsUnit, BreaksUnit}
+use Rattle.fp_parse_parts.specs.Units.{SpellsInside, BreaksInside}
+use Rattle.fp_parse_parts.specs.declared.parsing.Inside.{Inside}
+use Rattle.fp_parse_parts.specs.declared.parsing.Inside.TheVariants as inside
+use Rattle.fp_parse_parts.specs.declared.parsing.Members.{Members}
+use Rattle.fp_parse_parts.specs.declared.parsing.Members.TheVariants as given
 
 pub record Reading : Type 0 where
   pub name : List ℕ
   pub text : List ℕ
+  -- what the include stands in that it is read for, and so what it is a file of; a file that the words name is one of members
+  pub inside : Inside
   -- how many files were read before it, which is its number in places
   pub number : ℕ
   -- how many bytes these have
@@ -42,10 +47,16 @@ pub record HasTokens (r : Reading) (tokens : List Token) : Type 0 where
 
 -- its tokens break the grammar
 abbrev pub BreaksGrammar : Reading → Refusal → Type 0
-BreaksGrammar r f = (tokens : List Token) × HasTokens r tokens × (f.other ≡ None) × BreaksUnit tokens f.rule f.place
+BreaksGrammar r f = (tokens : List Token) × HasTokens r tokens × (f.other ≡ None) × BreaksInside tokens r.inside f.rule f.place
 
--- the members that a file gives: those that its tokens spell, and none where it breaks a rule of tokens or of the grammar
-abbrev pub Gives : Reading → List Member → Type 0
-Gives r ms =
-    ((tokens : List Token) × HasTokens r tokens × SpellsUnit tokens ms)
-    ⊎ (((f : Refusal) × Either (BreaksTokenRule r) (BreaksGrammar r) f) × (ms ≡ []))
+-- of what it is a file of there is nothing
+abbrev pub nothing_in : Inside → Members
+nothing_in inside.Unit = given.Unit []
+nothing_in inside.Component = given.Component []
+nothing_in inside.Topology = given.Topology []
+
+-- what a file gives: what its tokens spell, and nothing where it breaks a rule of tokens or of the grammar
+abbrev pub Gives : Reading → Members → Type 0
+Gives r x =
+    ((tokens : List Token) × HasTokens r tokens × SpellsInside tokens r.inside x)
+    ⊎ (((f : Refusal) × Either (BreaksTokenRule r) (BreaksGrammar r) f) × (x ≡ nothing_in r.inside))

@@ -4,13 +4,16 @@ use Rattle.std.specs.Prelude.{ℕ, zero, suc, ◌≡◌, ◌≤◌, ◌⊎◌, B
 use Rattle.fp_base.specs.declared.refusal.Refusal.{Refusal}
 use Rattle.fp_base.specs.declared.rule.Rule.TheVariants.{BadInclude}
 use Rattle.fp_outside.specs.declared.files.HeldFile.{HeldFile}
-use Rattle.fp_tree.specs.declared.member.Include.{Include}
+use Rattle.fp_parse_parts.specs.declared.parsing.Inside.{Inside}
+use Rattle.fp_parse_parts.specs.declared.parsing.Inside.TheVariants as inside
+use Rattle.fp_parse_parts.specs.declared.parsing.Members.{Members}
+use Rattle.fp_parse_parts.specs.declared.parsing.Members.TheVariants as given
 use Rattle.fp_tree.specs.declared.member.Member.{Member}
 use Rattle.fp_base.specs.Least.{broken_at}
 use Rattle.fp_gather.specs.FilesRun.{IsHeld}
-use Rattle.fp_sites.specs.Includes.{includes_in}
-use Rattle.fp_gather.specs.gathering.Includes.{included_name, replaced}
-use Rattle.fp_gather.specs.gathering.Reading.{Reading, Gives}
+use Rattle.fp_gather.specs.declared.gathering.including.Inclusion.{Inclusion}
+use Rattle.fp_gather.specs.gathering.Includes.{included_name, inclusions_in, replaced}
+use Rattle.fp_gather.specs.gathering.Reading.{Reading, Gives, nothing_in}
 
 -- the files that were read, in their order, and where an include breaks its rule
 pub record Walked : Type 0 where
@@ -52,29 +55,30 @@ Each {A = A} P (x ∷ xs) before (Stops stopped) =
 abbrev pub bytes_of : List Reading → ℕ
 bytes_of readings = sum_by (λ (r : Reading). length r.text) readings
 
--- a file of a name that is read next, with the files round it
-abbrev pub next_reading : Walked → List (List ℕ) → List ℕ → List ℕ → Reading
-next_reading before round name text =
-    record { name = name; text = text; number = length before.readings; bytes_before = bytes_of before.readings; round = round }
+-- a file of a name that is read next, with what its include stands in and the files round it
+abbrev pub next_reading : Walked → List (List ℕ) → Inside → List ℕ → List ℕ → Reading
+next_reading before round within name text =
+    record { name = name; text = text; inside = within; number = length before.readings; bytes_before = bytes_of before.readings; round = round }
 
 abbrev pub with_reading : Walked → Reading → Walked
 with_reading before r = record { readings = before.readings ++ r ∷ []; refused = before.refused }
 
 -- the read of one file: where the files tell what they hold, they have its text, or don't have it
-abbrev pub Reads : Option (List HeldFile) → List (List ℕ) → List ℕ → Walk (List Member)
-Reads told round name before (Went after gives) =
-    (text : List ℕ) × IsHeld told name (Some text) × (after ≡ with_reading before (next_reading before round name text)) × Gives (next_reading before round name text) gives
-Reads told round name before (Stops (NoFile absent)) = (absent ≡ name) × IsHeld told name None
-Reads told round name before (Stops (ReadFault failed)) = failed ≡ name
+abbrev pub Reads : Option (List HeldFile) → List (List ℕ) → Inside → List ℕ → Walk Members
+Reads told round within name before (Went after own) =
+    (text : List ℕ) × IsHeld told name (Some text) × (after ≡ with_reading before (next_reading before round within name text))
+    × Gives (next_reading before round within name text) own
+Reads told round within name before (Stops (NoFile absent)) = (absent ≡ name) × IsHeld told name None
+Reads told round within name before (Stops (ReadFault failed)) = failed ≡ name
 
--- a file with the files that it includes, which gives its members with each include replaced
-abbrev pub WalksFile : Option (List HeldFile) → (List (List ℕ) → Include → Walk (List Member)) → List (List ℕ) → List ℕ → Walk (List Member)
-WalksFile told inclusion round name before (Went after gives) =
-    (read : Walked) × (own : List Member) × (parts : List (List Member)) × Reads told round name before (Went read own)
-    × Each (inclusion (name ∷ round)) (includes_in own) read (Went after parts) × (gives ≡ replaced own parts)
-WalksFile told inclusion round name before (Stops stopped) =
-    Reads told round name before (Stops stopped)
-    ⊎ ((read : Walked) × (own : List Member) × Reads told round name before (Went read own) × Each (inclusion (name ∷ round)) (includes_in own) read (Stops stopped))
+-- a file with the files that it includes, which gives what stands in it with each include replaced
+abbrev pub WalksFile : Option (List HeldFile) → (List (List ℕ) → Inclusion → Walk Members) → List (List ℕ) → Inside → List ℕ → Walk Members
+WalksFile told inclusion round within name before (Went after whole) =
+    (read : Walked) × (own : Members) × (inserts : List Members) × Reads told round within name before (Went read own)
+    × Each (inclusion (name ∷ round)) (inclusions_in own) read (Went after inserts) × (whole ≡ replaced own inserts)
+WalksFile told inclusion round within name before (Stops stopped) =
+    Reads told round within name before (Stops stopped)
+    ⊎ ((read : Walked) × (own : Members) × Reads told round within name before (Went read own) × Each (inclusion (name ∷ round)) (inclusions_in own) read (Stops stopped))
 
 -- how deep inclusions nest at most
 abbrev pub most_levels : ℕ
@@ -98,17 +102,22 @@ IsBad before round name = Contains round name ⊎ (most_inclusions ≤ count_by 
 abbrev pub with_refused : Walked → Refusal → Walked
 with_refused before f = record { readings = before.readings; refused = before.refused ++ f ∷ [] }
 
--- an include that breaks its rule isn't read and gives no members
-abbrev pub IsRefused : Include → Walked → Outcome (List Member) → Type 0
-IsRefused i before o = o ≡ Went (with_refused before (broken_at BadInclude i.at.first)) []
+-- an include that breaks its rule isn't read, and nothing stands in its place
+abbrev pub IsRefused : Inclusion → Walked → Outcome Members → Type 0
+IsRefused i before o = o ≡ Went (with_refused before (broken_at BadInclude i.include.at.first)) (nothing_in i.inside)
 
 -- an include in the nearest of these files, where inclusions may nest so many levels deeper
-abbrev pub WalksInclude : Option (List HeldFile) → ℕ → List (List ℕ) → Include → Walk (List Member)
+abbrev pub WalksInclude : Option (List HeldFile) → ℕ → List (List ℕ) → Inclusion → Walk Members
 WalksInclude told zero round i before o = IsRefused i before o
 WalksInclude told (suc levels) round i before o =
-    (IsBad before round (included_name round i) × IsRefused i before o)
-    ⊎ ((IsBad before round (included_name round i) → ⊥) × WalksFile told (WalksInclude told levels) round (included_name round i) before o)
+    (IsBad before round (included_name round i.include) × IsRefused i before o)
+    ⊎ ((IsBad before round (included_name round i.include) → ⊥) × WalksFile told (WalksInclude told levels) round i.inside (included_name round i.include) before o)
+
+-- a file that no other includes, with the files that it includes: it is one of members
+abbrev pub WalksNamed : Option (List HeldFile) → List ℕ → Walk (List Member)
+WalksNamed told name before (Went after ms) = WalksFile told (WalksInclude told most_levels) [] inside.Unit name before (Went after (given.Unit ms))
+WalksNamed told name before (Stops stopped) = WalksFile told (WalksInclude told most_levels) [] inside.Unit name before (Stops stopped)
 
 -- the files of these names, each with the files that it includes; each gives its members
 abbrev pub WalksFiles : Option (List HeldFile) → List (List ℕ) → Walk (List (List Member))
-WalksFiles told names = Each (WalksFile told (WalksInclude told most_levels) []) names
+WalksFiles told names = Each (WalksNamed told) names

@@ -1,10 +1,17 @@
-ghost use Rattle.std.specs.Prelude.{◌≡◌, ◌++◌, ◌∷◌, [], ◌↔◌, Contains, IfOk, IsTrue, OnOk};
-ghost use Rattle.fp_sites.specs.Includes.{includes_in, includes_within};
-ghost use Rattle.fp_gather.specs.gathering.Includes.{directory as directory_of, included_name, nearest_directory as nearest_directory_of};
+ghost use Rattle.std.specs.Prelude.{◌≡◌, ◌++◌, ◌∷◌, [], ◌↔◌, flat_map, Contains, IfOk, IsTrue, OnOk};
+ghost use Rattle.fp_gather.specs.gathering.Includes.{directory as directory_of, included_name, inclusions_in, inclusions_in_part, inclusions_within, nearest_directory as nearest_directory_of};
 
 use fp_base::{NoMemory, Row, Text};
-use fp_tree::{Include, Member, Module};
+use fp_parse_parts::{Inside, Members};
+use fp_tree::{Include, Member, Module, Part};
 use std::alloc::Global;
+
+/// An include, and what it stands in: a file or a module, or a component.
+#[derive(Drop)]
+pub struct Inclusion {
+    pub inside: Inside,
+    pub include: Include,
+}
 
 /// The directory part of a file's name.
 fn directory(alloc: Global, name: &str) -> Result<Text, NoMemory>
@@ -62,18 +69,22 @@ pub fn is_among(names: &[Text], name: &Text) -> bool
     false
 }
 
-/// The includes of members, in source order.
-pub fn includes_of(alloc: Global, members: &[Member]) -> Result<Row<Include>, NoMemory>
-    ensures { IfOk result (λ row. row ≡ includes_in members.now) }
+/// The includes in what a file gives, in source order.
+pub fn inclusions_of(alloc: Global, given: &Members) -> Result<Row<Inclusion>, NoMemory>
+    ensures { IfOk result (λ row. row ≡ inclusions_in given.now) }
 {
     let mut found = Row::new(alloc);
-    of_members(alloc, members, &mut found)?;
+    match given {
+        Members::Unit(members) => of_members(alloc, members.as_slice(), &mut found)?,
+        Members::Component(parts) => of_parts(alloc, parts.as_slice(), &mut found)?,
+        Members::Topology(_) => {}
+    }
     Ok(found)
 }
 
 #[cycle(includes)]
-fn of_members(alloc: Global, members: &[Member], found: &mut Row<Include>) -> Result<(), NoMemory>
-    ensures { OnOk result (found.new ≡ found.old ++ includes_in members.now) }
+fn of_members(alloc: Global, members: &[Member], found: &mut Row<Inclusion>) -> Result<(), NoMemory>
+    ensures { OnOk result (found.new ≡ found.old ++ flat_map inclusions_within members.now) }
 {
     for member in members {
         of_member(alloc, member, found)?;
@@ -82,15 +93,15 @@ fn of_members(alloc: Global, members: &[Member], found: &mut Row<Include>) -> Re
 }
 
 #[cycle(includes)]
-fn of_member(alloc: Global, member: &Member, found: &mut Row<Include>) -> Result<(), NoMemory>
-    ensures { OnOk result (found.new ≡ found.old ++ includes_within member.now) }
+fn of_member(alloc: Global, member: &Member, found: &mut Row<Inclusion>) -> Result<(), NoMemory>
+    ensures { OnOk result (found.new ≡ found.old ++ inclusions_within member.now) }
 {
     match member {
         Member::Module(module) => of_module(alloc, module, found),
-        Member::Include(include) => found.push(include.copy(alloc)?),
+        Member::Component(component) => of_parts(alloc, component.parts.as_slice(), found),
+        Member::Include(include) => add(alloc, Inside::Unit, include, found),
         Member::Def(_)
         | Member::Machine(_)
-        | Member::Component(_)
         | Member::Interface(_)
         | Member::Instance(_)
         | Member::Topology(_)
@@ -99,8 +110,50 @@ fn of_member(alloc: Global, member: &Member, found: &mut Row<Include>) -> Result
 }
 
 #[cycle(includes)]
-fn of_module(alloc: Global, opened: &Module, found: &mut Row<Include>) -> Result<(), NoMemory>
-    ensures { OnOk result (found.new ≡ found.old ++ includes_in opened.now.members) }
+fn of_module(alloc: Global, opened: &Module, found: &mut Row<Inclusion>) -> Result<(), NoMemory>
+    ensures { OnOk result (found.new ≡ found.old ++ flat_map inclusions_within opened.now.members) }
 {
     of_members(alloc, opened.members.as_slice(), found)
+}
+
+fn of_parts(alloc: Global, parts: &[Part], found: &mut Row<Inclusion>) -> Result<(), NoMemory>
+    ensures { OnOk result (found.new ≡ found.old ++ flat_map inclusions_in_part parts.now) }
+{
+    for part in parts {
+        of_part(alloc, part, found)?;
+    }
+    Ok(())
+}
+
+fn of_part(alloc: Global, part: &Part, found: &mut Row<Inclusion>) -> Result<(), NoMemory>
+    ensures { OnOk result (found.new ≡ found.old ++ inclusions_in_part part.now) }
+{
+    match part {
+        Part::Include(include) => add(alloc, Inside::Component, include, found),
+        Part::Def(_)
+        | Part::Machine(_)
+        | Part::General(_)
+        | Part::Special(_)
+        | Part::Internal(_)
+        | Part::Command(_)
+        | Part::Event(_)
+        | Part::Channel(_)
+        | Part::Param(_)
+        | Part::Match(_)
+        | Part::Running(_)
+        | Part::Import(_) => Ok(()),
+    }
+}
+
+/// Adds an include that stands in this.
+fn add(
+    alloc: Global,
+    inside: Inside,
+    include: &Include,
+    found: &mut Row<Inclusion>,
+) -> Result<(), NoMemory>
+    ensures { OnOk result (found.new ≡ found.old ++ record { inside = inside; include = include.now } ∷ []) }
+{
+    let include = include.copy(alloc)?;
+    found.push(Inclusion { inside, include })
 }

@@ -10,16 +10,16 @@ ghost use Rattle.fp_gather.specs.gathering.Gathered.{AnyBroken, StandsAmong, nam
 ghost use Rattle.fp_gather.specs.gathering.Names.{IsNamed};
 ghost use Rattle.fp_gather.specs.gathering.Walks.{Walked, Outcome, NoReadFault, WalksFiles, Went, nothing_read};
 
-use fp_parse_parts::{one_refusal, one_unit};
-use fp_places::places_begin_tokens;
-use fp_sites::{names_are_written, stand_at_tokens};
+use fp_parse_parts::{one_break, one_list};
+use fp_places::{part_places_begin_tokens, places_begin_tokens};
+use fp_sites::{names_are_written, part_names_are_written, parts_stand_at_tokens, stand_at_tokens};
 
 /// Files that tell what they hold are read in one way, where no read fails.
 pub fn one_reading()
     ensures { (told : Option (List HeldFile)) (held : List HeldFile) (names : List (List ℕ)) (before : Walked) (one other : Outcome (List (List Member))) → told ≡ Some held → WalksFiles told names before one → WalksFiles told names before other → NoReadFault one → NoReadFault other → one ≡ other }
 {
-    one_unit();
-    one_refusal();
+    one_list();
+    one_break();
 }
 
 /// A rule that is broken in files which were read, or in their source, is broken in one of these files.
@@ -27,7 +27,9 @@ pub fn in_files_read()
     ensures { (told : Option (List HeldFile)) (names : List (List ℕ)) (walked : Walked) (units : List (List Member)) (f : Refusal) → WalksFiles told names nothing_read (Went walked units) → AnyBroken walked (source_of walked units) f → StandsAmong (names_read walked) f }
 {
     stand_at_tokens();
+    parts_stand_at_tokens();
     places_begin_tokens();
+    part_places_begin_tokens();
 }
 
 /// Each place of what files give that were read is one in one of these files.
@@ -35,7 +37,9 @@ pub fn places_in_files()
     ensures { (told : Option (List HeldFile)) (names : List (List ℕ)) (walked : Walked) (units : List (List Member)) (i : Item) (place : Place) → WalksFiles told names nothing_read (Went walked units) → Contains (items (source_of walked units)) i → Contains (places_of i) place → place.file < length (names_read walked) }
 {
     stand_at_tokens();
+    parts_stand_at_tokens();
     places_begin_tokens();
+    part_places_begin_tokens();
 }
 
 /// What files define that were read has names of the language, and so have the members of structs.
@@ -43,4 +47,5 @@ pub fn names_are_names()
     ensures { (told : Option (List HeldFile)) (names : List (List ℕ)) (walked : Walked) (units : List (List Member)) (i : Item) → WalksFiles told names nothing_read (Went walked units) → Contains (items (source_of walked units)) i → IsNamed i }
 {
     names_are_written();
+    part_names_are_written();
 }

@@ -8,7 +8,8 @@ ghost use Rattle.fp_gather.specs.gathering.Walks.{Walked, IsBad, has_some, nothi
 use super::including::is_among;
 use super::reading::read_text;
 use fp_base::{NoMemory, Refusal, Row, Rule, Text, lesser, refusal_at};
-use fp_tree::{Include, Member};
+use fp_parse_parts::{Inside, Members};
+use fp_tree::Include;
 use std::alloc::Global;
 
 /// The most bytes of all files, 16 MiB.
@@ -65,26 +66,27 @@ fn room_behind(room: Option<usize>, count: usize) -> Option<usize>
     }
 }
 
-/// Takes in the file that is read next, and answers the members that it gives.
+/// Takes in the file that is read next, and answers what it gives.
 pub fn take_in(
     alloc: Global,
     progress: &mut Progress,
     round: &Row<Text>,
+    inside: Inside,
     name: &Text,
     text: &[u8],
-) -> Result<Row<Member>, NoMemory>
-    ensures { IfOk result (λ members. (before : Walked) → Knows progress.old before → Gives (next_reading before round.now name.now text.now) members × Knows progress.new (with_reading before (next_reading before round.now name.now text.now))) }
+) -> Result<Members, NoMemory>
+    ensures { IfOk result (λ own. (before : Walked) → Knows progress.old before → Gives (next_reading before round.now inside name.now text.now) own × Knows progress.new (with_reading before (next_reading before round.now inside name.now text.now))) }
 {
     let number = number_of(progress.names.len())?;
     let inclusions = inclusions_behind(progress.inclusions, round)?;
     let passes = passes(progress.room, text.len());
-    let found = read_text(alloc, number, passes, text)?;
+    let found = read_text(alloc, number, passes, inside, text)?;
     progress.names.push(name.copy(alloc)?)?;
     progress.room = room_behind(progress.room, text.len());
     progress.inclusions = inclusions;
     progress.tokens = lesser(progress.tokens, found.tokens);
     progress.grammar = lesser(progress.grammar, found.grammar);
-    Ok(found.members)
+    Ok(found.given)
 }
 
 /// The number of the next file.

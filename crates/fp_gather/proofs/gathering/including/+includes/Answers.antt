@@ -1,11 +1,17 @@
-use Rattle.std.proofs.Common.{◌≡◌, List, ◌++◌, sym, ap, subst, ◌∙◌}
+use Rattle.std.proofs.Common.{◌≡◌, List, ◌++◌, flat_map, sym, ap, subst, ◌∙◌}
 use Rattle.std.specs.Prelude.{OnOk}
-use Rattle.fp_tree.specs.declared.member.Include.{Include}
-use Rattle.fp_sites.specs.Includes.{includes_within}
-use Rattle.fp_gather.proofs.PartsPlaced.{module_includes}
+use Rattle.fp_tree.specs.declared.component.Part.{Part}
+use Rattle.fp_gather.specs.declared.gathering.including.Inclusion.{Inclusion}
+use Rattle.fp_gather.specs.gathering.Includes.{inclusions_in_part, inclusions_within}
+use Rattle.fp_gather.proofs.PartsPlaced.{component_inclusions, module_inclusions}
 use Rattle.fp_gather.proofs.gathering.including.+includes.Goals as goal
 
 pub of_member-returns-in-Module : goal.of_member-returns-in-Module
 of_member-returns-in-Module t c =
-    let gives = ap includes_within c.in-Module.is ∙ module_includes c.in-Module.module in
-    subst (λ (x : List Include). OnOk c.of_module.result (c.of_module.new.found ≡ c.args.found.now ++ x)) (sym gives) c.of_module.ensures
+    let gives = ap inclusions_within c.in-Module.is ∙ module_inclusions c.in-Module.module in
+    subst (λ (x : List Inclusion). OnOk c.of_module.result (c.of_module.new.found ≡ c.args.found.now ++ x)) (sym gives) c.of_module.ensures
+
+pub of_member-returns-in-Component : goal.of_member-returns-in-Component
+of_member-returns-in-Component t c =
+    let gives = ap inclusions_within c.in-Component.is ∙ component_inclusions c.in-Component.component ∙ ap (λ (ps : List Part). flat_map inclusions_in_part ps) (sym c.as_slice.ensures) in
+    subst (λ (x : List Inclusion). OnOk c.of_parts.result (c.of_parts.new.found ≡ c.args.found.now ++ x)) (sym gives) c.of_parts.ensures

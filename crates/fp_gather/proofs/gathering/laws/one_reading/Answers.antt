@@ -2,4 +2,4 @@ use Rattle.fp_gather.proofs.OneWalk.{one_walk}
 use Rattle.fp_gather.proofs.gathering.laws.one_reading.Goals as goal
 
 pub returns : goal.returns
-returns c = one_walk c.one_unit.ensures c.one_refusal.ensures.none
+returns c = one_walk c.one_list.ensures c.one_break.ensures.none

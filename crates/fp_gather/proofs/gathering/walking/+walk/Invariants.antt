@@ -19,4 +19,4 @@ abbrev pub invariant-walk_includes-loop-include : goal.invariant-walk_includes-l
 invariant-walk_includes-loop-include g l =
     (g.F.Files.told l.files ≡ g.F.Files.told l.initial.files)
     × ((before : Walked) → Knows l.initial.progress before
-    → Comes (files_run g.F.Files.told g.F.Files.faults g.F.Files.misses l.initial.files l.files) (λ told. Each (WalksInclude told l.levels l.round) (take l.include-index l.includes)) before l.progress (Ok l.parts))
+    → Comes (files_run g.F.Files.told g.F.Files.faults g.F.Files.misses l.initial.files l.files) (λ told. Each (WalksInclude told l.levels l.round) (take l.include-index l.includes)) before l.progress (Ok l.inserts))

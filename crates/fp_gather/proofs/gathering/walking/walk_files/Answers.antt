@@ -1,7 +1,7 @@
 use Rattle.std.proofs.Common.{◌+◌, ℕ, List, [], ◌∷◌, ◌++◌, take, drop, map, refl, sym, ap, ◌∙◌, arith}
 use Rattle.std.specs.String.{string_bytes}
 use Rattle.fp_gather.specs.FilesRun.{files_run}
-use Rattle.fp_gather.specs.gathering.Walks.{WalksFile, WalksInclude, WalksFiles, most_levels}
+use Rattle.fp_gather.specs.gathering.Walks.{WalksFiles, WalksNamed}
 use Rattle.fp_gather.proofs.WalkSteps.{each_stops_on, each_goes_on, files_begin, files_end, handed_on, memory_refused, mapped_next, mapped_split}
 use Rattle.fp_gather.proofs.gathering.walking.walk_files.Goals as goal
 
@@ -11,7 +11,7 @@ loop-name-init g c = (refl, λ before k. files_begin g.F.Files.told g.F.Files.fa
 pub returns-in_err-unit : goal.returns-in_err-unit
 returns-in_err-unit g c = λ before k.
     handed_on (files_run g.F.Files.told g.F.Files.faults g.F.Files.misses c.args.files.now c.walk_named.new.files) (λ u. WalksFiles u (map string_bytes c.args.names.now)) before c.walk_named.new.progress c.from_residual.result c.in_err-unit.field-0.0 c.from_residual.ensures.1
-    (each_stops_on g.F.Files.told g.F.Files.faults g.F.Files.misses c.args.files.now c.loop-name.files c.walk_named.new.files (λ u. WalksFile u (WalksInclude u most_levels) [])
+    (each_stops_on g.F.Files.told g.F.Files.faults g.F.Files.misses c.args.files.now c.loop-name.files c.walk_named.new.files (λ u. WalksNamed u)
     (map string_bytes (take c.loop-name.name-index c.args.names.now)) (map string_bytes c.args.names.now) c.as_str.result.now (map string_bytes (drop (c.loop-name.name-index + 1) c.args.names.now))
     before c.loop-name.progress c.walk_named.new.progress c.walk_named.new.progress c.loop-name.units c.in_err-unit.field-0.0
     (mapped_split string_bytes c.args.names.now c.loop-name.name-index c.name-item.result c.loop-name-test.true c.name-item.is
@@ -26,7 +26,7 @@ pub loop-name-preserved : goal.loop-name-preserved
 loop-name-preserved g c = (
   c.in_ok-unit.ensures.told ∙ c.loop-name.invariant.0,
   λ before k.
-      each_goes_on g.F.Files.told g.F.Files.faults g.F.Files.misses c.args.files.now c.loop-name.files c.walk_named.new.files (λ u. WalksFile u (WalksInclude u most_levels) [])
+      each_goes_on g.F.Files.told g.F.Files.faults g.F.Files.misses c.args.files.now c.loop-name.files c.walk_named.new.files (λ u. WalksNamed u)
       (map string_bytes (take c.loop-name.name-index c.args.names.now)) (map string_bytes (take (c.loop-name.name-index + 1) c.args.names.now)) c.as_str.result.now
       before c.loop-name.progress c.walk_named.new.progress c.loop-name.units c.push.new.self c.in_ok-unit.unit
       (mapped_next string_bytes c.args.names.now c.loop-name.name-index c.name-item.result c.loop-name-test.true c.name-item.is
