@@ -12,7 +12,7 @@ use std::thread::Threads;
 /// How many bytes a sink takes at each call.
 const MOST: usize = 8;
 
-const ROOM: usize = 8192;
+const ROOM: usize = 131_072;
 
 /// What a call leaves.
 #[derive(Drop)]

@@ -10,7 +10,6 @@ use Rattle.fp_tree.specs.declared.type_name.TypeName.{TypeName}
 use Rattle.fp_tree.specs.declared.part.Field.{Field}
 use Rattle.fp_tree.specs.declared.component.Part.{Part}
 use Rattle.fp_tree.specs.declared.component.Part.TheVariants as part
-use Rattle.fp_tree.specs.declared.dictionary.Channel.{Channel}
 use Rattle.fp_tree.specs.declared.definition.Def.{Def}
 use Rattle.fp_tree.specs.declared.definition.Def.TheVariants as def
 use Rattle.fp_meaning.specs.declared.item.Item.{Item}
@@ -20,8 +19,9 @@ use Rattle.fp_meaning.specs.Names.{Path}
 use Rattle.fp_meaning.specs.Sites.{ModelDef, component, in_optional, instance, interface, machine, topology}
 use Rattle.fp_type_formats.specs.Broken.{BrokenByDefinition, BrokenByFields, BrokenByFormat, BrokenByItem, BrokenByModelDef, BrokenByPart, FormatsBroken, PrintsNoInteger}
 use Rattle.fp_type_formats.specs.Integers.{NamesNoInteger}
-use Rattle.fp_places.specs.Places.{places_in_definition, places_in_expression, places_in_field, places_in_format, places_in_limits, places_in_part, places_in_type, places_in_value, places_of_model}
+use Rattle.fp_places.specs.Places.{places_in_definition, places_in_expression, places_in_field, places_in_format, places_in_part, places_in_type, places_of_model}
 use Rattle.fp_fault_places.proofs.Constants.{StandOf}
+use Rattle.fp_fault_places.proofs.Parted.{channel_places, split}
 
 module _ (G : Place → Type 0) where
   fields_placed : (text : List ℕ) (place : Place) (values : ℕ) (unfit : ℕ → Type 0) (f : Refusal) → G place → BrokenByFields text place values unfit f → G f.place
@@ -56,30 +56,15 @@ module _ (G : Place → Type 0) where
     definition_placed (def.Enum d) f h b = absurd b
     definition_placed (def.Port d) f h b = absurd b
 
-  parts_of : (ps : List Part) → Each G (flat_map places_in_part ps) → Each (λ (p : Part). Each G (places_in_part p)) ps
-  parts_of [] h = tt
-  parts_of (p ∷ ps) h = (each_before G (places_in_part p) (flat_map places_in_part ps) h, parts_of ps (each_behind G (places_in_part p) (flat_map places_in_part ps) h))
-
-  -- the format of a channel, among its places
-  format_of : (c : Channel)
-      → Each G (places_in_type c.of ++ places_in_value c.id ++ in_optional places_in_format c.format ++ in_optional places_in_limits c.low ++ in_optional places_in_limits c.high)
-      → Each G (in_optional places_in_format c.format)
-  format_of c h =
-      let front = places_in_type c.of ++ places_in_value c.id in
-      let format = in_optional places_in_format c.format in
-      let low = in_optional places_in_limits c.low in
-      let high = in_optional places_in_limits c.high in
-      each_behind G front format (each_before G (front ++ format) low (each_before G (front ++ format ++ low) high h))
-
   module _ (is : List Item) where
     part_placed : (scope : Path) (p : Part) (f : Refusal) → Each G (places_in_part p) → BrokenByPart is scope p f → G f.place
     part_placed scope (part.Event e) f h b = fields_placed e.format.text e.format.at.first (length e.formals) (PrintsNoInteger is scope e.formals) f h.1.0 b
-    part_placed scope (part.Channel c) f h b = format_placed is scope c.of c.format f (format_of c h.1) b
+    part_placed scope (part.Channel c) f h b = format_placed is scope c.of c.format f (channel_places G c h).1.1.0 b
     part_placed scope p f h b = absurd b
 
     model_placed : (scope : Path) (d : ModelDef) (f : Refusal) → Each G (places_of_model d) → BrokenByModelDef is scope d f → G f.place
     model_placed scope (component c) f h (k, p, at, b) =
-        part_placed (component_scope scope c) p f (of_item (λ (x : Part). Each G (places_in_part x)) c.parts k p (parts_of c.parts h) at) b
+        part_placed (component_scope scope c) p f (of_item (λ (x : Part). Each G (places_in_part x)) c.parts k p (split G places_in_part c.parts h) at) b
     model_placed scope (machine d) f h b = absurd b
     model_placed scope (interface d) f h b = absurd b
     model_placed scope (instance d) f h b = absurd b

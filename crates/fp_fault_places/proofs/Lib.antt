@@ -1,5 +1,16 @@
-pub mod Constants
-pub mod Expressions
-pub mod Formats
-pub mod Types
-pub mod Values
+mod Constants
+mod Conversions
+mod Dictionaries
+mod Expressions
+mod Formats
+mod LeftOut
+mod Parted
+mod PartForms
+mod PartNames
+mod PartNumbers
+mod PortRules
+mod Standing
+mod Types
+mod Wholes
+mod Written
+mod WrittenSource

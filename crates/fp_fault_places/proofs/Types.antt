@@ -1,5 +1,5 @@
 -- What types break is broken at places of their source.
-use Rattle.std.proofs.Common.{◌≡◌, ℕ, List, [], ◌∷◌, ◌++◌, flat_map, map, Option, Some, None, inl, inr, sym, subst}
+use Rattle.std.proofs.Common.{◌≡◌, ℕ, List, ◌++◌, flat_map, map, Option, Some, None, inl, inr, subst}
 use Rattle.std.specs.Prelude.{slice_get}
 use Rattle.std.specs.List.{AllByRecursion as Each}
 use Rattle.fp_base.specs.declared.place.Place.{Place}
@@ -33,18 +33,11 @@ use Rattle.fp_source_types.specs.Places.{behind_default, default_place, name_pla
 use Rattle.fp_places.specs.Places.{places_in_constant, places_in_definition, places_in_expression, places_in_field, places_in_formal, places_in_format, places_in_type, places_in_type_form}
 use Rattle.fp_fault_places.proofs.Constants.{PlacedIn, StandOf, all_expressions, chains_placed}
 use Rattle.fp_fault_places.proofs.Expressions.{StandIn, first_of, repeats_placed}
+use Rattle.fp_fault_places.proofs.Parted.{same_place, split}
 
 module _ (G : Place → Type 0) where
   abbrev At : Refusal → Type 0
   At f = G f.place
-
-  same_place : (f g : Refusal) → f ≡ g → At g → At f
-  same_place f g e h = subst At (sym e) h
-
-  -- all places in a list of parts, part by part
-  split : {A : Type 0} (found : A → List Place) (xs : List A) → Each G (flat_map found xs) → Each (λ x. Each G (found x)) xs
-  split found [] h = tt
-  split found (x ∷ xs) h = (each_before G (found x) (flat_map found xs) h, split found xs (each_behind G (found x) (flat_map found xs) h))
 
   repr_of : (d : Enum) → Each G (in_optional places_in_type d.repr ++ flat_map places_in_constant d.constants ++ in_optional places_in_expression d.default) → Each G (in_optional places_in_type d.repr)
   repr_of d h =
@@ -54,22 +47,22 @@ module _ (G : Place → Type 0) where
   constants_of : (d : Enum) → Each G (in_optional places_in_type d.repr ++ flat_map places_in_constant d.constants ++ in_optional places_in_expression d.default)
       → Each (λ (c : EnumConst). Each G (places_in_constant c)) d.constants
   constants_of d h =
-      split places_in_constant d.constants
+      split G places_in_constant d.constants
       (each_behind G (in_optional places_in_type d.repr) (flat_map places_in_constant d.constants)
       (each_before G (in_optional places_in_type d.repr ++ flat_map places_in_constant d.constants) (in_optional places_in_expression d.default) h))
 
   module _ (source : Source) (scope : Path) where
     size_placed : (rule : Rule) (most : ℕ) (e : Expr) (f : Refusal) → StandIn G e → BrokenBySize source scope rule most e f → At f
-    size_placed rule most e f h (inl b) = same_place f _ b.0 (first_of G e h)
-    size_placed rule most e f h (inr b) = same_place f _ b.0 (first_of G e h)
+    size_placed rule most e f h (inl b) = same_place G f _ b.0 (first_of G e h)
+    size_placed rule most e f h (inr b) = same_place G f _ b.0 (first_of G e h)
 
     optional_size : (rule : Rule) (most : ℕ) (o : Option Expr) (f : Refusal) → Each G (in_optional places_in_expression o) → ByOptional (BrokenBySize source scope rule most) o f → At f
     optional_size rule most None f h b = absurd b
     optional_size rule most (Some e) f h b = size_placed rule most e f h b
 
     form_placed : (place : Place) (t : TypeForm) (f : Refusal) → G place → Each G (places_in_type_form t) → BrokenByForm source scope place t f → At f
-    form_placed place type.F32 f g h b = same_place f _ b g
-    form_placed place type.F64 f g h b = same_place f _ b g
+    form_placed place type.F32 f g h b = same_place G f _ b g
+    form_placed place type.F64 f g h b = same_place G f _ b g
     form_placed place (type.Text size) f g h b = optional_size _ 65535 size f h b
     form_placed place type.U8 f g h b = absurd b
     form_placed place type.U16 f g h b = absurd b
@@ -82,7 +75,7 @@ module _ (G : Place → Type 0) where
     form_placed place type.Bool f g h b = absurd b
     form_placed place (type.Use name) f g h b = absurd b
 
-    name_placed : (t : TypeName) (f : Refusal) → Each G (places_in_type t) → BrokenByName source scope t f → At f
+    pub name_placed : (t : TypeName) (f : Refusal) → Each G (places_in_type t) → BrokenByName source scope t f → At f
     name_placed t f h b = form_placed t.at.first t.form f h.0 h.1 b
 
     optional_name : (o : Option TypeName) (f : Refusal) → Each G (in_optional places_in_type o) → ByOptional (BrokenByName source scope) o f → At f
@@ -99,7 +92,7 @@ module _ (G : Place → Type 0) where
 
     number_placed : (o : Option Expr) (f : Refusal) → Each G (in_optional places_in_expression o) → ByOptional (IsNoNumber source scope) o f → At f
     number_placed None f h b = absurd b
-    number_placed (Some e) f h b = same_place f _ b.0 (first_of G e h)
+    number_placed (Some e) f h b = same_place G f _ b.0 (first_of G e h)
 
     -- by the parts of a definition
     parts_placed : (d : Def) (f : Refusal) → Each G (places_in_definition d) → BrokenByParts source scope d f → At f
@@ -114,15 +107,15 @@ module _ (G : Place → Type 0) where
           | inr c ↦ name_placed d.element f (each_behind G (places_in_expression d.size) (places_in_type d.element) two) c
         ]
     parts_placed (def.Struct d) f h (k, m, at, b) =
-        let all = split places_in_field d.fields (each_before G (flat_map places_in_field d.fields) (in_optional places_in_expression d.default) h.1) in
+        let all = split G places_in_field d.fields (each_before G (flat_map places_in_field d.fields) (in_optional places_in_expression d.default) h.1) in
         member_placed m f (of_item (λ (x : Field). Each G (places_in_field x)) d.fields k m all at) b
     parts_placed (def.Enum d) f h (inl b) = optional_name d.repr f (repr_of d h.1) b
     parts_placed (def.Enum d) f h (inr (inl (k, c, at, b))) =
         let here : Each G (places_in_constant c) = of_item (λ (x : EnumConst). Each G (places_in_constant x)) d.constants k c (constants_of d h.1) at in
         number_placed c.value f here.1 b
-    parts_placed (def.Enum d) f h (inr (inr b)) = same_place f _ b.0 h.0
+    parts_placed (def.Enum d) f h (inr (inr b)) = same_place G f _ b.0 h.0
     parts_placed (def.Port d) f h (inl (k, p, at, b)) =
-        let all = split places_in_formal d.formals (each_before G (flat_map places_in_formal d.formals) (in_optional places_in_type d.result) h.1) in
+        let all = split G places_in_formal d.formals (each_before G (flat_map places_in_formal d.formals) (in_optional places_in_type d.result) h.1) in
         let here : Each G (places_in_formal p) = of_item (λ (x : Formal). Each G (places_in_formal x)) d.formals k p all at in
         name_placed p.of f here.1 b
     parts_placed (def.Port d) f h (inr b) = optional_name d.result f (each_behind G (flat_map places_in_formal d.formals) (in_optional places_in_type d.result) h.1) b
@@ -136,7 +129,7 @@ module _ (G : Place → Type 0) where
     numbers_placed (def.Struct d) f h b = absurd b
     numbers_placed (def.Enum d) f h (k, c, at, b) =
         let here : Each G (places_in_constant c) = of_item (λ (x : EnumConst). Each G (places_in_constant x)) d.constants k c (constants_of d h.1) at in
-        same_place f _ b.0 here.0
+        same_place G f _ b.0 here.0
     numbers_placed (def.Port d) f h b = absurd b
 
     constant_placed : (c : EnumConst) → Each G (places_in_constant c) → G (constant_place c)
@@ -155,9 +148,9 @@ module _ (G : Place → Type 0) where
     enum_placed ws (def.Alias d) f h b = absurd b
     enum_placed ws (def.Array d) f h b = absurd b
     enum_placed ws (def.Struct d) f h b = absurd b
-    enum_placed ws (def.Enum d) f h (inl (t, is, e, bad)) = same_place f _ e (repr_placed d.repr t is (repr_of d h.1))
+    enum_placed ws (def.Enum d) f h (inl (t, is, e, bad)) = same_place G f _ e (repr_placed d.repr t is (repr_of d h.1))
     enum_placed ws (def.Enum d) f h (inr (k, c, at, b)) =
-        same_place f _ b.0 (constant_placed c (of_item (λ (x : EnumConst). Each G (places_in_constant x)) d.constants k c (constants_of d h.1) at))
+        same_place G f _ b.0 (constant_placed c (of_item (λ (x : EnumConst). Each G (places_in_constant x)) d.constants k c (constants_of d h.1) at))
     enum_placed ws (def.Port d) f h b = absurd b
 
   repeats_member : (d : Def) (f : Refusal) → Each G (places_in_definition d) → RepeatsMember d f → At f
@@ -166,11 +159,16 @@ module _ (G : Place → Type 0) where
   repeats_member (def.Alias d) f h b = absurd b
   repeats_member (def.Array d) f h b = absurd b
   repeats_member (def.Struct d) f h (k, m, at, b) =
-      let all = split places_in_field d.fields (each_before G (flat_map places_in_field d.fields) (in_optional places_in_expression d.default) h.1) in
+      let all = split G places_in_field d.fields (each_before G (flat_map places_in_field d.fields) (in_optional places_in_expression d.default) h.1) in
       let here : Each G (places_in_field m) = of_item (λ (x : Field). Each G (places_in_field x)) d.fields k m all at in
-      same_place f _ b.0 here.0
+      same_place G f _ b.0 here.0
   repeats_member (def.Enum d) f h b = absurd b
   repeats_member (def.Port d) f h b = absurd b
+
+  pub misfit_placed : (ws : List WrittenType) (place : Place) (v : Opened) (t : Target) (f : Refusal) → G place → Misfits ws place v t f → At f
+  misfit_placed ws place v t f g (by_member m) = g
+  misfit_placed ws place v t f g (by_range n m) = g
+  misfit_placed ws place v t f g (by_shape n m o) = g
 
   -- ---- the types of items
 
@@ -250,11 +248,6 @@ module _ (G : Place → Type 0) where
     forms_placed ws f (inr (inr (inl (k, p, at, b)))) = repeats_placed G p.expression f (of_item (PlacedIn G) (expressions source) k p (all_expressions G source all) at) b
     forms_placed ws f (inr (inr (inr (k, t, at, b)))) = by_type ws t f (of_item TypePlaced (types source) k t all_types at) b
 
-    misfit_placed : (ws : List WrittenType) (place : Place) (v : Opened) (t : Target) (f : Refusal) → G place → Misfits ws place v t f → At f
-    misfit_placed ws place v t f g (by_member m) = g
-    misfit_placed ws place v t f g (by_range n m) = g
-    misfit_placed ws place v t f g (by_shape n m o) = g
-
     pub types_broken : (f : Refusal) → TypesBroken source f → At f
     types_broken f b = go b.broken
       where
@@ -262,7 +255,7 @@ module _ (G : Place → Type 0) where
         go (inl c) = chains_placed G source all _ f c
         go (inr (inl c)) = forms_placed b.written f c
         go (inr (inr (inl (k, place, at, c)))) =
-            same_place f _ c.0 (of_item G (map name_place (types source)) k place (each_mapped G name_place (types source) (each_weaker TypePlaced (λ t. G (name_place t)) (λ t h. h.name) (types source) all_types)) at)
+            same_place G f _ c.0 (of_item G (map name_place (types source)) k place (each_mapped G name_place (types source) (each_weaker TypePlaced (λ t. G (name_place t)) (λ t h. h.name) (types source) all_types)) at)
         go (inr (inr (inr (k, place, at, c)))) =
             misfit_placed b.written place _ _ f
             (of_item G (map default_place (types source)) k place (each_mapped G default_place (types source) (each_weaker TypePlaced (λ t. G (default_place t)) default_stands (types source) all_types)) at) c.misfits

@@ -3,9 +3,7 @@ use Rattle.std.proofs.Common.{◌≡◌, ℕ, true, List, Option, Ok, refl, sym,
 use Rattle.std.specs.List.{AllByRecursion, Contains, list_all}
 use Rattle.fp_base.specs.Names.{is_name}
 use Rattle.fp_base.proofs.Lists.{each_contained, each_flat, each_weaker, of_contained, of_item}
-use Rattle.fp_lexer.specs.declared.token.Token.{Token}
 use Rattle.fp_outside.specs.declared.files.HeldFile.{HeldFile}
-use Rattle.fp_parse_parts.specs.Units.{SpellsUnit}
 use Rattle.fp_tree.specs.declared.definition.Def.{Def}
 use Rattle.fp_tree.specs.declared.definition.Def.TheVariants as def
 use Rattle.fp_tree.specs.declared.member.Member.{Member}
@@ -13,15 +11,16 @@ use Rattle.fp_tree.specs.declared.source.Source.{Source}
 use Rattle.fp_meaning.specs.declared.item.Item.{Item}
 use Rattle.fp_meaning.specs.declared.item.Item.TheVariants as item
 use Rattle.fp_meaning.specs.declared.names.Definition.{Definition}
-use Rattle.fp_meaning.specs.Layout.{in_members, items}
-use Rattle.fp_meaning.specs.Names.{Path, definitions, definitions_of}
+use Rattle.fp_meaning.specs.Layout.{items}
+use Rattle.fp_meaning.specs.Names.{definitions, definitions_of}
+use Rattle.fp_names.specs.Named.{HasNamedFormals, PartsAreNamed, PartsOfItemAreNamed}
 use Rattle.fp_source_types.specs.Listed.{EnumsHaveConstants, IsListed}
 use Rattle.fp_source_types.specs.Named.{DefinitionsAreNamed, FieldsAreNamed, has_field_names}
 use Rattle.fp_type_forms.specs.Written.{TypeHere, types, types_of}
-use Rattle.fp_gather.proofs.ItemsKept.{items_kept}
+use Rattle.fp_gather.proofs.ItemsKept.{MembersGive, PartsGive, items_have}
 use Rattle.fp_gather.specs.FilesRun.{FilesRun}
 use Rattle.fp_gather.specs.gathering.Gathered.{Gathers, source_of}
-use Rattle.fp_gather.specs.gathering.Names.{HasNamedMembers, IsNamed}
+use Rattle.fp_gather.specs.gathering.Names.{HasNamedMembers, IsNamed, MembersAreNamed}
 use Rattle.fp_gather.specs.gathering.Walks.{Walked, WalksFiles, Went, nothing_read}
 
 -- what the law on names says
@@ -67,11 +66,30 @@ module _ (law : NamesAreNames) (names : List (List ℕ)) (files : FilesRun) (sou
       of_item FieldsNamed (types source) k t
       (each_flat FieldsNamed types_of (items source) (each_weaker IsNamed (λ i. AllByRecursion FieldsNamed (types_of i)) types_named (items source) all_named)) at
 
-pub enumerations_listed : ((tokens : List Token) (ms : List Member) → SpellsUnit tokens ms → (scope : Path) (i : Item) → Contains (in_members scope ms) i → IsListed i)
+  formals_named : (d : Def) → HasNamedMembers d → HasNamedFormals d
+  formals_named (def.Struct d) h = tt
+  formals_named (def.Constant d) h = h
+  formals_named (def.Abstract d) h = h
+  formals_named (def.Alias d) h = h
+  formals_named (def.Array d) h = h
+  formals_named (def.Enum d) h = h
+  formals_named (def.Port d) h = h
+
+  parts_of_item : (i : Item) → MembersAreNamed i → PartsOfItemAreNamed i
+  parts_of_item (item.Defined s) h = formals_named s.definition h
+  parts_of_item (item.Enumerated e) h = h
+  parts_of_item (item.Declared d) h = h
+  parts_of_item (item.Used since n) h = h
+  parts_of_item (item.Written since p) h = h
+
+  pub parts_named : PartsAreNamed source
+  parts_named k i at = parts_of_item i (of_item IsNamed (items source) k i all_named at).members
+
+pub enumerations_listed : MembersGive IsListed → PartsGive IsListed
     → ((source : Source) → ((i : Item) → Contains (items source) i → IsListed i) → EnumsHaveConstants source)
     → (names : List (List ℕ)) (files : FilesRun) (source : Source) → Gathers names files (Ok source) → EnumsHaveConstants source
-enumerations_listed law listed names files source gathered =
+enumerations_listed law part_law listed names files source gathered =
     let read = gathered.1 in
     let all : AllByRecursion IsListed (items (source_of gathered.0 read.units)) =
-    items_kept IsListed (λ tokens ms spelled scope. each_contained IsListed (in_members scope ms) (law tokens ms spelled scope)) files.told names gathered.0 read.units read.read in
+    items_have IsListed (λ scope d. tt) law part_law files.told names gathered.0 read.units read.read in
     listed source (λ i there. of_contained IsListed (items source) i (subst (λ (s : Source). AllByRecursion IsListed (items s)) (sym read.made) all) there)

@@ -13,7 +13,7 @@ use Rattle.fp_main.specs.Delivery as delivery
 use Rattle.fp_gather.specs.FilesRun.{FilesRun, NoFault, NoMiss, Holds}
 use Rattle.fp_main.specs.Broken.{SourceBroken}
 use Rattle.fp_main.specs.Lines.{usage_line, refusal_line, read_fault_line, no_file_line, no_memory_line}
-use Rattle.fp_main.specs.Listing.{checked_listing}
+use Rattle.fp_listing.specs.Listing.{Listing}
 use Rattle.fp_main.specs.Output.{IsRead, IsDue}
 use Rattle.fp_main.specs.Words.{AsksFor, IsCheck, IsWrong}
 use Rattle.fp_gather.specs.gathering.Gathered.{IsAbsent, IsUnread, StandsAmong, name_of, names_read, source_of}
@@ -68,7 +68,7 @@ RefusedMeans words files out diag status =
 abbrev pub DoneMeans : List (List ℕ) → FilesRun → SinkRun → SinkRun → Status → Type 0
 DoneMeans words files out diag status =
     status ≡ Done → (walked : Walked) × (source : Source) × (read : IsRead words files walked source) × IsCheck words read.names × IsUnbroken (SourceBroken walked source)
-    × ((model : Model) × Defined source model × Adds (checked_listing model) out) × Adds [] diag
+    × ((model : Model) × Defined source model × Adds (Listing model) out) × Adds [] diag
 
 -- out has a proper front of the output that was due, and diag the line that says so, or a proper front of it; or out has nothing,
 -- and diag a proper front of the line that was due

@@ -2,7 +2,6 @@ pub mod Broken
 pub mod Causes
 pub mod Delivery
 pub mod Lines
-pub mod Listing
 pub mod Output
 pub mod Statuses
 pub mod Words

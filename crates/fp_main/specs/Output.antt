@@ -12,7 +12,7 @@ use Rattle.fp_gather.specs.gathering.Gathered.{AreRead, IsAbsent, IsUnread, Stan
 use Rattle.fp_gather.specs.gathering.Walks.{Walked}
 use Rattle.fp_main.specs.Broken.{SourceBroken}
 use Rattle.fp_main.specs.Lines.{usage_line, refusal_line, read_fault_line, no_file_line, no_memory_line}
-use Rattle.fp_main.specs.Listing.{checked_listing}
+use Rattle.fp_listing.specs.Listing.{Listing}
 use Rattle.fp_main.specs.Words.{AsksFor, IsCheck, IsWrong}
 use Rattle.fp_main.specs.declared.status.Status.{Status}
 use Rattle.fp_main.specs.declared.status.Status.TheVariants.{Done, Refused, Usage, ReadFault, NoFile, NoMemory}
@@ -73,12 +73,12 @@ pub record DueListing (words : List (List ℕ)) (files : FilesRun) (output line 
   pub unbroken : IsUnbroken (SourceBroken walked source)
   pub model : Model
   pub defined : Defined source model
-  pub listed : output ≡ checked_listing model
+  pub listed : output ≡ Listing model
   pub silent : line ≡ []
 
--- what `check` has to write for a source by its rules of names and of values
+-- what `check` has to write for a source whose files and includes break no rule
 abbrev pub IsDueFor : Source → Status → List ℕ → List ℕ → Type 0
-IsDueFor source Done output line = IsUnbroken (ModelBroken source) × ((model : Model) × Defined source model × (output ≡ checked_listing model)) × (line ≡ [])
+IsDueFor source Done output line = IsUnbroken (ModelBroken source) × ((model : Model) × Defined source model × (output ≡ Listing model)) × (line ≡ [])
 IsDueFor source Refused output line = SaysBroken (ModelBroken source) source.names output line
 IsDueFor source _ output line = ⊥
 

@@ -1,23 +1,24 @@
 ghost use Rattle.std.specs.Prelude.{◌≡◌, [], map, List, ℕ, IfOk};
 ghost use Rattle.std.specs.String.{string_bytes};
+ghost use Rattle.fp_names.specs.Named.{PartsAreNamed};
 ghost use Rattle.fp_source_types.specs.Listed.{EnumsHaveConstants};
 ghost use Rattle.fp_source_types.specs.Named.{DefinitionsAreNamed, FieldsAreNamed};
 ghost use Rattle.fp_gather.specs.FilesRun.{files_run};
 ghost use Rattle.fp_gather.specs.gathering.Gathered.{name_of as name_in};
+ghost use Rattle.fp_listing.specs.Listing.{Listing};
 ghost use Rattle.fp_main.specs.Lines.{refusal_line as line_of};
-ghost use Rattle.fp_main.specs.Listing.{checked_listing as listing_of};
 ghost use Rattle.fp_main.specs.Output.{IsDue, IsDueFor};
 ghost use Rattle.fp_main.specs.declared.status.Status.TheVariants.{Done, Refused};
 ghost use Rattle.fp_main.specs.Words.{IsCheck, IsWrong};
 
 use crate::lines::{no_file_line, read_fault_line, refusal_line, usage_line};
-use crate::listing::checked_listing;
 use crate::status::Status;
 use crate::words::{Command, read_words};
 use fp_base::{NoMemory, Refusal, Row, Stop};
-use fp_enum_sites::enumerations_have_constants;
-use fp_fault_places::values_break_at_places;
+use fp_enum_sites::{enumerations_have_constants, part_enumerations_have_constants};
+use fp_fault_places::{forms_left_out_at_places, parts_break_at_places, values_break_at_places};
 use fp_gather::{Halt, gather, in_files_read, name_of, names_are_names, places_in_files};
+use fp_listing::listing;
 use fp_model::resolve;
 use fp_outside::Files;
 use fp_source_types::listed_items_have_constants;
@@ -46,9 +47,9 @@ fn said(alloc: Global, status: Status, line: Row<u8>) -> Due
 
 /// What is due for a source that breaks no rule.
 fn listed(alloc: Global, model: &Model) -> Result<Due, NoMemory>
-    ensures { IfOk result (λ due. due ≡ record { status = Done; output = listing_of model.now; line = [] }) }
+    ensures { IfOk result (λ due. due ≡ record { status = Done; output = Listing model.now; line = [] }) }
 {
-    let output = checked_listing(alloc, model)?;
+    let output = listing(alloc, model)?;
     Ok(Due {
         status: Status::Done,
         output,
@@ -65,10 +66,11 @@ fn refused(alloc: Global, source: &Source, refusal: Refusal) -> Result<Due, NoMe
     Ok(said(alloc, Status::Refused, line))
 }
 
-/// What `check` has to write for a source that breaks no rule before those of names: its listing, or the rule that is broken first.
+/// What `check` has to write for a source whose files and includes break no rule: its listing, or the rule that is broken first.
 fn check(alloc: Global, source: &Source) -> Result<Due, NoMemory>
     requires names { DefinitionsAreNamed source.now }
     requires fields { FieldsAreNamed source.now }
+    requires parts { PartsAreNamed source.now }
     requires enumerations { EnumsHaveConstants source.now }
     ensures { IfOk result (λ due. IsDueFor source.now due.status due.output due.line) }
 {
@@ -86,10 +88,13 @@ fn answer_check<F: Files>(alloc: Global, names: &[String], files: &mut F) -> Res
     // for the file in which a rule is broken
     in_files_read();
     places_in_files();
+    forms_left_out_at_places();
     values_break_at_places();
+    parts_break_at_places();
     // for what a source is asked to have
     names_are_names();
     enumerations_have_constants();
+    part_enumerations_have_constants();
     listed_items_have_constants();
     match gather(alloc, names, files) {
         Ok(source) => check(alloc, &source),

@@ -5,7 +5,6 @@ mod answer;
 mod deliver;
 mod laws;
 mod lines;
-mod listing;
 mod serving;
 mod status;
 mod words;

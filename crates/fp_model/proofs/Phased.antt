@@ -18,14 +18,13 @@ pub least_last : {P : Refusal → Type 0} (o : Option Refusal) → IsLeast P o �
 least_last o l = least_same (λ f p. inl p) (λ f. elim [ inl p ↦ p | inr q ↦ absurd q.0 ]) l
 
 module _ {P Q : Refusal → Type 0} where
-  -- of two phases
-  pub none_in_phases : IsUnbroken P → IsUnbroken Q → IsUnbroken (InPhases (P ∷ Q ∷ []))
-  none_in_phases none no_later f (inl p) = none f p
-  none_in_phases none no_later f (inr (inl q, r)) = no_later f q
-  none_in_phases none no_later f (inr (inr q, r)) = absurd q.0
+  -- of a phase and those behind it
+  pub none_phased : IsUnbroken P → IsUnbroken Q → IsUnbroken (Phased P Q)
+  none_phased none no_later f (inl p) = none f p
+  none_phased none no_later f (inr q) = no_later f q.0
 
-  pub first_unbroken : IsUnbroken (InPhases (P ∷ Q ∷ [])) → IsUnbroken P
+  pub first_unbroken : IsUnbroken (Phased P Q) → IsUnbroken P
   first_unbroken none f p = none f (inl p)
 
-  pub last_unbroken : IsUnbroken (InPhases (P ∷ Q ∷ [])) → IsUnbroken Q
-  last_unbroken none f q = none f (inr (inl q, λ g p. none g (inl p)))
+  pub later_unbroken : IsUnbroken (Phased P Q) → IsUnbroken Q
+  later_unbroken none f q = none f (inr (q, λ g p. none g (inl p)))

@@ -1,5 +1,5 @@
--- The names of constants and ports are names joined by dots.
-use Rattle.std.proofs.Common.{◌≡◌, ℕ, suc, Bool, true, List, [], ◌∷◌, ◌++◌, flat_map, slice_get, Some, None, refl, ap, ◌∙◌}
+-- The names of constants are names joined by dots.
+use Rattle.std.proofs.Common.{◌≡◌, ℕ, suc, true, List, [], ◌∷◌, ◌++◌, flat_map, slice_get, Some, refl, ap, ◌∙◌}
 use Rattle.std.specs.List.{AllByRecursion, list_all}
 use Rattle.fp_base.proofs.Bools.{join}
 use Rattle.fp_base.proofs.Lists.{each_before, each_behind, each_flat, each_weaker}
@@ -9,7 +9,6 @@ use Rattle.fp_tree.specs.declared.definition.Def.{Def}
 use Rattle.fp_tree.specs.declared.definition.Def.TheVariants as def
 use Rattle.fp_tables.specs.Names.{is_qualified}
 use Rattle.fp_tables.specs.declared.kind.Constant.{Constant}
-use Rattle.fp_tables.specs.declared.kind.PortDef.{PortDef}
 use Rattle.fp_meaning.specs.declared.item.Item.{Item}
 use Rattle.fp_meaning.specs.declared.item.Item.TheVariants as item
 use Rattle.fp_meaning.specs.declared.names.Definition.{Definition}
@@ -20,7 +19,7 @@ use Rattle.fp_type_forms.specs.Written.{AllAt}
 use Rattle.fp_source_types.specs.Named.{DefinitionsAreNamed}
 use Rattle.fp_source_types.proofs.Dotted.{dotted_qualified}
 use Rattle.fp_model.specs.Defined.{AreConstants, IsConstant}
-use Rattle.fp_model.specs.Definitions.{ConstantHere, constants, constants_in, constants_of, ports, ports_in, ports_of, qualified}
+use Rattle.fp_model.specs.Definitions.{ConstantHere, constants, constants_in, constants_of, qualified}
 
 -- a name behind those of a scope
 abbrev HasName : Path → List ℕ → Type 0
@@ -63,36 +62,9 @@ constants_named (item.Declared d) h = tt
 constants_named (item.Used since n) h = tt
 constants_named (item.Written since p) h = tt
 
--- a port that is known by its name alone
-abbrev pub IsBare : PortDef → Type 0
-IsBare p = (is_qualified p.name ≡ true) × (p.formals ≡ []) × (p.result ≡ None)
-
-ports_bare : (i : Item) → Names i → AllByRecursion IsBare (ports_of i)
-ports_bare (item.Defined s) h = of_definition s.scope s.definition h.0
-  where
-    of_definition : (scope : Path) (d : Def) → HasName scope (name_of d).text → AllByRecursion IsBare (ports_in scope d)
-    of_definition scope (def.Constant d) h = tt
-    of_definition scope (def.Abstract d) h = tt
-    of_definition scope (def.Alias d) h = tt
-    of_definition scope (def.Array d) h = tt
-    of_definition scope (def.Struct d) h = tt
-    of_definition scope (def.Enum d) h = tt
-    of_definition scope (def.Port d) h = ((qualified_name scope d.name.text h, refl, refl), tt)
-ports_bare (item.Enumerated e) h = tt
-ports_bare (item.Declared d) h = tt
-ports_bare (item.Used since n) h = tt
-ports_bare (item.Written since p) h = tt
-
-pub all_of_each : {A : Type 0} (P : A → Type 0) (p : A → Bool) (xs : List A) → ((x : A) → P x → p x ≡ true) → AllByRecursion P xs → list_all p xs ≡ true
-all_of_each P p [] to h = refl
-all_of_each P p (x ∷ xs) to h = join (p x) (list_all p xs) (to x h.0) (all_of_each P p xs to h.1)
-
 module _ (source : Source) (named : DefinitionsAreNamed source) where
   items_named : AllByRecursion Names (items source)
   items_named = in_each IsNamed definitions_of (items source) (each_by_place IsNamed (definitions source) named)
-
-  pub each_port_bare : AllByRecursion IsBare (ports source)
-  each_port_bare = each_flat IsBare ports_of (items source) (each_weaker Names (λ (i : Item). AllByRecursion IsBare (ports_of i)) ports_bare (items source) items_named)
 
   -- at any place of the first
   constants_qualified : (k : ℕ) (hs : List ConstantHere) (cs : List Constant) → AllByRecursion (λ (h : ConstantHere). is_qualified (qualified h.scope h.constant.name) ≡ true) hs

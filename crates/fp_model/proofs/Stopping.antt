@@ -1,31 +1,30 @@
--- What a stop in a phase says of the whole source.
-use Rattle.std.proofs.Common.{◌≡◌, inl, inr, Option, Some, None, refl, sym}
-use Rattle.std.specs.Prelude.{unwrap_or}
+-- What a stop in a phase says of the whole source, and that no phase is broken.
+use Rattle.std.proofs.Common.{◌≡◌, inl, inr, [], ◌∷◌, Option, Some, None, refl, sym, subst}
+use Rattle.std.specs.Prelude.{Result, Ok, Err, IfErr, IsErrAnd, unwrap_or}
 use Rattle.fp_base.specs.declared.refusal.Refusal.{Refusal}
 use Rattle.fp_base.specs.declared.refusal.Stop.{Stop}
 use Rattle.fp_base.specs.declared.refusal.Stop.TheVariants as stop
-use Rattle.fp_base.specs.Least.{IsLeast, IsUnbroken, lesser_of}
-use Rattle.fp_base.proofs.Calculus.{least_along, least_either, least_none, none_broken}
+use Rattle.fp_base.specs.Least.{IsLeast, IsUnbroken}
+use Rattle.fp_base.proofs.Calculus.{least_either, least_none, none_broken}
 use Rattle.fp_consts.specs.Answered.{IsStop}
 use Rattle.fp_names.specs.Answers as names
 use Rattle.fp_tree.specs.declared.source.Source.{Source}
 use Rattle.fp_meaning.specs.Broken.{BrokenByDefinitions, BrokenByUses, NamesBroken}
-use Rattle.fp_meaning.specs.ConstantFaults.{ConstantsBroken}
-use Rattle.fp_source_types.specs.Broken.{TypesBroken}
-use Rattle.fp_type_formats.specs.Broken.{FormatsBroken}
+use Rattle.fp_left_out.specs.Broken.{FormsLeftOut}
+use Rattle.fp_source_components.specs.Broken.{PartsBroken}
 use Rattle.fp_model.specs.Broken.{ModelBroken, ValuesBroken}
-use Rattle.fp_model.proofs.Phased.{least_first, least_last, least_later}
+use Rattle.fp_model.specs.Phases.{InPhases}
+use Rattle.fp_model.proofs.Phased.{first_unbroken, later_unbroken, least_first, least_last, least_later, none_phased}
+
+-- an error that is handed on
+pub passed : {A : Type 0} (r : Result A Stop) (s : Stop) (P : Stop → Type 0) → IsErrAnd r (λ y. y ≡ s) → P s → IfErr r P
+passed (Ok x) s P e p = tt
+passed (Err y) s P e p = subst P (sym e) p
 
 module _ (source : Source) where
-  pub names_first : (f : Refusal) → IsLeast (NamesBroken source) (Some f) → IsLeast (ModelBroken source) (Some f)
-  names_first f l = least_first f l
-
-  pub values_first : (o : Option Refusal) → IsUnbroken (NamesBroken source) → IsLeast (ValuesBroken source) o → IsLeast (ModelBroken source) o
-  values_first o none l = least_later o none (least_last o l)
-
   -- a use that means nothing, where no name is defined twice
-  pub uses_stop : IsUnbroken (BrokenByDefinitions source) → (s : Stop) → names.IsStop (BrokenByUses source) s → IsStop (ModelBroken source) s
-  uses_stop once (stop.Broken f) l = names_first f (least_either None (Some f) (least_none once) l)
+  pub uses_stop : IsUnbroken (BrokenByDefinitions source) → (s : Stop) → names.IsStop (BrokenByUses source) s → IsStop (NamesBroken source) s
+  uses_stop once (stop.Broken f) l = least_either None (Some f) (least_none once) l
   uses_stop once stop.NoMemory l = tt
 
   -- a name that is defined twice is broken
@@ -33,15 +32,52 @@ module _ (source : Source) where
   twice_broken f l = l.holds f refl
 
   -- the least of all, where one is broken
-  pub least_there : (o : Option Refusal) (f : Refusal) → BrokenByDefinitions source f → IsLeast (NamesBroken source) o → IsLeast (ModelBroken source) (Some (unwrap_or o f))
+  pub least_there : (o : Option Refusal) (f : Refusal) → BrokenByDefinitions source f → IsLeast (NamesBroken source) o → IsLeast (NamesBroken source) (Some (unwrap_or o f))
   least_there None f broken l = absurd (none_broken l f (inl broken))
-  least_there (Some g) f broken l = names_first g l
+  least_there (Some g) f broken l = l
 
   pub names_unbroken : IsUnbroken (BrokenByDefinitions source) → IsUnbroken (BrokenByUses source) → IsUnbroken (NamesBroken source)
   names_unbroken once meant f (inl b) = once f b
   names_unbroken once meant f (inr b) = meant f b
 
-  -- the least of all values, from those of constants, types and formats
-  pub values_least : (constants types formats of_types first : Option Refusal) → IsLeast (ConstantsBroken source) constants → IsLeast (TypesBroken source) types → IsLeast (FormatsBroken source) formats
-      → of_types ≡ lesser_of types formats → first ≡ lesser_of constants of_types → IsLeast (ValuesBroken source) first
-  values_least constants types formats of_types first c t f e g = least_along (sym g) (least_either constants of_types c (least_along (sym e) (least_either types formats t f)))
+  -- a stop in a phase, where those before it aren't broken
+  pub left_out_stop : (s : Stop) → IsStop (FormsLeftOut source) s → IsStop (ModelBroken source) s
+  left_out_stop (stop.Broken f) l = least_first f l
+  left_out_stop stop.NoMemory l = tt
+
+  pub names_stop : IsUnbroken (FormsLeftOut source) → (s : Stop) → IsStop (NamesBroken source) s → IsStop (ModelBroken source) s
+  names_stop built (stop.Broken f) l = least_later (Some f) built (least_first f l)
+  names_stop built stop.NoMemory l = tt
+
+  pub values_stop : IsUnbroken (FormsLeftOut source) → IsUnbroken (NamesBroken source) → (s : Stop) → IsStop (ValuesBroken source) s → IsStop (ModelBroken source) s
+  values_stop built named (stop.Broken f) l = least_later (Some f) built (least_later (Some f) named (least_first f l))
+  values_stop built named stop.NoMemory l = tt
+
+  pub parts_stop : IsUnbroken (FormsLeftOut source) → IsUnbroken (NamesBroken source) → IsUnbroken (ValuesBroken source) → (s : Stop) → IsStop (PartsBroken source) s → IsStop (ModelBroken source) s
+  parts_stop built named valued (stop.Broken f) l = least_later (Some f) built (least_later (Some f) named (least_later (Some f) valued (least_last (Some f) l)))
+  parts_stop built named valued stop.NoMemory l = tt
+
+  pub none_stops : IsUnbroken (FormsLeftOut source) → IsUnbroken (NamesBroken source) → IsUnbroken (ValuesBroken source) → IsUnbroken (PartsBroken source) → IsUnbroken (ModelBroken source)
+  none_stops built named valued whole = none_phased built (none_phased named (none_phased valued (none_phased whole (λ f p. p))))
+
+module _ (source : Source) (unbroken : IsUnbroken (ModelBroken source)) where
+  behind_forms : IsUnbroken (InPhases (NamesBroken source ∷ ValuesBroken source ∷ PartsBroken source ∷ []))
+  behind_forms = later_unbroken unbroken
+
+  behind_names : IsUnbroken (InPhases (ValuesBroken source ∷ PartsBroken source ∷ []))
+  behind_names = later_unbroken behind_forms
+
+  behind_values : IsUnbroken (InPhases (PartsBroken source ∷ []))
+  behind_values = later_unbroken behind_names
+
+  pub forms_hold : IsUnbroken (FormsLeftOut source)
+  forms_hold = first_unbroken unbroken
+
+  pub names_hold : IsUnbroken (NamesBroken source)
+  names_hold = first_unbroken behind_forms
+
+  pub values_hold : IsUnbroken (ValuesBroken source)
+  values_hold = first_unbroken behind_names
+
+  pub parts_hold : IsUnbroken (PartsBroken source)
+  parts_hold = first_unbroken behind_values

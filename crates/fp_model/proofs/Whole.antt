@@ -1,6 +1,7 @@
 -- The model that a source defines is sound.
 use Rattle.std.proofs.Common.{◌≡◌, ℕ, suc, true, List, [], ◌∷◌, length, map, flat_map, Some, refl, sym, ap, subst, ◌∙◌}
-use Rattle.std.specs.List.{AllByRecursion, list_all}
+use Rattle.std.specs.List.{list_all}
+use Rattle.std.proofs.lemmas.List.{length-map}
 use Rattle.fp_base.proofs.Bools.{join}
 use Rattle.fp_base.specs.declared.value.Value.{Value}
 use Rattle.fp_tree.specs.declared.source.Source.{Source}
@@ -12,19 +13,23 @@ use Rattle.fp_tables.specs.Types.{is_of_size}
 use Rattle.fp_tables.specs.declared.kind.Constant.{Constant}
 use Rattle.fp_tables.specs.declared.kind.PortDef.{PortDef}
 use Rattle.fp_tables.specs.declared.kind.TypeDef.{TypeDef}
+use Rattle.fp_tables.specs.declared.machine.Machine.{Machine}
 use Rattle.fp_tables.specs.declared.model.Model.{Model}
 use Rattle.fp_meaning.specs.Layout.{items}
 use Rattle.fp_meaning.specs.Names.{Path}
 use Rattle.fp_meaning.specs.Values.{Opened, Val}
 use Rattle.fp_type_forms.specs.Written.{AllAt, IsWritten, types}
 use Rattle.fp_types.specs.WellWritten.{AreSoundTypes}
+use Rattle.fp_component_forms.specs.Written.{ComponentIs, PortDefIs, component_of, components, port_definitions, port_of}
+use Rattle.fp_components.specs.Resolved.{port_def_of}
+use Rattle.fp_sound_components.specs.Sound.{AreSound}
 use Rattle.fp_source_types.specs.Named.{DefinitionsAreNamed}
 use Rattle.fp_source_types.specs.Typed.{AreTypesOf}
-use Rattle.fp_model.specs.Defined.{Defined, IsConstant, model_with}
-use Rattle.fp_model.specs.Definitions.{ConstantHere, constants_of, ports_of}
+use Rattle.fp_model.specs.Defined.{Defined, HasParts, IsConstant, model_with}
+use Rattle.fp_model.specs.Definitions.{ConstantHere, constants_of}
 use Rattle.fp_model.proofs.Lying.{same_length}
 use Rattle.fp_model.proofs.Numbering.{order_lies}
-use Rattle.fp_model.proofs.Qualified.{IsBare, each_constant_qualified, each_port_bare}
+use Rattle.fp_model.proofs.Qualified.{each_constant_qualified}
 use Rattle.fp_model.proofs.Sounds.{AreSoundLists, of_lists, sound_with}
 
 -- lists that are related place by place are as long
@@ -36,6 +41,18 @@ as_long R k (x ∷ xs) (y ∷ ys) h = ap (λ (n : ℕ). suc n) (as_long R (suc k
 
 pub types_long : (source : Source) (ts : List TypeDef) (of : AreTypesOf source (map (λ (d : TypeDef). Some d) ts)) → length (types source) ≡ length ts
 types_long source ts of = as_long (IsWritten source) 0 (types source) of.written of.are ∙ same_length source ts of
+
+module _ (source : Source) (m : Model) (h : HasParts source m) where
+  ports_long : length (flat_map port_of (items source)) ≡ length m.ports
+  ports_long =
+      let p = h.2 in
+      as_long (PortDefIs source) 0 (port_definitions source) p.written.definitions p.are.definitions ∙ sym (length-map p.written.definitions port_def_of)
+      ∙ ap (λ (ps : List PortDef). length ps) (sym p.ports)
+
+  components_long : length (flat_map component_of (items source)) ≡ length m.components
+  components_long =
+      let p = h.2 in
+      as_long (ComponentIs source) 0 (components source) p.written.components p.are.components ∙ sym p.components.each
 
 sized : (source : Source) → ((scope : Path) (s : Opened) (v : Value) → Val source scope s v → is_of_size v ≡ true) → (k : ℕ) (hs : List ConstantHere) (cs : List Constant)
     → AllAt (λ position. IsConstant source) k hs cs → list_all (λ (c : Constant). is_of_size c.value) cs ≡ true
@@ -56,24 +73,20 @@ pub record AreKnown (source : Source) (ts : List TypeDef) : Type 0 where
   pub chains : chains_are_short ts ≡ true
 
 module _ (source : Source) (m : Model) (d : Defined source m) (named : DefinitionsAreNamed source) (short : lists_are_short m ≡ true) (known : AreKnown source m.types)
-    (size : (scope : Path) (s : Opened) (v : Value) → Val source scope s v → is_of_size v ≡ true) where
-  same : model_with m.constants m.types m.ports m.order ≡ m
-  same = of_lists m d.components d.machines d.instances d.topologies
+    (parts : AreSound m.types m.machines m.ports m.components) (size : (scope : Path) (s : Opened) (v : Value) → Val source scope s v → is_of_size v ≡ true) where
+  same : model_with m.constants m.types m.ports m.components m.order ≡ m
+  same = of_lists m d.machines d.instances d.topologies
 
   constants_long : length (flat_map constants_of (items source)) ≡ length m.constants
   constants_long = as_long (IsConstant source) 0 (flat_map constants_of (items source)) m.constants d.constants
 
-  ports_long : length (flat_map ports_of (items source)) ≡ length m.ports
-  ports_long = ap (λ (ps : List PortDef). length ps) (sym d.ports)
-
-  lists : AreSoundLists m.constants m.types m.ports m.order
+  lists : AreSoundLists m.constants m.types m.ports m.components m.order
   lists = record {
     types_lie = known.lie;
     order_lies =
-        ap (list_all (item_lies (model_with m.constants m.types m.ports m.order))) d.order
-        ∙ order_lies (model_with m.constants m.types m.ports m.order) (items source) constants_long known.long ports_long;
+        ap (list_all (item_lies (model_with m.constants m.types m.ports m.components m.order))) d.order
+        ∙ order_lies (model_with m.constants m.types m.ports m.components m.order) (items source) constants_long known.long (ports_long source m d.parts) (components_long source m d.parts);
     short = ap lists_are_short same ∙ short;
-    bare = subst (λ (ps : List PortDef). AllByRecursion IsBare ps) (sym d.ports) (each_port_bare source named);
     own = known.own;
     constants_named = each_constant_qualified source named m.constants d.constants;
     types_named = known.named;
@@ -81,7 +94,8 @@ module _ (source : Source) (m : Model) (d : Defined source m) (named : Definitio
     types = known.sound;
     chains = known.chains;
     sized = sized source size 0 (flat_map constants_of (items source)) m.constants d.constants;
+    parts = subst (λ (xs : List Machine). AreSound m.types xs m.ports m.components) d.machines parts;
   }
 
   pub whole_sound : IsSound m
-  whole_sound = subst IsSound same (sound_with m.constants m.types m.ports m.order lists)
+  whole_sound = subst IsSound same (sound_with m.constants m.types m.ports m.components m.order lists)

@@ -6,10 +6,11 @@ use Rattle.fp_tables.specs.declared.model.Item.{Item as Ordered}
 use Rattle.fp_tables.specs.declared.model.Item.TheVariants as ordered
 use Rattle.fp_meaning.specs.declared.item.Item.{Item}
 use Rattle.fp_meaning.specs.declared.item.Item.TheVariants as item
+use Rattle.fp_meaning.specs.Sites.{ModelDef, component}
 use Rattle.fp_model.specs.declared.ordering.Counts.{Counts}
 
 abbrev pub none_before : Counts
-none_before = record { constants = 0; kinds = 0; ports = 0 }
+none_before = record { constants = 0; kinds = 0; ports = 0; components = 0 }
 
 abbrev pub order_by : Counts → Def → Ordered
 order_by n (def.Constant d) = ordered.Constant n.constants
@@ -18,16 +19,26 @@ order_by n _ = ordered.Kind n.kinds
 
 -- with one of that sort more
 abbrev pub counted : Counts → Def → Counts
-counted n (def.Constant d) = record { constants = n.constants + 1; kinds = n.kinds; ports = n.ports }
-counted n (def.Port p) = record { constants = n.constants; kinds = n.kinds; ports = n.ports + 1 }
-counted n _ = record { constants = n.constants; kinds = n.kinds + 1; ports = n.ports }
+counted n (def.Constant d) = record { constants = n.constants + 1; kinds = n.kinds; ports = n.ports; components = n.components }
+counted n (def.Port p) = record { constants = n.constants; kinds = n.kinds; ports = n.ports + 1; components = n.components }
+counted n _ = record { constants = n.constants; kinds = n.kinds + 1; ports = n.ports; components = n.components }
+
+abbrev pub order_by_model : Counts → ModelDef → List Ordered
+order_by_model n (component c) = ordered.Component n.components ∷ []
+order_by_model n _ = []
+
+abbrev pub counted_model : Counts → ModelDef → Counts
+counted_model n (component c) = record { constants = n.constants; kinds = n.kinds; ports = n.ports; components = n.components + 1 }
+counted_model n _ = n
 
 abbrev pub order_with : Counts → Item → List Ordered
 order_with n (item.Defined s) = order_by n s.definition ∷ []
+order_with n (item.Declared d) = order_by_model n d.definition
 order_with n _ = []
 
 abbrev pub counted_with : Counts → Item → Counts
 counted_with n (item.Defined s) = counted n s.definition
+counted_with n (item.Declared d) = counted_model n d.definition
 counted_with n _ = n
 
 abbrev pub order_from : Counts → List Item → List Ordered

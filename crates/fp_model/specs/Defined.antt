@@ -4,11 +4,14 @@ use Rattle.fp_tree.specs.declared.source.Source.{Source}
 use Rattle.fp_tables.specs.declared.kind.Constant.{Constant}
 use Rattle.fp_tables.specs.declared.kind.TypeDef.{TypeDef}
 use Rattle.fp_tables.specs.declared.kind.PortDef.{PortDef}
+use Rattle.fp_tables.specs.declared.component.Component.{Component}
 use Rattle.fp_tables.specs.declared.model.Item.{Item as Ordered}
 use Rattle.fp_tables.specs.declared.model.Model.{Model}
 use Rattle.fp_meaning.specs.Values.{opened, Val}
-use Rattle.fp_type_forms.specs.Written.{AllAt}
+use Rattle.fp_type_sizes.specs.declared.written.WrittenType.{WrittenType}
+use Rattle.fp_type_forms.specs.Written.{AllAt, AreWritten}
 use Rattle.fp_source_types.specs.Typed.{AreTypesOf}
+use Rattle.fp_source_components.specs.Built.{ArePartsOf}
 use Rattle.fp_model.specs.Definitions as written
 use Rattle.fp_model.specs.Definitions.{ConstantHere, qualified}
 
@@ -21,24 +24,27 @@ pub record IsConstant (source : Source) (h : ConstantHere) (c : Constant) : Type
 abbrev pub AreConstants : Source → List ConstantHere → List Constant → Type 0
 AreConstants source hs cs = AllAt (λ position. IsConstant source) 0 hs cs
 
--- the constants, the types, each given, and the ports, all in the order of the source; there is nothing else yet
+-- the definitions of ports, and the components, over what is written of the types
+abbrev pub HasParts : Source → Model → Type 0
+HasParts source m = (ws : List WrittenType) × AreWritten source ws × ArePartsOf source ws (record { ports = m.ports; components = m.components })
+
+-- the constants, the types, each given, the ports and the components, all in the order of the source; there is nothing else yet
 pub record Defined (source : Source) (m : Model) : Type 0 where
   pub constants : AreConstants source (written.constants source) m.constants
   pub types : AreTypesOf source (map (λ (d : TypeDef). Some d) m.types)
-  pub ports : m.ports ≡ written.ports source
-  pub components : m.components ≡ []
+  pub parts : HasParts source m
   pub machines : m.machines ≡ []
   pub instances : m.instances ≡ []
   pub topologies : m.topologies ≡ []
   pub order : m.order ≡ written.order source
 
 -- the model of these lists alone
-abbrev pub model_with : List Constant → List TypeDef → List PortDef → List Ordered → Model
-model_with cs ts ps os = record {
+abbrev pub model_with : List Constant → List TypeDef → List PortDef → List Component → List Ordered → Model
+model_with cs ts ps xs os = record {
   constants = cs;
   types = ts;
   ports = ps;
-  components = [];
+  components = xs;
   machines = [];
   instances = [];
   topologies = [];

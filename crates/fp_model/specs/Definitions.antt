@@ -1,23 +1,22 @@
--- The constants and ports of a source, and the order of its definitions of constants, types and ports. FPP Language Specification, "Constant
--- Definitions", "Port Definitions", "Names of Definitions".
--- This profile: a port is known by its name, since nothing uses ports yet. Machines, components, instances and topologies aren't listed yet, so
--- that they have no place in the order; interfaces are never listed.
-use Rattle.std.specs.Prelude.{ℕ, List, [], ◌∷◌, ◌++◌, length, flat_map, None}
+-- The constants of a source, and the order of its definitions of constants, types, ports and components. FPP Language Specification, "Constant
+-- Definitions", "Component Definitions", "Names of Definitions".
+-- This profile: machines, instances and topologies aren't listed yet, so that they have no place in the order; interfaces are never listed.
+use Rattle.std.specs.Prelude.{ℕ, List, [], ◌∷◌, ◌++◌, length, flat_map}
 use Rattle.fp_tree.specs.declared.source.Source.{Source}
 use Rattle.fp_tree.specs.declared.definition.Def.{Def}
 use Rattle.fp_tree.specs.declared.definition.Def.TheVariants as def
 use Rattle.fp_tree.specs.declared.definition.Constant.{Constant}
-use Rattle.fp_tree.specs.declared.definition.Port.{Port}
 use Rattle.fp_tree.specs.declared.name.Name.{Name}
-use Rattle.fp_tables.specs.declared.kind.PortDef.{PortDef}
 use Rattle.fp_tables.specs.declared.model.Item.{Item as Ordered}
 use Rattle.fp_tables.specs.declared.model.Item.TheVariants as ordered
 use Rattle.fp_meaning.specs.declared.item.Item.{Item}
 use Rattle.fp_meaning.specs.declared.item.Item.TheVariants as item
 use Rattle.fp_meaning.specs.Layout.{items}
 use Rattle.fp_meaning.specs.Names.{Path}
+use Rattle.fp_meaning.specs.Sites.{ModelDef, component}
 use Rattle.fp_meaning.specs.Values.{dotted}
 use Rattle.fp_type_forms.specs.Written.{types_of}
+use Rattle.fp_component_forms.specs.Written.{component_of, port_of}
 
 -- the name behind those of the modules round it, with a dot between each two
 abbrev pub qualified : Path → Name → List ℕ
@@ -43,36 +42,25 @@ constants_of _ = []
 abbrev pub constants : Source → List ConstantHere
 constants source = flat_map constants_of (items source)
 
--- a port of that name
-abbrev pub named_port : Path → Port → PortDef
-named_port scope p = record { name = qualified scope p.name; formals = []; result = None }
-
-abbrev pub ports_in : Path → Def → List PortDef
-ports_in scope (def.Port p) = named_port scope p ∷ []
-ports_in scope _ = []
-
-abbrev pub ports_of : Item → List PortDef
-ports_of (item.Defined s) = ports_in s.scope s.definition
-ports_of _ = []
-
--- in the order of the source
-abbrev pub ports : Source → List PortDef
-ports source = flat_map ports_of (items source)
-
 -- a definition behind items: by its position among those of its sort, which is how many of these stand before it
 abbrev pub order_in : List Item → Def → Ordered
 order_in before (def.Constant d) = ordered.Constant (length (flat_map constants_of before))
-order_in before (def.Port p) = ordered.Port (length (flat_map ports_of before))
+order_in before (def.Port p) = ordered.Port (length (flat_map port_of before))
 order_in before _ = ordered.Kind (length (flat_map types_of before))
+
+abbrev pub order_declared : List Item → ModelDef → List Ordered
+order_declared before (component c) = ordered.Component (length (flat_map component_of before)) ∷ []
+order_declared before _ = []
 
 abbrev pub order_of : List Item → Item → List Ordered
 order_of before (item.Defined s) = order_in before s.definition ∷ []
+order_of before (item.Declared d) = order_declared before d.definition
 order_of before _ = []
 
 abbrev pub order_behind : List Item → List Item → List Ordered
 order_behind before [] = []
 order_behind before (i ∷ is) = order_of before i ++ order_behind (before ++ i ∷ []) is
 
--- all definitions of constants, types and ports in the order of the source
+-- all definitions of constants, types, ports and components in the order of the source
 abbrev pub order : Source → List Ordered
 order source = order_behind [] (items source)

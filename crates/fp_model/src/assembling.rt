@@ -1,34 +1,43 @@
-ghost use Rattle.std.specs.Prelude.{◌≡◌, ◌&&◌, ◌^◌, Some, map, nat_lt, true, IfOk};
+ghost use Rattle.std.specs.Prelude.{◌≡◌, ◌&&◌, ◌^◌, List, Some, map, nat_lt, true, IfOk};
+ghost use Rattle.std.specs.List.{list_all};
 ghost use Rattle.fp_meaning.specs.Layout as layout;
 ghost use Rattle.fp_meaning.specs.Origins.{expressions};
 ghost use Rattle.fp_source_types.specs.Typed.{AreTypesOf};
-ghost use Rattle.fp_tables.specs.Positions.{is_short, lists_are_short};
+ghost use Rattle.fp_source_components.specs.Built.{ArePartsOf};
+ghost use Rattle.fp_tables.specs.Positions.{component_is_short, is_short, lists_are_short};
 ghost use Rattle.fp_tables.specs.declared.kind.TypeDef.{TypeDef as Given};
 ghost use Rattle.fp_tree.specs.declared.source.Source.{Source};
+ghost use Rattle.fp_type_forms.specs.Written.{AreWritten};
+ghost use Rattle.fp_type_sizes.specs.declared.written.WrittenType.{WrittenType};
 ghost use Rattle.fp_model.specs.Defined.{Defined, model_with};
 ghost use Rattle.fp_model.specs.Given.{StandFrom};
 
 use crate::constants::constants_among;
 use crate::ordering::order_among;
-use crate::ports::ports_among;
-use crate::valuing::Valued;
-use fp_base::{NoMemory, Row};
+use fp_base::{NoMemory, Row, Value};
 use fp_meaning::Item;
-use fp_tables::{Constant, Item as Ordered, Model, PortDef, TypeDef};
+use fp_source_components::Parts;
+use fp_tables::{Component, Constant, Item as Ordered, Model, PortDef, TypeDef};
 use std::alloc::Global;
 
-/// The model of a source that is laid out flat, from the values of its expressions and its types. Want of memory where a list has more items
-/// than can be numbered.
-pub fn model_of(alloc: Global, items: &[Item], valued: Valued) -> Result<Model, NoMemory>
-    ensures defined { IfOk result (λ model. (source : Source) → items.now ≡ layout.items source → StandFrom source valued.values (expressions source) 0
-        → AreTypesOf source (map (λ (d : Given). Some d) valued.types) → Defined source model) }
+/// The model of a source that is laid out flat, from the values of its expressions, its types, and its ports and components. Want of memory where
+/// a list has more items than can be numbered.
+pub fn model_of(
+    alloc: Global,
+    items: &[Item],
+    values: &[Option<Value>],
+    types: Row<TypeDef>,
+    parts: Parts,
+) -> Result<Model, NoMemory>
+    requires { list_all component_is_short parts.components ≡ true }
+    ensures defined { IfOk result (λ model. (source : Source) (ws : List WrittenType) → items.now ≡ layout.items source → StandFrom source values.now (expressions source) 0
+        → AreTypesOf source (map (λ (d : Given). Some d) types) → AreWritten source ws → ArePartsOf source ws parts → Defined source model) }
     ensures short { IfOk result (λ model. lists_are_short model ≡ true) }
 {
-    let Valued { values, types } = valued;
-    let constants = constants_among(alloc, items, values.as_slice())?;
-    let ports = ports_among(alloc, items)?;
+    let Parts { ports, components } = parts;
+    let constants = constants_among(alloc, items, values)?;
     let order = order_among(alloc, items)?;
-    let model = assembled(alloc, constants, types, ports, order)?;
+    let model = assembled(alloc, constants, types, ports, components, order)?;
     Ok(model)
 }
 
@@ -38,18 +47,22 @@ fn assembled(
     constants: Row<Constant>,
     types: Row<TypeDef>,
     ports: Row<PortDef>,
+    components: Row<Component>,
     order: Row<Ordered>,
 ) -> Result<Model, NoMemory>
-    ensures model { IfOk result (λ model. model ≡ model_with constants types ports order) }
-    ensures short { IfOk result (λ model. (is_short constants && is_short types && is_short ports) ≡ true) }
+    ensures model { IfOk result (λ model. model ≡ model_with constants types ports components order) }
+    ensures short { IfOk result (λ model. (is_short constants && is_short types && is_short ports && is_short components) ≡ true) }
 {
-    let short = is_short(constants.len()) & is_short(types.len()) & is_short(ports.len());
+    let short = is_short(constants.len())
+        & is_short(types.len())
+        & is_short(ports.len())
+        & is_short(components.len());
     if short {
         Ok(Model {
             constants,
             types,
             ports,
-            components: Row::new(alloc),
+            components,
             machines: Row::new(alloc),
             instances: Row::new(alloc),
             topologies: Row::new(alloc),

@@ -6,7 +6,6 @@ mod constants;
 mod laws;
 mod naming;
 mod ordering;
-mod ports;
 mod qualifying;
 mod resolving;
 mod valuing;

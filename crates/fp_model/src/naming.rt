@@ -4,7 +4,6 @@ ghost use Rattle.fp_consts.specs.Answered.{IsStop};
 ghost use Rattle.fp_meaning.specs.Broken.{BrokenByDefinitions, NamesBroken};
 ghost use Rattle.fp_meaning.specs.Meaning.{AreMeanings};
 ghost use Rattle.fp_meaning.specs.Names.{definitions, mentions};
-ghost use Rattle.fp_model.specs.Broken.{ModelBroken};
 
 use fp_base::{NoMemory, Refusal, Stop};
 use fp_names::{Names, collect, name_faults, uses};
@@ -16,7 +15,7 @@ use std::alloc::Global;
 pub fn names_of(alloc: Global, source: &Source) -> Result<Names, Stop>
     ensures names { IfOk result (λ names. names ≡ definitions source.now) }
     ensures once { OnOk result (IsUnbroken (BrokenByDefinitions source.now)) }
-    ensures stop { IfErr result (IsStop (ModelBroken source.now)) }
+    ensures stop { IfErr result (IsStop (NamesBroken source.now)) }
 {
     match collect(alloc, source) {
         Ok(names) => Ok(names),
@@ -28,7 +27,7 @@ pub fn names_of(alloc: Global, source: &Source) -> Result<Names, Stop>
 /// The least rule of names, where a name is defined twice.
 fn least_name(alloc: Global, source: &Source, twice: Refusal) -> Stop
     requires { BrokenByDefinitions source.now twice }
-    ensures { IsStop (ModelBroken source.now) result }
+    ensures { IsStop (NamesBroken source.now) result }
 {
     match name_faults(alloc, source) {
         Ok(first) => Stop::Broken(first.unwrap_or(twice)),
@@ -42,7 +41,7 @@ pub fn uses_of(alloc: Global, source: &Source, names: &Names) -> Result<Uses, St
     requires once { IsUnbroken (BrokenByDefinitions source.now) }
     ensures meanings { IfOk result (λ uses. AreMeanings (definitions source.now) (mentions source.now) uses.meanings) }
     ensures unbroken { OnOk result (IsUnbroken (NamesBroken source.now)) }
-    ensures stop { IfErr result (IsStop (ModelBroken source.now)) }
+    ensures stop { IfErr result (IsStop (NamesBroken source.now)) }
 {
     uses(alloc, source, names)
 }

@@ -1,20 +1,23 @@
 ghost use Rattle.std.specs.Prelude.{◌≡◌, ◌+◌, ◌++◌, ◌∷◌, [], IfOk, List};
 ghost use Rattle.fp_meaning.specs.declared.item.Item.{Item as Laid};
-ghost use Rattle.fp_model.specs.Counted.{counted, none_before, order_by, order_from, order_with};
+ghost use Rattle.fp_meaning.specs.Read.{read};
+ghost use Rattle.fp_tables.specs.declared.model.Item.TheVariants.{Component};
+ghost use Rattle.fp_model.specs.Counted.{counted, counted_model, none_before, order_by, order_by_model, order_from, order_with};
 ghost use Rattle.fp_model.specs.Definitions.{order_behind};
 
 use fp_base::{NoMemory, Row};
-use fp_meaning::Item;
+use fp_meaning::{Item, ModelDef};
 use fp_tables::Item as Ordered;
 use fp_tree::Def;
 use std::alloc::Global;
 
-/// How many constants, types and ports stand before an item.
+/// How many constants, types, ports and components stand before an item.
 #[derive(Clone, Copy)]
 pub struct Counts {
     pub constants: u32,
     pub kinds: u32,
     pub ports: u32,
+    pub components: u32,
 }
 
 /// The definitions among items, in their order. Want of memory where so many of one sort have no number.
@@ -42,6 +45,7 @@ fn none_before() -> Counts
         constants: 0,
         kinds: 0,
         ports: 0,
+        components: 0,
     }
 }
 
@@ -51,7 +55,7 @@ fn add_item(item: &Item, before: Counts, found: &mut Row<Ordered>) -> Result<Cou
     match item {
         Item::Defined(sited) => add_definition(sited.definition(), before, found),
         Item::Enumerated(_) => Ok(before),
-        Item::Declared(_) => Ok(before),
+        Item::Declared(declared) => add_declared(declared.definition(), before, found),
         Item::Used { .. } => Ok(before),
         Item::Written { .. } => Ok(before),
     }
@@ -67,6 +71,38 @@ fn add_definition(
 {
     found.push(order_by(definition, before))?;
     counted(definition, before)
+}
+
+/// A component is listed; what else is declared has no place in the order.
+fn add_declared(
+    definition: ModelDef,
+    before: Counts,
+    found: &mut Row<Ordered>,
+) -> Result<Counts, NoMemory>
+    ensures found { IfOk result (λ after. found.new ≡ found.old ++ order_by_model before (read definition.entry)) }
+    ensures counts { IfOk result (λ after. after ≡ counted_model before (read definition.entry)) }
+{
+    match definition {
+        ModelDef::Machine(_) => Ok(before),
+        ModelDef::Component(_) => add_component(before, found),
+        ModelDef::Interface(_) => Ok(before),
+        ModelDef::Instance(_) => Ok(before),
+        ModelDef::Topology(_) => Ok(before),
+    }
+}
+
+fn add_component(before: Counts, found: &mut Row<Ordered>) -> Result<Counts, NoMemory>
+    ensures found { IfOk result (λ after. found.new ≡ found.old ++ Component before.components ∷ []) }
+    ensures counts { IfOk result (λ after. after ≡ record { constants = before.constants; kinds = before.kinds; ports = before.ports; components = before.components + 1 }) }
+{
+    found.push(Ordered::Component(before.components))?;
+    let components = one_more(before.components)?;
+    Ok(Counts {
+        constants: before.constants,
+        kinds: before.kinds,
+        ports: before.ports,
+        components,
+    })
 }
 
 fn order_by(definition: &Def, before: Counts) -> Ordered
@@ -98,35 +134,38 @@ fn counted(definition: &Def, before: Counts) -> Result<Counts, NoMemory>
 }
 
 fn with_constant(before: Counts) -> Result<Counts, NoMemory>
-    ensures { IfOk result (λ after. after ≡ record { constants = before.constants + 1; kinds = before.kinds; ports = before.ports }) }
+    ensures { IfOk result (λ after. after ≡ record { constants = before.constants + 1; kinds = before.kinds; ports = before.ports; components = before.components }) }
 {
     let constants = one_more(before.constants)?;
     Ok(Counts {
         constants,
         kinds: before.kinds,
         ports: before.ports,
+        components: before.components,
     })
 }
 
 fn with_kind(before: Counts) -> Result<Counts, NoMemory>
-    ensures { IfOk result (λ after. after ≡ record { constants = before.constants; kinds = before.kinds + 1; ports = before.ports }) }
+    ensures { IfOk result (λ after. after ≡ record { constants = before.constants; kinds = before.kinds + 1; ports = before.ports; components = before.components }) }
 {
     let kinds = one_more(before.kinds)?;
     Ok(Counts {
         constants: before.constants,
         kinds,
         ports: before.ports,
+        components: before.components,
     })
 }
 
 fn with_port(before: Counts) -> Result<Counts, NoMemory>
-    ensures { IfOk result (λ after. after ≡ record { constants = before.constants; kinds = before.kinds; ports = before.ports + 1 }) }
+    ensures { IfOk result (λ after. after ≡ record { constants = before.constants; kinds = before.kinds; ports = before.ports + 1; components = before.components }) }
 {
     let ports = one_more(before.ports)?;
     Ok(Counts {
         constants: before.constants,
         kinds: before.kinds,
         ports,
+        components: before.components,
     })
 }
 

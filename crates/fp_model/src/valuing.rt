@@ -1,35 +1,45 @@
-ghost use Rattle.std.specs.Prelude.{◌≡◌, Some, map, IfErr, IfOk, OnOk};
-ghost use Rattle.fp_base.specs.Least.{IsUnbroken};
+ghost use Rattle.std.specs.Prelude.{◌≡◌, IfErr, IfOk, OnOk};
+ghost use Rattle.fp_base.specs.Least.{Either, IsLeast, IsUnbroken};
 ghost use Rattle.fp_consts.specs.Answered.{IsStop};
 ghost use Rattle.fp_meaning.specs.Broken.{NamesBroken};
 ghost use Rattle.fp_meaning.specs.Layout as layout;
 ghost use Rattle.fp_meaning.specs.Meaning.{AreMeanings};
 ghost use Rattle.fp_meaning.specs.Names.{definitions, mentions};
 ghost use Rattle.fp_meaning.specs.Origins.{expressions};
+ghost use Rattle.fp_part_forms.specs.Broken.{PartFormsBroken};
+ghost use Rattle.fp_source_components.specs.Valued.{IsValued};
 ghost use Rattle.fp_source_types.specs.Listed.{EnumsHaveConstants};
-ghost use Rattle.fp_source_types.specs.Typed.{AreTypesOf};
-ghost use Rattle.fp_tables.specs.declared.kind.TypeDef.{TypeDef as Given};
-ghost use Rattle.fp_model.specs.Broken.{ModelBroken, ValuesBroken};
+ghost use Rattle.fp_source_types.specs.Measured.{IsMeasured};
+ghost use Rattle.fp_tree.specs.declared.source.Source.{Source as Files};
+ghost use Rattle.fp_type_forms.specs.Resolved.{AreResolved};
+ghost use Rattle.fp_type_forms.specs.Written.{AreWritten};
+ghost use Rattle.fp_model.specs.Broken.{ConversionsBroken, ValuesBroken};
 ghost use Rattle.fp_model.specs.Given.{StandFrom};
 
-use fp_base::{Row, Stop, Value, lesser};
+use fp_base::{Refusal, Row, Stop, Value, lesser};
 use fp_consts::evaluate_all;
 use fp_meaning::Item;
 use fp_names::Names;
-use fp_source_types::{given_among, types_in, unbroken_types_exist, unbroken_values_exist};
+use fp_part_forms::part_form_faults;
+use fp_part_values::part_value_faults;
+use fp_source_types::{
+    Measured, given_among, measured_in, types_measured, unbroken_types_exist, unbroken_values_exist,
+};
 use fp_tables::TypeDef;
 use fp_tree::{Source, Uses};
 use fp_type_formats::formats_broken;
 use std::alloc::Global;
 
-/// The values of the expressions of a source, and its types.
+/// The values of the expressions of a source, what is found of its types by their forms, and its types.
 #[derive(Drop)]
 pub struct Valued {
     pub values: Row<Option<Value>>,
+    pub measured: Measured,
     pub types: Row<TypeDef>,
 }
 
-/// The values of the expressions and the types of a source that is laid out flat, or the least rule of constants, types and formats that it breaks.
+/// The values of the expressions and the types of a source that is laid out flat, or the least rule that it breaks of constants, types, formats and
+/// what belongs to components.
 pub fn values_of(
     alloc: Global,
     source: &Source,
@@ -43,25 +53,45 @@ pub fn values_of(
     requires names { IsUnbroken (NamesBroken source.now) }
     requires enumerations { EnumsHaveConstants source.now }
     ensures values { IfOk result (λ valued. StandFrom source.now valued.values (expressions source.now) 0) }
-    ensures types { IfOk result (λ valued. AreTypesOf source.now (map (λ (d : Given). Some d) valued.types)) }
+    ensures valued { IfOk result (λ found. IsValued source.now found.values found.measured.resolutions found.measured.written found.types) }
+    ensures measured { IfOk result (λ valued. IsMeasured valued.measured) }
     ensures unbroken { OnOk result (IsUnbroken (ValuesBroken source.now)) }
-    ensures stop { IfErr result (IsStop (ModelBroken source.now)) }
+    ensures stop { IfErr result (IsStop (ValuesBroken source.now)) }
 {
     unbroken_types_exist();
     unbroken_values_exist();
     let marks = evaluate_all(alloc, source, uses)?;
-    let types = types_in(alloc, items, uses, marks.at.as_slice())?;
+    let values = marks.at.as_slice();
+    let measured = measured_in(alloc, items, uses, values)?;
+    let types = types_measured(alloc, items, uses, values, &measured)?;
     let formats = formats_broken(alloc, items, names)?;
-    let of_types = lesser(types.first, formats);
+    let of_parts = parts_broken(items, &measured, values);
+    let behind = lesser(formats, of_parts);
+    let of_types = lesser(types.first, behind);
     let first = lesser(marks.first, of_types);
     match first {
         None => {
             let given = given_among(alloc, types.at)?;
             Ok(Valued {
                 values: marks.at,
+                measured,
                 types: given,
             })
         }
         Some(refusal) => Err(Stop::Broken(refusal)),
     }
+}
+
+/// The least rule of values that is broken in what belongs to components.
+fn parts_broken(items: &[Item], measured: &Measured, values: &[Option<Value>]) -> Option<Refusal>
+    requires { IsMeasured measured.now }
+    ensures { (source : Files) → items.now ≡ layout.items source → AreResolved source values.now measured.now.resolutions items.now 0
+        → AreWritten source measured.now.written → IsLeast (Either (PartFormsBroken source) (ConversionsBroken source)) result }
+{
+    let resolutions = measured.resolutions.as_slice();
+    let types = measured.written.as_slice();
+    let sizes = measured.extents.as_slice();
+    let forms = part_form_faults(items, resolutions, values);
+    let conversions = part_value_faults(items, resolutions, values, types, sizes);
+    lesser(forms, conversions)
 }

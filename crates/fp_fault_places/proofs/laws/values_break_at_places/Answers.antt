@@ -1,4 +1,4 @@
-use Rattle.fp_fault_places.proofs.Values.{values_placed}
+use Rattle.fp_fault_places.proofs.Standing.{values_placed}
 use Rattle.fp_fault_places.proofs.laws.values_break_at_places.Goals as goal
 
 pub returns : goal.returns

@@ -2,8 +2,8 @@ use Rattle.std.proofs.Common.{refl}
 use Rattle.std.specs.Fmt.{digits}
 use Rattle.fp_main.proofs.laws.worked_lines.Goals as goal
 
-pub returns-clause-listing : goal.returns-clause-listing
-returns-clause-listing c p name = rw name refl
+pub returns-clause-port : goal.returns-clause-port
+returns-clause-port c = refl
 
 pub returns-clause-refusal : goal.returns-clause-refusal
 unfolding digits

@@ -1,0 +1,58 @@
+-- What a source breaks beside rules of names, and the forms that are left out in it, are at its places.
+use Rattle.std.proofs.Common.{List, inl, inr}
+use Rattle.std.specs.List.{AllByRecursion as Each}
+use Rattle.fp_base.specs.declared.refusal.Refusal.{Refusal}
+use Rattle.fp_base.proofs.Lists.{each_contained, of_item}
+use Rattle.fp_tree.specs.declared.source.Source.{Source}
+use Rattle.fp_tables.specs.declared.kind.TypeDef.{TypeDef}
+use Rattle.fp_meaning.specs.Layout.{items}
+use Rattle.fp_component_forms.specs.declared.writing.WrittenSource.{WrittenSource}
+use Rattle.fp_component_forms.specs.Written.{IsWrittenSource}
+use Rattle.fp_left_out.specs.Broken.{FormsLeftOut}
+use Rattle.fp_source_components.specs.Broken.{BrokenBy, PartsBroken}
+use Rattle.fp_model.specs.Broken.{ValuesBroken}
+use Rattle.fp_places.specs.Places.{places_of}
+use Rattle.fp_fault_places.specs.Standing.{IsPlaceOf}
+use Rattle.fp_fault_places.proofs.Constants.{StandOf, constants_placed}
+use Rattle.fp_fault_places.proofs.Conversions.{conversions_placed}
+use Rattle.fp_fault_places.proofs.Dictionaries.{dictionary_placed}
+use Rattle.fp_fault_places.proofs.Formats.{formats_placed}
+use Rattle.fp_fault_places.proofs.LeftOut.{left_out_placed}
+use Rattle.fp_fault_places.proofs.PartForms.{part_forms_placed}
+use Rattle.fp_fault_places.proofs.PortRules.{ports_placed}
+use Rattle.fp_fault_places.proofs.Types.{types_broken}
+use Rattle.fp_fault_places.proofs.Wholes.{wholes_placed}
+use Rattle.fp_fault_places.proofs.WrittenSource.{ComponentStands, InterfaceStands, components_stand, definitions_stand, interfaces_stand}
+
+-- each place of an item of the source is one
+all_stand : (source : Source) → Each (StandOf (IsPlaceOf source)) (items source)
+all_stand source =
+    each_contained (StandOf (IsPlaceOf source)) (items source)
+    (λ i there. each_contained (IsPlaceOf source) (places_of i) (λ place among. (i, there, among)))
+
+pub values_placed : (source : Source) (f : Refusal) → ValuesBroken source f → IsPlaceOf source f.place
+values_placed source f (inl b) = constants_placed (IsPlaceOf source) source (all_stand source) f b
+values_placed source f (inr (inl b)) = types_broken (IsPlaceOf source) source (all_stand source) f b
+values_placed source f (inr (inr (inl b))) = formats_placed (IsPlaceOf source) source (all_stand source) f b
+values_placed source f (inr (inr (inr (inl b)))) = part_forms_placed (IsPlaceOf source) source (all_stand source) f b
+values_placed source f (inr (inr (inr (inr (ws, are, b))))) = conversions_placed (IsPlaceOf source) source ws (all_stand source) f b
+
+pub forms_placed : (source : Source) (f : Refusal) → FormsLeftOut source f → IsPlaceOf source f.place
+forms_placed source f b = left_out_placed (IsPlaceOf source) source (all_stand source) f b
+
+module _ (source : Source) (w : WrittenSource) (are : IsWrittenSource source w) where
+  interfaces_placed : Each (InterfaceStands (IsPlaceOf source)) w.interfaces
+  interfaces_placed = interfaces_stand (IsPlaceOf source) source (all_stand source) w are
+
+  components_placed : Each (ComponentStands (IsPlaceOf source)) w.components
+  components_placed = components_stand (IsPlaceOf source) source (all_stand source) w are
+
+  written_placed : (types : List TypeDef) (f : Refusal) → BrokenBy types w f → IsPlaceOf source f.place
+  written_placed types f (inl b) =
+      ports_placed (IsPlaceOf source) w.definitions w.interfaces w.components f (definitions_stand (IsPlaceOf source) source (all_stand source) w are) interfaces_placed components_placed b
+  written_placed types f (inr (inl (k, c, at, b))) =
+      dictionary_placed (IsPlaceOf source) types c f (of_item (ComponentStands (IsPlaceOf source)) w.components k c components_placed at) b
+  written_placed types f (inr (inr b)) = wholes_placed (IsPlaceOf source) w.interfaces w.components f interfaces_placed components_placed b
+
+pub parts_placed : (source : Source) (f : Refusal) → PartsBroken source f → IsPlaceOf source f.place
+parts_placed source f b = written_placed source b.written b.are b.types f b.broken
