@@ -1,5 +1,6 @@
 mod Counting
 mod Folding
+mod Instances
 mod Naming
 mod Noting
 mod Numbered

@@ -67,7 +67,7 @@ pub name_added : (old new : BTreeSet (Bor (List ℕ))) (k : Bor (List ℕ)) → 
 name_added old new k is q =
     ap (λ (ks : List (Bor (List ℕ))). list_any (is_it q k) ks) is ∙ inserted q k old.keys ∙ ap (λ (b : Bool). has_name old q || b) (is_eq-slice_cmp q k.now)
 
-no_name : (seen : BTreeSet (Bor (List ℕ))) → seen.keys ≡ [] → (q : List ℕ) → has_name seen q ≡ false
+pub no_name : (seen : BTreeSet (Bor (List ℕ))) → seen.keys ≡ [] → (q : List ℕ) → has_name seen q ≡ false
 no_name seen is q = ap (λ (ks : List (Bor (List ℕ))). list_any (λ (x : Bor (List ℕ)). is_eq (slice_cmp nat_cmp q x.now)) ks) is
 
 -- ---- names of elements

@@ -1,4 +1,4 @@
-//! Which commands, events, channels and parameters components list, their ids, and which rules they break.
+//! Which commands, events, channels and parameters components list, their ids, and which rules these and instances of state machines break.
 #![tactic(auto)]
 
 mod faults;
@@ -10,7 +10,9 @@ mod longs;
 mod members;
 mod names;
 mod numbering;
+mod running;
 
 pub use faults::dictionary_faults;
 pub use listed::{Listed, Lists, lists_of};
 pub use numbering::ids_of;
+pub use running::running_faults;

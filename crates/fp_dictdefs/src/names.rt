@@ -42,7 +42,7 @@ pub fn repeated_formal(
 }
 
 /// Whether the name was seen before; it is from here on.
-fn see<'a>(seen: &mut BTreeSet<&'a str>, name: &'a str) -> Result<bool, NoMemory>
+pub fn see<'a>(seen: &mut BTreeSet<&'a str>, name: &'a str) -> Result<bool, NoMemory>
     ensures again { IfOk result (λ again. again ≡ has_name seen.old name.now) }
     ensures seen { OnOk result ((q : List ℕ) → has_name seen.new q ≡ (has_name seen.old q || bytes_eq q name.now)) }
 {

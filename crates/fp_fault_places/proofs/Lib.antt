@@ -3,13 +3,14 @@ mod Conversions
 mod Dictionaries
 mod Expressions
 mod Formats
-mod LeftOut
+mod Machines
 mod Parted
 mod PartForms
 mod PartNames
 mod PartNumbers
 mod PortRules
 mod Standing
+mod States
 mod Types
 mod Wholes
 mod Written

@@ -2,6 +2,7 @@
 use Rattle.std.proofs.Common.{List, Option, Some, None}
 use Rattle.std.specs.List.{AllByRecursion as Each}
 use Rattle.fp_base.specs.declared.place.Place.{Place}
+use Rattle.fp_base.specs.declared.place.Span.{Span}
 use Rattle.fp_base.proofs.Lists.{each_flat, each_mapped, each_weaker}
 use Rattle.fp_tree.specs.declared.type_name.TypeName.{TypeName}
 use Rattle.fp_tree.specs.declared.part.Formal.{Formal}
@@ -37,17 +38,17 @@ module _ (G : Place → Type 0) where
   maybe_named None h = tt
   maybe_named (Some t) h = (h, tt)
 
-  form_named : (e : ElementForm) → Each G (places_in_element_form e) → Each TypeStands (form_names e)
-  form_named (element.Signal t) h = maybe_named t.of h
-  form_named (element.Action t) h = maybe_named t.of h
-  form_named (element.Guard t) h = maybe_named t.of h
-  form_named e h = tt
+  form_named : (at : Span) (e : ElementForm) → Each G (places_in_element_form at e) → Each TypeStands (form_names e)
+  form_named at (element.Signal t) h = maybe_named t.of h.1
+  form_named at (element.Action t) h = maybe_named t.of h.1
+  form_named at (element.Guard t) h = maybe_named t.of h.1
+  form_named at e h = tt
 
   behavior_named : (o : Option Behavior) → Each G (in_optional places_in_behavior o) → Each TypeStands (in_optional behavior_names o)
   behavior_named None h = tt
   behavior_named (Some b) h =
       each_flat TypeStands element_names b.elements
-      (each_weaker (λ (e : BehaviorElement). Each G (places_in_element e)) (λ (e : BehaviorElement). Each TypeStands (element_names e)) (λ e k. form_named e.form k) b.elements
+      (each_weaker (λ (e : BehaviorElement). Each G (places_in_element e)) (λ (e : BehaviorElement). Each TypeStands (element_names e)) (λ e k. form_named e.at e.form k) b.elements
       (split G places_in_element b.elements h))
 
   pub model_named : (d : ModelDef) → Each G (places_of_model d) → Each TypeStands (type_names_of d)

@@ -1,4 +1,4 @@
--- What a source breaks beside rules of names, and the forms that are left out in it, are at its places.
+-- What a source breaks beside rules of names is broken at its places.
 use Rattle.std.proofs.Common.{List, inl, inr}
 use Rattle.std.specs.List.{AllByRecursion as Each}
 use Rattle.fp_base.specs.declared.refusal.Refusal.{Refusal}
@@ -8,18 +8,18 @@ use Rattle.fp_tables.specs.declared.kind.TypeDef.{TypeDef}
 use Rattle.fp_meaning.specs.Layout.{items}
 use Rattle.fp_component_forms.specs.declared.writing.WrittenSource.{WrittenSource}
 use Rattle.fp_component_forms.specs.Written.{IsWrittenSource}
-use Rattle.fp_left_out.specs.Broken.{FormsLeftOut}
 use Rattle.fp_source_components.specs.Broken.{BrokenBy, PartsBroken}
-use Rattle.fp_model.specs.Broken.{ValuesBroken}
+use Rattle.fp_source_components.specs.Machines.{externals}
+use Rattle.fp_model.specs.Broken.{StatesBroken, ValuesBroken}
 use Rattle.fp_places.specs.Places.{places_of}
 use Rattle.fp_fault_places.specs.Standing.{IsPlaceOf}
 use Rattle.fp_fault_places.proofs.Constants.{StandOf, constants_placed}
 use Rattle.fp_fault_places.proofs.Conversions.{conversions_placed}
 use Rattle.fp_fault_places.proofs.Dictionaries.{dictionary_placed}
 use Rattle.fp_fault_places.proofs.Formats.{formats_placed}
-use Rattle.fp_fault_places.proofs.LeftOut.{left_out_placed}
 use Rattle.fp_fault_places.proofs.PartForms.{part_forms_placed}
 use Rattle.fp_fault_places.proofs.PortRules.{ports_placed}
+use Rattle.fp_fault_places.proofs.States.{instances_placed, machines_placed}
 use Rattle.fp_fault_places.proofs.Types.{types_broken}
 use Rattle.fp_fault_places.proofs.Wholes.{wholes_placed}
 use Rattle.fp_fault_places.proofs.WrittenSource.{ComponentStands, InterfaceStands, components_stand, definitions_stand, interfaces_stand}
@@ -37,9 +37,6 @@ values_placed source f (inr (inr (inl b))) = formats_placed (IsPlaceOf source) s
 values_placed source f (inr (inr (inr (inl b)))) = part_forms_placed (IsPlaceOf source) source (all_stand source) f b
 values_placed source f (inr (inr (inr (inr (ws, are, b))))) = conversions_placed (IsPlaceOf source) source ws (all_stand source) f b
 
-pub forms_placed : (source : Source) (f : Refusal) → FormsLeftOut source f → IsPlaceOf source f.place
-forms_placed source f b = left_out_placed (IsPlaceOf source) source (all_stand source) f b
-
 module _ (source : Source) (w : WrittenSource) (are : IsWrittenSource source w) where
   interfaces_placed : Each (InterfaceStands (IsPlaceOf source)) w.interfaces
   interfaces_placed = interfaces_stand (IsPlaceOf source) source (all_stand source) w are
@@ -56,3 +53,7 @@ module _ (source : Source) (w : WrittenSource) (are : IsWrittenSource source w) 
 
 pub parts_placed : (source : Source) (f : Refusal) → PartsBroken source f → IsPlaceOf source f.place
 parts_placed source f b = written_placed source b.written b.are b.types f b.broken
+
+pub states_placed : (source : Source) (f : Refusal) → StatesBroken source f → IsPlaceOf source f.place
+states_placed source f (inl b) = machines_placed (IsPlaceOf source) source (all_stand source) f b
+states_placed source f (inr b) = instances_placed (IsPlaceOf source) (externals source) b.written.components f (components_placed source b.written b.are) b.broken

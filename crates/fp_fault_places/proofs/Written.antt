@@ -86,6 +86,7 @@ module _ (G : Place → Type 0) where
     pub of_limits : Each LimitStands w.limits
 
   pub record RunningStands (w : WrittenRunning) : Type 0 where
+    pub here : G w.at
     pub first : G w.begins
     pub of_queue : QueueStands w.queue
 
@@ -190,6 +191,7 @@ module _ (G : Place → Type 0) where
 
     running_stands : (r : Running) (w : WrittenRunning) → PartStands G (part.Running r) → RunningIs source scope r w → RunningStands w
     running_stands r w h is = record {
+      here = subst G (sym is.at) h.1.0;
       first = subst G (sym is.begins) h.0;
       of_queue = queue_stands r.priority r.full r.queue_word w.queue (each_before G (places_in_value r.priority) (places_of_word r.queue_word) h.1.1)
           (each_behind G (places_in_value r.priority) (places_of_word r.queue_word) h.1.1) is.queue;

@@ -18,7 +18,7 @@ use Rattle.fp_tree.specs.declared.member.Unit.{Unit as File}
 use Rattle.fp_tree.specs.declared.topology.TMember.{TMember}
 use Rattle.fp_meaning.specs.declared.item.Item.{Item}
 use Rattle.fp_meaning.specs.declared.item.Item.TheVariants as item
-use Rattle.fp_meaning.specs.Sites.{Path, ModelDef, component, declaration}
+use Rattle.fp_meaning.specs.Sites.{Path, component, declaration}
 use Rattle.fp_meaning.specs.Layout.{in_members, items}
 use Rattle.fp_sites.specs.Sites.{in_parts}
 use Rattle.fp_gather.proofs.KeptByWalks.{units_kept}
@@ -83,11 +83,11 @@ PartsGive P = (tokens : List Token) (ps : List Part) → SpellsFile component_pa
 abbrev AnyPart : Part → Type 0
 AnyPart p = Unit {0}
 
--- where it holds of each definition beside constants, types and ports
-pub items_have : (P : Item → Type 0) → ((scope : Path) (d : ModelDef) → P (item.Declared (declaration scope d))) → MembersGive P → PartsGive P
+-- where it holds of each component, whatever is included in it
+pub items_have : (P : Item → Type 0) → ((scope : Path) (c : Component) → P (item.Declared (declaration scope (component c)))) → MembersGive P → PartsGive P
     → (told : Option (List HeldFile)) (names : List (List ℕ)) (walked : Walked) (units : List (List Member))
     → WalksFiles told names nothing_read (Went walked units) → AllByRecursion P (items (source_of walked units))
 items_have P declared members parts =
-    items_kept P AnyPart (λ scope c h. each_of_any AnyPart (λ p. tt) c.parts) (λ scope c ps h k. declared scope (component (with_parts c ps)))
+    items_kept P AnyPart (λ scope c h. each_of_any AnyPart (λ p. tt) c.parts) (λ scope c ps h k. declared scope (with_parts c ps))
     (λ tokens ms s scope. each_contained P (in_members scope ms) (members tokens ms s scope))
     (λ tokens ps s. (each_of_any AnyPart (λ p. tt) ps, λ scope. each_contained P (in_parts scope ps) (parts tokens ps s scope)))

@@ -1,5 +1,5 @@
 -- Where all names in members are names of the language, what their items define has such names.
-use Rattle.std.proofs.Common.{◌≡◌, ℕ, suc, true, ◌&&◌, List, [], ◌∷◌, ◌++◌, flat_map, map, Option, sym, subst, refl}
+use Rattle.std.proofs.Common.{◌≡◌, ℕ, suc, true, ◌&&◌, List, [], ◌∷◌, ◌++◌, flat_map, map, Option, Some, None, sym, subst, refl}
 use Rattle.std.specs.List.{AllByRecursion as Each, list_all, Contains}
 use Rattle.fp_base.specs.Names.{is_name}
 use Rattle.fp_base.proofs.Bools.{both, join}
@@ -21,6 +21,10 @@ use Rattle.fp_tree.specs.declared.part.Formal.{Formal}
 use Rattle.fp_tree.specs.declared.definition.Def.{Def}
 use Rattle.fp_tree.specs.declared.definition.Def.TheVariants as def
 use Rattle.fp_tree.specs.declared.definition.Enum.{Enum}
+use Rattle.fp_tree.specs.declared.machine.Behavior.{Behavior}
+use Rattle.fp_tree.specs.declared.machine.BehaviorElement.{BehaviorElement}
+use Rattle.fp_tree.specs.declared.machine.ElementForm.{ElementForm}
+use Rattle.fp_tree.specs.declared.machine.ElementForm.TheVariants as element
 use Rattle.fp_tree.specs.declared.machine.Machine.{Machine}
 use Rattle.fp_tree.specs.declared.component.Component.{Component}
 use Rattle.fp_tree.specs.declared.component.Part.{Part}
@@ -45,7 +49,7 @@ use Rattle.fp_meaning.proofs.Since.{AllSince, since_behavior, since_each, since_
 use Rattle.fp_meaning.proofs.Throughout.{in_module, member_rolled, members_rolled}
 use Rattle.fp_sites.specs.Names.{names_in, names_of_member, names_of_module, names_within}
 use Rattle.fp_sites.specs.Parts.{names_in_constant, names_in_definition, names_in_expression, names_in_field, names_in_formal, names_in_type}
-use Rattle.fp_sites.specs.Machines.{names_in_machine}
+use Rattle.fp_sites.specs.Machines.{names_in_behavior, names_in_element, names_in_element_form, names_in_machine}
 use Rattle.fp_sites.specs.Components.{names_in_component, names_in_interface, names_in_interface_part, names_in_part}
 use Rattle.fp_sites.specs.Topologies.{names_in_instance, names_in_topology}
 use Rattle.fp_sites.specs.Written.{NamesAreWritten, PartNamesAreWritten}
@@ -53,7 +57,7 @@ use Rattle.fp_gather.proofs.ItemsKept.{by_kind, file_given}
 use Rattle.fp_gather.proofs.KeptByWalks.{units_kept}
 use Rattle.fp_gather.proofs.PartsHold.{HaveNames, in_each, names_inside, names_opened, names_rolled, replaced_names}
 use Rattle.fp_gather.specs.gathering.Gathered.{file_of, source_of}
-use Rattle.fp_names.specs.Named.{HasNamedParts, formals_are_named, interface_part_is_named, part_is_named}
+use Rattle.fp_names.specs.Named.{HasNamedParts, elements_are_named, elements_in, form_is_named, formals_are_named, interface_part_is_named, part_is_named}
 use Rattle.fp_gather.specs.gathering.Names.{IsNamed}
 use Rattle.fp_gather.specs.gathering.Reading.{nothing_in}
 use Rattle.fp_gather.specs.gathering.Walks.{Walked, Went, WalksFiles, nothing_read}
@@ -188,8 +192,31 @@ interface_parts_named (p ∷ ps) h =
     (interface_part_named p (each_before IsName (names_in_interface_part p) (flat_map names_in_interface_part ps) h))
     (interface_parts_named ps (each_behind IsName (names_in_interface_part p) (flat_map names_in_interface_part ps) h))
 
+form_named : (f : ElementForm) → Each IsName (names_in_element_form f) → form_is_named f ≡ true
+form_named (element.State n) h = h.0
+form_named (element.Choice c) h = h.0
+form_named (element.Signal t) h = h.0
+form_named (element.Action t) h = h.0
+form_named (element.Guard t) h = h.0
+form_named (element.Initial g) h = refl
+form_named (element.On o) h = refl
+form_named (element.Entry d) h = refl
+form_named (element.Exit d) h = refl
+
+elements_named : (es : List BehaviorElement) → Each IsName (flat_map names_in_element es) → elements_are_named es ≡ true
+elements_named [] h = refl
+elements_named (e ∷ es) h =
+    join (form_is_named e.form) (elements_are_named es)
+    (form_named e.form (each_before IsName (names_in_element e) (flat_map names_in_element es) h))
+    (elements_named es (each_behind IsName (names_in_element e) (flat_map names_in_element es) h))
+
+behavior_named : (o : Option Behavior) → Each IsName (in_optional names_in_behavior o) → elements_are_named (elements_in o) ≡ true
+behavior_named None h = refl
+behavior_named (Some b) h = elements_named b.elements h
+
 machine_named : (scope : Path) (m : Machine) → AreNames scope → Each IsName (names_in_machine m) → Each IsNamed (machine_items scope m)
-machine_named scope m s h = declared_named scope (machine m) (in_optional (behavior_items scope) m.behavior) s h.0 tt (since_behavior scope m.behavior)
+machine_named scope m s h =
+    declared_named scope (machine m) (in_optional (behavior_items scope) m.behavior) s h.0 (behavior_named m.behavior h.1) (since_behavior scope m.behavior)
 
 inner_named : (scope : Path) (p : Part) → AreNames scope → Each IsName (names_in_part p) → Each IsNamed (inner_items scope p)
 inner_named scope (part.Def d) s h = definition_named scope d s h

@@ -29,6 +29,7 @@ pub struct Scopes {
     pub guards: BTreeMap<Key, u32>,
 }
 
+/// The names of a machine, by the numbers of its spellings and its items by themselves.
 pub fn scopes_of(
     alloc: Global,
     spellings: BTreeMap<String, u32>,

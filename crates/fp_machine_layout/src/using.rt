@@ -58,7 +58,8 @@ fn type_at(types: &[Option<u32>], at: u32) -> Option<u32>
     }
 }
 
-fn action_declared(scopes: &Scopes, name: &Name) -> Option<u32>
+/// The declaration of the action that a name means.
+pub fn action_declared(scopes: &Scopes, name: &Name) -> Option<u32>
     ensures { (es : List Element) (items : List Stated) → AreScopes es items scopes.now → result ≡ action_named es items name.now }
 {
     match scopes.number(&name.text) {
@@ -67,7 +68,8 @@ fn action_declared(scopes: &Scopes, name: &Name) -> Option<u32>
     }
 }
 
-fn guard_declared(scopes: &Scopes, name: &Name) -> Option<u32>
+/// The declaration of the guard that a name means.
+pub fn guard_declared(scopes: &Scopes, name: &Name) -> Option<u32>
     ensures { (es : List Element) (items : List Stated) → AreScopes es items scopes.now → result ≡ guard_named es items name.now }
 {
     match scopes.number(&name.text) {
@@ -76,7 +78,8 @@ fn guard_declared(scopes: &Scopes, name: &Name) -> Option<u32>
     }
 }
 
-fn signal_declared(scopes: &Scopes, name: &Name) -> Option<u32>
+/// The declaration of the signal that a name means.
+pub fn signal_declared(scopes: &Scopes, name: &Name) -> Option<u32>
     ensures { (es : List Element) (items : List Stated) → AreScopes es items scopes.now → result ≡ signal_named es items name.now }
 {
     match scopes.number(&name.text) {

@@ -1,7 +1,7 @@
 ghost use Rattle.std.specs.Prelude.{◌≡◌, ◌<◌, ◌^◌, IfOk, List, Option, ℕ, length, map};
 ghost use Rattle.fp_base.specs.Least.{IsLeast};
 ghost use Rattle.fp_base.specs.declared.rule.Rule.TheVariants.{TypedValue, UndefinedInMachine};
-ghost use Rattle.fp_machine_rules.specs.Broken.{AtUses, BrokenAsWhole, BrokenInside, BrokenItems, BrokenUses, IsUndefined, LacksValue, MachineBroken, StandsFirst, is_nothing};
+ghost use Rattle.fp_machine_rules.specs.Broken.{AtUses, BrokenAsWhole, BrokenInside, BrokenItems, BrokenUses, IsUndefined, LacksValue, is_nothing};
 ghost use Rattle.fp_machine_rules.specs.Forms.{IsLaid};
 ghost use Rattle.fp_machine_rules.specs.Gathered.{AreGathered};
 ghost use Rattle.fp_machine_rules.specs.declared.item.Use.{Use};
@@ -14,20 +14,15 @@ use crate::values::misgiven;
 use fp_base::{NoMemory, Place, Refusal, Rule, lesser};
 use std::alloc::Global;
 
-/// The least rule that a machine breaks. None exactly where none is broken. The number of its initial transitions and its size are read first,
-/// without recursion; where one of them is broken nothing else is read.
-pub fn machine_faults(alloc: Global, machine: &LaidMachine) -> Result<Option<Refusal>, NoMemory>
+/// The least rule that is broken in the body of a machine: by its items, or by what names in them mean. None exactly where none is broken. It
+/// recurses nowhere, but what it takes grows with the depth of states: `as_whole` says first whether they are too deep.
+pub fn faults_inside(alloc: Global, machine: &LaidMachine) -> Result<Option<Refusal>, NoMemory>
     requires laid { IsLaid machine.now.items }
     requires short { length machine.now.items < 2 ^ 32 }
-    requires first { StandsFirst machine.now }
-    ensures { IfOk result (IsLeast (MachineBroken machine.now)) }
+    ensures { IfOk result (IsLeast (BrokenInside machine.now)) }
 {
     let gathered = gather(alloc, machine.items.as_slice())?;
-    let whole = fault_as_whole(alloc, machine, &gathered)?;
-    match whole {
-        Some(_) => Ok(whole),
-        None => fault_inside(alloc, machine, &gathered),
-    }
+    fault_inside(alloc, machine, &gathered)
 }
 
 /// The least rule that a machine breaks as a whole, by the number of its initial transitions and its size. It is read without recursion, and
@@ -39,19 +34,6 @@ pub fn as_whole(alloc: Global, place: Place, items: &[Item]) -> Result<Option<Re
 {
     let gathered = gather(alloc, items)?;
     whole_fault(alloc, place, items, &gathered)
-}
-
-fn fault_as_whole(
-    alloc: Global,
-    machine: &LaidMachine,
-    gathered: &Gathered,
-) -> Result<Option<Refusal>, NoMemory>
-    requires laid { IsLaid machine.now.items }
-    requires short { length machine.now.items < 2 ^ 32 }
-    requires gathered { AreGathered machine.now.items (length machine.now.items) gathered.now.table.items gathered.now.top }
-    ensures { IfOk result (IsLeast (BrokenAsWhole machine.now.place machine.now.items)) }
-{
-    whole_fault(alloc, machine.place, machine.items.as_slice(), gathered)
 }
 
 fn fault_inside(

@@ -17,7 +17,7 @@ mod repeating;
 mod rings;
 mod values;
 
-pub use faults::{as_whole, machine_faults};
+pub use faults::{as_whole, faults_inside};
 pub use item::{Declaration, Form, Item, LaidMachine, Meaning, Target, Use};
 pub use keys::{Key, declared_action_keys, declared_guard_keys, declared_signal_keys, name_keys};
 pub use laying::is_laid;

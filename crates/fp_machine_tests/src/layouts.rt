@@ -1,19 +1,10 @@
-ghost use Rattle.std.specs.Prelude.{◌≡◌, true};
-ghost use Rattle.fp_machine_rules.specs.Broken.{AreBehind, IsBefore, StandsFirst};
-ghost use Rattle.fp_machine_rules.specs.Forms.{IsLaid};
-ghost use Rattle.fp_machine_rules.specs.declared.item.Item.{Item as ItemOf};
-ghost use Rattle.fp_machine_rules.specs.declared.item.Use.{Use as UseOf};
-
+use crate::reading::read_machine;
 use fp_base::{NoMemory, Place, Refusal};
-use fp_lexer::lex;
 use fp_machine_layout::{behavior_fault, lay_out_machine};
 use fp_machine_rules::{Declaration, Form, Item, LaidMachine, Meaning, Target, Use, is_laid};
-use fp_parse_states::parse_machine;
-use fp_tree::{BehaviorElement, Machine};
+use fp_tree::BehaviorElement;
 use std::alloc::Global;
 use std::test::Fail;
-
-const MOST_TOKENS: usize = 1_000_000;
 
 /// An element of each form but a leave of a state; `b` and `X` mean nothing, and `a` and `s` take a value.
 const FULL: &str = "state machine M {
@@ -90,66 +81,6 @@ static BROKEN: [(&str, &str); 8] = [
     ),
 ];
 
-fn machine_of(alloc: Global, text: &[u8]) -> Result<Option<Machine>, NoMemory> {
-    let Ok(tokens) = lex(alloc, 0, text) else {
-        return Ok(None);
-    };
-    if tokens.len() == 0 || tokens.len() > MOST_TOKENS {
-        return Ok(None);
-    }
-    match parse_machine(alloc, &tokens, 0) {
-        Ok((machine, _)) => Ok(Some(machine)),
-        Err(_) => Ok(None),
-    }
-}
-
-fn is_before(one: Place, other: Place) -> bool
-    ensures { result ≡ true → IsBefore one other }
-{
-    if one.file == other.file {
-        if one.line == other.line {
-            one.column < other.column
-        } else {
-            one.line < other.line
-        }
-    } else {
-        one.file < other.file
-    }
-}
-
-fn items_are_behind(place: Place, items: &[Item]) -> bool
-    ensures { result ≡ true → AreBehind place (λ (x : ItemOf). x.place) items.now }
-{
-    let mut behind = true;
-    for item in items {
-        let before = is_before(place, item.place);
-        behind = behind & before;
-    }
-    behind
-}
-
-fn uses_are_behind(place: Place, uses: &[Use]) -> bool
-    ensures { result ≡ true → AreBehind place (λ (u : UseOf). u.place) uses.now }
-{
-    let mut behind = true;
-    for used in uses {
-        let before = is_before(place, used.place);
-        behind = behind & before;
-    }
-    behind
-}
-
-fn holds_together(machine: &LaidMachine) -> bool
-    ensures { result ≡ true → IsLaid machine.now.items × StandsFirst machine.now }
-{
-    let items = machine.items.as_slice();
-    let uses = machine.uses.as_slice();
-    let stand = is_laid(items);
-    let behind = items_are_behind(machine.place, items);
-    let used_behind = uses_are_behind(machine.place, uses);
-    stand & behind & used_behind
-}
-
 /// The least rule that a machine breaks, if its elements stand as they have to.
 fn fault_in(
     alloc: Global,
@@ -158,8 +89,7 @@ fn fault_in(
     types: &[Option<u32>],
 ) -> Result<Option<Option<Refusal>>, NoMemory> {
     let laid = lay_out_machine(alloc, place, elements, types)?;
-    let holds = holds_together(&laid);
-    if holds {
+    if is_laid(laid.items.as_slice()) {
         let fault = behavior_fault(alloc, place, elements, types)?;
         return Ok(Some(fault));
     }
@@ -179,7 +109,7 @@ fn told_fault(alloc: Global, fault: Option<Refusal>) -> Result<String, NoMemory>
 
 /// The first rule that the machine of a text breaks, and its line and column.
 fn fault_of(alloc: Global, text: &[u8]) -> Result<String, NoMemory> {
-    let Some(machine) = machine_of(alloc, text)? else {
+    let Some(machine) = read_machine(alloc, text)? else {
         return Ok(String::from_str(alloc, "not read")?);
     };
     let Some(behavior) = &machine.behavior else {
@@ -296,7 +226,7 @@ fn told_uses(alloc: Global, uses: &[Use]) -> Result<String, NoMemory> {
 
 /// The machine of a text, laid out.
 fn layout_of(alloc: Global, text: &[u8]) -> Result<Option<LaidMachine>, NoMemory> {
-    let Some(machine) = machine_of(alloc, text)? else {
+    let Some(machine) = read_machine(alloc, text)? else {
         return Ok(None);
     };
     let Some(behavior) = &machine.behavior else {

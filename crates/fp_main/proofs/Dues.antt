@@ -5,9 +5,8 @@ use Rattle.fp_base.specs.Least.{IsLeast, IsUnbroken}
 use Rattle.fp_base.proofs.Calculus.{least_none, none_broken}
 use Rattle.fp_tree.specs.declared.source.Source.{Source}
 use Rattle.fp_tables.specs.declared.model.Model.{Model}
-use Rattle.fp_left_out.specs.Broken.{FormsLeftOut}
 use Rattle.fp_source_components.specs.Broken.{PartsBroken}
-use Rattle.fp_model.specs.Broken.{ModelBroken, ValuesBroken, phases}
+use Rattle.fp_model.specs.Broken.{ModelBroken, StatesBroken, ValuesBroken, phases}
 use Rattle.fp_model.specs.Defined.{Defined}
 use Rattle.fp_fault_places.specs.Standing.{IsPlaceOf}
 use Rattle.fp_gather.proofs.AmongRead.{InFilesRead, PlacesInFiles}
@@ -31,9 +30,9 @@ abbrev AtPlaces : (Source → Refusal → Type 0) → Type 0
 AtPlaces Broken = (source : Source) (f : Refusal) → Broken source f → IsPlaceOf source f.place
 
 pub record FaultsStand : Type 0 where
-  pub forms : AtPlaces FormsLeftOut
   pub values : AtPlaces ValuesBroken
   pub parts : AtPlaces PartsBroken
+  pub states : AtPlaces StatesBroken
 
 -- the least of what is broken behind the files
 source_least : (walked : Walked) (source : Source) (o : Option Refusal) → IsUnbroken (FilesBroken walked) → IsLeast (ModelBroken source) o → IsLeast (SourceBroken walked source) o
@@ -62,10 +61,10 @@ model_among among places placed names files walked source f read broken =
     at_place p = places files.told names walked read.units p.0 f.place read.read p.1 p.2
 
     go : ModelBroken (source_of walked read.units) f → StandsAmong (names_read walked) f
-    go (inl b) = at_place (placed.forms (source_of walked read.units) f b)
-    go (inr (inl b, quiet)) = among files.told names walked read.units f read.read (inr b)
-    go (inr (inr (inl b, still), quiet)) = at_place (placed.values (source_of walked read.units) f b)
-    go (inr (inr (inr (inl b, calm), still), quiet)) = at_place (placed.parts (source_of walked read.units) f b)
+    go (inl b) = among files.told names walked read.units f read.read (inr b)
+    go (inr (inl b, quiet)) = at_place (placed.values (source_of walked read.units) f b)
+    go (inr (inr (inl b, still), quiet)) = at_place (placed.parts (source_of walked read.units) f b)
+    go (inr (inr (inr (inl b, calm), still), quiet)) = at_place (placed.states (source_of walked read.units) f b)
     go (inr (inr (inr (inr (b, last), calm), still), quiet)) = absurd b
 
 module _ (words names : List (List ℕ)) (files : FilesRun) (check : IsCheck words names) where

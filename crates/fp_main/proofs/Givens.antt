@@ -14,6 +14,7 @@ use Rattle.fp_meaning.specs.declared.names.Definition.{Definition}
 use Rattle.fp_meaning.specs.Layout.{items}
 use Rattle.fp_meaning.specs.Names.{definitions, definitions_of}
 use Rattle.fp_names.specs.Named.{HasNamedFormals, PartsAreNamed, PartsOfItemAreNamed}
+use Rattle.fp_source_machines.specs.Ordered.{IsOrdered, MachinesAreOrdered}
 use Rattle.fp_source_types.specs.Listed.{EnumsHaveConstants, IsListed}
 use Rattle.fp_source_types.specs.Named.{DefinitionsAreNamed, FieldsAreNamed, has_field_names}
 use Rattle.fp_type_forms.specs.Written.{TypeHere, types, types_of}
@@ -93,3 +94,10 @@ enumerations_listed law part_law listed names files source gathered =
     let all : AllByRecursion IsListed (items (source_of gathered.0 read.units)) =
     items_have IsListed (λ scope d. tt) law part_law files.told names gathered.0 read.units read.read in
     listed source (λ i there. of_contained IsListed (items source) i (subst (λ (s : Source). AllByRecursion IsListed (items s)) (sym read.made) all) there)
+
+pub machines_ordered : MembersGive IsOrdered → PartsGive IsOrdered → (names : List (List ℕ)) (files : FilesRun) (source : Source) → Gathers names files (Ok source) → MachinesAreOrdered source
+machines_ordered law part_law names files source gathered =
+    let read = gathered.1 in
+    let all : AllByRecursion IsOrdered (items (source_of gathered.0 read.units)) =
+    items_have IsOrdered (λ scope c. tt) law part_law files.told names gathered.0 read.units read.read in
+    λ k i at. of_item IsOrdered (items source) k i (subst (λ (s : Source). AllByRecursion IsOrdered (items s)) (sym read.made) all) at

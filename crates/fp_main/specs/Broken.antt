@@ -14,8 +14,8 @@ use Rattle.fp_model.specs.Phases.{InPhases}
 abbrev pub WithIncludes : Walked → Source → Refusal → Type 0
 WithIncludes walked source f = ((g : Refusal) × Contains walked.refused g) × Either (Contains walked.refused) (NamesBroken source) f
 
--- what each phase breaks, the earliest first: the rules of tokens and of the grammar; bad includes, with names; then what the source breaks: forms
--- that have no meaning yet, the rules of names, those of values, and those of ports, dictionaries and components
+-- what each phase breaks, the earliest first: the rules of tokens and of the grammar; bad includes, with names; then what the source breaks: the
+-- rules of names, those of values, those of ports, dictionaries and components, and those of state machines
 abbrev pub phases : Walked → Source → List (Refusal → Type 0)
 phases walked source = InFiles BreaksTokenRule walked ∷ InFiles BreaksGrammar walked ∷ WithIncludes walked source ∷ model.phases source
 

@@ -1,6 +1,7 @@
 ghost use Rattle.std.specs.Prelude.{◌≡◌, [], map, List, ℕ, IfOk};
 ghost use Rattle.std.specs.String.{string_bytes};
 ghost use Rattle.fp_names.specs.Named.{PartsAreNamed};
+ghost use Rattle.fp_source_machines.specs.Ordered.{MachinesAreOrdered};
 ghost use Rattle.fp_source_types.specs.Listed.{EnumsHaveConstants};
 ghost use Rattle.fp_source_types.specs.Named.{DefinitionsAreNamed, FieldsAreNamed};
 ghost use Rattle.fp_gather.specs.FilesRun.{files_run};
@@ -16,9 +17,10 @@ use crate::status::Status;
 use crate::words::{Command, read_words};
 use fp_base::{NoMemory, Refusal, Row, Stop};
 use fp_enum_sites::{enumerations_have_constants, part_enumerations_have_constants};
-use fp_fault_places::{forms_left_out_at_places, parts_break_at_places, values_break_at_places};
+use fp_fault_places::{parts_break_at_places, states_break_at_places, values_break_at_places};
 use fp_gather::{Halt, gather, in_files_read, name_of, names_are_names, places_in_files};
 use fp_listing::listing;
+use fp_machine_sites::{machines_are_ordered, part_machines_are_ordered};
 use fp_model::resolve;
 use fp_outside::Files;
 use fp_source_types::listed_items_have_constants;
@@ -72,6 +74,7 @@ fn check(alloc: Global, source: &Source) -> Result<Due, NoMemory>
     requires fields { FieldsAreNamed source.now }
     requires parts { PartsAreNamed source.now }
     requires enumerations { EnumsHaveConstants source.now }
+    requires machines { MachinesAreOrdered source.now }
     ensures { IfOk result (λ due. IsDueFor source.now due.status due.output due.line) }
 {
     match resolve(alloc, source) {
@@ -88,14 +91,16 @@ fn answer_check<F: Files>(alloc: Global, names: &[String], files: &mut F) -> Res
     // for the file in which a rule is broken
     in_files_read();
     places_in_files();
-    forms_left_out_at_places();
     values_break_at_places();
     parts_break_at_places();
+    states_break_at_places();
     // for what a source is asked to have
     names_are_names();
     enumerations_have_constants();
     part_enumerations_have_constants();
     listed_items_have_constants();
+    machines_are_ordered();
+    part_machines_are_ordered();
     match gather(alloc, names, files) {
         Ok(source) => check(alloc, &source),
         Err(Halt::Broken { refusal, file }) => {

@@ -57,7 +57,7 @@ module _ (ws : List WrittenType) where
   form_lies_where (struct ms) = fields_measured ms
   form_lies_where (enum h m) = kind_measured m
 
-all_by_place : {A : Type 0} (p : A → Bool) (xs : List A) → ((i : ℕ) (x : A) → slice_get xs i ≡ Some x → p x ≡ true) → list_all p xs ≡ true
+pub all_by_place : {A : Type 0} (p : A → Bool) (xs : List A) → ((i : ℕ) (x : A) → slice_get xs i ≡ Some x → p x ≡ true) → list_all p xs ≡ true
 all_by_place p [] each = refl
 all_by_place p (x ∷ xs) each = join (p x) (list_all p xs) (each 0 x refl) (all_by_place p xs (λ i y e. each (suc i) y e))
 

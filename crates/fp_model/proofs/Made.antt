@@ -3,11 +3,12 @@ use Rattle.std.proofs.Common.{◌≡◌, ◌&&◌, true, List, [], flat_map, map
 use Rattle.std.specs.List.{list_all}
 use Rattle.fp_base.specs.declared.value.Value.{Value}
 use Rattle.fp_tree.specs.declared.source.Source.{Source}
-use Rattle.fp_tables.specs.Positions.{component_is_short, is_short, lists_are_short}
+use Rattle.fp_tables.specs.Positions.{component_is_short, is_short, lists_are_short, machine_is_short}
 use Rattle.fp_tables.specs.declared.component.Component.{Component}
 use Rattle.fp_tables.specs.declared.kind.Constant.{Constant}
 use Rattle.fp_tables.specs.declared.kind.PortDef.{PortDef}
 use Rattle.fp_tables.specs.declared.kind.TypeDef.{TypeDef}
+use Rattle.fp_tables.specs.declared.machine.Machine.{Machine}
 use Rattle.fp_tables.specs.declared.model.Item.{Item as Ordered}
 use Rattle.fp_tables.specs.declared.model.Model.{Model}
 use Rattle.fp_meaning.specs.declared.item.Item.{Item}
@@ -17,27 +18,28 @@ use Rattle.fp_type_sizes.specs.declared.written.WrittenType.{WrittenType}
 use Rattle.fp_type_forms.specs.Written.{AreWritten}
 use Rattle.fp_source_types.specs.Typed.{AreTypesOf}
 use Rattle.fp_source_components.specs.Built.{ArePartsOf}
+use Rattle.fp_source_machines.specs.Built.{AreMachinesOf}
 use Rattle.fp_model.specs.Defined.{AreConstants, Defined, model_with}
 use Rattle.fp_model.specs.Definitions.{constants_of, order_behind}
 use Rattle.fp_model.specs.Given.{StandFrom}
 use Rattle.fp_model.proofs.Sounds.{short_with}
 
-module _ (is : List Item) (cs : List Constant) (ts : List TypeDef) (ps : List PortDef) (xs : List Component) (os : List Ordered) (m : Model) (made : m ≡ model_with cs ts ps xs os) where
+module _ (is : List Item) (cs : List Constant) (ts : List TypeDef) (ps : List PortDef) (xs : List Component) (ms : List Machine) (os : List Ordered) (m : Model) (made : m ≡ model_with cs ts ps xs ms os) where
   pub made_defined : (values : List (Option Value)) → ((source : Source) → StandFrom source values (flat_map expressions_of is) 0 → AreConstants source (flat_map constants_of is) cs)
       → os ≡ order_behind [] is → (source : Source) (ws : List WrittenType) → is ≡ items source → StandFrom source values (expressions source) 0
-      → AreTypesOf source (map (λ (d : TypeDef). Some d) ts) → AreWritten source ws → ArePartsOf source ws (record { ports = ps; components = xs }) → Defined source m
-  made_defined values constants order source ws laid stand types written parts =
+      → AreTypesOf source (map (λ (d : TypeDef). Some d) ts) → AreWritten source ws → ArePartsOf source ws (record { ports = ps; components = xs }) → AreMachinesOf source ms → Defined source m
+  made_defined values constants order source ws laid stand types written parts machines =
       subst (Defined source) (sym made) (record {
         constants =
             subst (λ (is : List Item). AreConstants source (flat_map constants_of is) cs) laid
             (constants source (subst (λ (is : List Item). StandFrom source values (flat_map expressions_of is) 0) (sym laid) stand));
         types = types;
         parts = (ws, written, parts);
-        machines = refl;
+        machines = machines;
         instances = refl;
         topologies = refl;
         order = order ∙ ap (order_behind []) laid;
       })
 
-  pub made_short : (is_short cs && is_short ts && is_short ps && is_short xs) ≡ true → list_all component_is_short xs ≡ true → lists_are_short m ≡ true
-  made_short h k = ap lists_are_short made ∙ short_with (is_short cs) (is_short ts) (is_short ps) (is_short xs) (list_all component_is_short xs) h k
+  pub made_short : (is_short cs && is_short ts && is_short ps && is_short xs && is_short ms) ≡ true → list_all component_is_short xs ≡ true → list_all machine_is_short ms ≡ true → lists_are_short m ≡ true
+  made_short h k l = ap lists_are_short made ∙ short_with (is_short cs) (is_short ts) (is_short ps) (is_short xs) (is_short ms) (list_all component_is_short xs) (list_all machine_is_short ms) h k l

@@ -16,6 +16,7 @@ use Rattle.fp_meaning.specs.declared.item.Item.TheVariants as item
 use Rattle.fp_meaning.specs.Sites.{ModelDef, Path, component, declaration, instance, interface, machine, site, topology}
 use Rattle.fp_type_forms.specs.Written.{types_in, types_of}
 use Rattle.fp_component_forms.specs.Written.{component_in, component_of, port_in, port_of}
+use Rattle.fp_source_components.specs.Machines.{machine_in, machine_of}
 use Rattle.fp_model.specs.declared.ordering.Counts.{Counts}
 use Rattle.fp_model.specs.Counted.{counted, counted_model, counted_with, none_before, order_by, order_by_model, order_from, order_with}
 use Rattle.fp_model.specs.Definitions.{constants_in, constants_of, order_behind, order_declared, order_in, order_of}
@@ -34,50 +35,51 @@ module _ {A : Type 0} (f : Item → List A) where
       let rest = length-append (f i) (flat_map f is) in
       omega (arith, whole, long, rest, e, one)
 
-abbrev pub so_many : ℕ → ℕ → ℕ → ℕ → Counts
-so_many a b c d = record { constants = a; kinds = b; ports = c; components = d }
+abbrev pub so_many : ℕ → ℕ → ℕ → ℕ → ℕ → Counts
+so_many a b c d e = record { constants = a; kinds = b; ports = c; components = d; machines = e }
 
 abbrev pub counts_of : List Item → Counts
-counts_of before = so_many (length (flat_map constants_of before)) (length (flat_map types_of before)) (length (flat_map port_of before)) (length (flat_map component_of before))
+counts_of before = so_many (length (flat_map constants_of before)) (length (flat_map types_of before)) (length (flat_map port_of before)) (length (flat_map component_of before)) (length (flat_map machine_of before))
 
-same_counts : {a b c d e f g h : ℕ} → a ≡ b → c ≡ d → e ≡ f → g ≡ h → so_many a c e g ≡ so_many b d f h
-same_counts {b = b} {c = c} {d = d} {e = e} {f = f} {g = g} i j k l =
-    ap (λ (n : ℕ). so_many n c e g) i ∙ ap (λ (n : ℕ). so_many b n e g) j ∙ ap (λ (n : ℕ). so_many b d n g) k ∙ ap (λ (n : ℕ). so_many b d f n) l
+same_counts : {a b c d e f g h x y : ℕ} → a ≡ b → c ≡ d → e ≡ f → g ≡ h → x ≡ y → so_many a c e g x ≡ so_many b d f h y
+same_counts {b = b} {c = c} {d = d} {e = e} {f = f} {g = g} {h = h} {x = x} i j k l m =
+    ap (λ (n : ℕ). so_many n c e g x) i ∙ ap (λ (n : ℕ). so_many b n e g x) j ∙ ap (λ (n : ℕ). so_many b d n g x) k ∙ ap (λ (n : ℕ). so_many b d f n x) l
+    ∙ ap (λ (n : ℕ). so_many b d f h n) m
 
 no_more : (n : ℕ) → n + 0 ≡ n
 no_more n = omega arith
 
-module _ (a b c e : ℕ) where
-  none_more : so_many (a + 0) (b + 0) (c + 0) (e + 0) ≡ so_many a b c e
-  none_more = same_counts (no_more a) (no_more b) (no_more c) (no_more e)
+module _ (a b c e x : ℕ) where
+  none_more : so_many (a + 0) (b + 0) (c + 0) (e + 0) (x + 0) ≡ so_many a b c e x
+  none_more = same_counts (no_more a) (no_more b) (no_more c) (no_more e) (no_more x)
 
-  counted_definition : (s : Path) (d : Def) → so_many (a + length (constants_in s d)) (b + length (types_in s d)) (c + length (port_in s d)) (e + 0) ≡ counted (so_many a b c e) d
-  counted_definition s (def.Constant d) = same_counts refl (no_more b) (no_more c) (no_more e)
-  counted_definition s (def.Abstract d) = same_counts (no_more a) refl (no_more c) (no_more e)
-  counted_definition s (def.Alias d) = same_counts (no_more a) refl (no_more c) (no_more e)
-  counted_definition s (def.Array d) = same_counts (no_more a) refl (no_more c) (no_more e)
-  counted_definition s (def.Struct d) = same_counts (no_more a) refl (no_more c) (no_more e)
-  counted_definition s (def.Enum d) = same_counts (no_more a) refl (no_more c) (no_more e)
-  counted_definition s (def.Port d) = same_counts (no_more a) (no_more b) refl (no_more e)
+  counted_definition : (s : Path) (d : Def) → so_many (a + length (constants_in s d)) (b + length (types_in s d)) (c + length (port_in s d)) (e + 0) (x + 0) ≡ counted (so_many a b c e x) d
+  counted_definition s (def.Constant d) = same_counts refl (no_more b) (no_more c) (no_more e) (no_more x)
+  counted_definition s (def.Abstract d) = same_counts (no_more a) refl (no_more c) (no_more e) (no_more x)
+  counted_definition s (def.Alias d) = same_counts (no_more a) refl (no_more c) (no_more e) (no_more x)
+  counted_definition s (def.Array d) = same_counts (no_more a) refl (no_more c) (no_more e) (no_more x)
+  counted_definition s (def.Struct d) = same_counts (no_more a) refl (no_more c) (no_more e) (no_more x)
+  counted_definition s (def.Enum d) = same_counts (no_more a) refl (no_more c) (no_more e) (no_more x)
+  counted_definition s (def.Port d) = same_counts (no_more a) (no_more b) refl (no_more e) (no_more x)
 
-  counted_declared : (s : Path) (d : ModelDef) → so_many (a + 0) (b + 0) (c + 0) (e + length (component_in s d)) ≡ counted_model (so_many a b c e) d
-  counted_declared s (component d) = same_counts (no_more a) (no_more b) (no_more c) refl
-  counted_declared s (machine d) = none_more
+  counted_declared : (s : Path) (d : ModelDef) → so_many (a + 0) (b + 0) (c + 0) (e + length (component_in s d)) (x + length (machine_in s d)) ≡ counted_model (so_many a b c e x) d
+  counted_declared s (component d) = same_counts (no_more a) (no_more b) (no_more c) refl (no_more x)
+  counted_declared s (machine d) = same_counts (no_more a) (no_more b) (no_more c) (no_more e) refl
   counted_declared s (interface d) = none_more
   counted_declared s (instance d) = none_more
   counted_declared s (topology d) = none_more
 
-  counted_item : (i : Item) → so_many (a + length (constants_of i)) (b + length (types_of i)) (c + length (port_of i)) (e + length (component_of i)) ≡ counted_with (so_many a b c e) i
+  counted_item : (i : Item) → so_many (a + length (constants_of i)) (b + length (types_of i)) (c + length (port_of i)) (e + length (component_of i)) (x + length (machine_of i)) ≡ counted_with (so_many a b c e x) i
   counted_item (item.Defined s) = counted_definition s.scope s.definition
-  counted_item (item.Enumerated x) = none_more
+  counted_item (item.Enumerated n) = none_more
   counted_item (item.Declared d) = counted_declared d.scope d.definition
   counted_item (item.Used since n) = none_more
   counted_item (item.Written since p) = none_more
 
 one_counted : (before : List Item) (i : Item) → counts_of (before ++ i ∷ []) ≡ counted_with (counts_of before) i
 one_counted before i =
-    same_counts (with_one constants_of before i) (with_one types_of before i) (with_one port_of before i) (with_one component_of before i)
-    ∙ counted_item (length (flat_map constants_of before)) (length (flat_map types_of before)) (length (flat_map port_of before)) (length (flat_map component_of before)) i
+    same_counts (with_one constants_of before i) (with_one types_of before i) (with_one port_of before i) (with_one component_of before i) (with_one machine_of before i)
+    ∙ counted_item (length (flat_map constants_of before)) (length (flat_map types_of before)) (length (flat_map port_of before)) (length (flat_map component_of before)) (length (flat_map machine_of before)) i
 
 one_order : (before : List Item) (i : Item) → order_with (counts_of before) i ≡ order_of before i
 one_order before (item.Defined s) = of_definition s.definition
@@ -118,7 +120,8 @@ all_of_both p [] ys h k = k
 all_of_both p (x ∷ xs) ys h k = let b = both (p x) (list_all p xs) h in join (p x) (list_all p (xs ++ ys)) b.0 (all_of_both p xs ys b.1 k)
 
 module _ (m : Model) (all : List Item) (constants : length (flat_map constants_of all) ≡ length m.constants) (types : length (flat_map types_of all) ≡ length m.types)
-    (ports : length (flat_map port_of all) ≡ length m.ports) (components : length (flat_map component_of all) ≡ length m.components) where
+    (ports : length (flat_map port_of all) ≡ length m.ports) (components : length (flat_map component_of all) ≡ length m.components)
+    (machines : length (flat_map machine_of all) ≡ length m.machines) where
   below : (a b : ℕ) → a < b → (nat_lt a b && true) ≡ true
   below a b h = join (nat_lt a b) true (grind (arith, nat_tests)) refl
 
@@ -138,7 +141,7 @@ module _ (m : Model) (all : List Item) (constants : length (flat_map constants_o
     where
       of_declared : (s : Path) (d : ModelDef) → before ++ item.Declared (declaration s d) ∷ is ≡ all → list_all (item_lies m) (order_declared before d) ≡ true
       of_declared s (component d) e = below _ _ (within component_of before is _ _ (ap (λ (xs : List Item). length (flat_map component_of xs)) e ∙ components) refl)
-      of_declared s (machine d) e = refl
+      of_declared s (machine d) e = below _ _ (within machine_of before is _ _ (ap (λ (xs : List Item). length (flat_map machine_of xs)) e ∙ machines) refl)
       of_declared s (interface d) e = refl
       of_declared s (instance d) e = refl
       of_declared s (topology d) e = refl

@@ -10,9 +10,10 @@ use Rattle.fp_consts.specs.Answered.{IsStop}
 use Rattle.fp_names.specs.Answers as names
 use Rattle.fp_tree.specs.declared.source.Source.{Source}
 use Rattle.fp_meaning.specs.Broken.{BrokenByDefinitions, BrokenByUses, NamesBroken}
-use Rattle.fp_left_out.specs.Broken.{FormsLeftOut}
 use Rattle.fp_source_components.specs.Broken.{PartsBroken}
-use Rattle.fp_model.specs.Broken.{ModelBroken, ValuesBroken}
+use Rattle.fp_source_components.specs.Machines.{InstancesBroken}
+use Rattle.fp_source_machines.specs.Broken.{MachinesBroken}
+use Rattle.fp_model.specs.Broken.{ModelBroken, StatesBroken, ValuesBroken}
 use Rattle.fp_model.specs.Phases.{InPhases}
 use Rattle.fp_model.proofs.Phased.{first_unbroken, later_unbroken, least_first, least_last, least_later, none_phased}
 
@@ -41,43 +42,46 @@ module _ (source : Source) where
   names_unbroken once meant f (inr b) = meant f b
 
   -- a stop in a phase, where those before it aren't broken
-  pub left_out_stop : (s : Stop) → IsStop (FormsLeftOut source) s → IsStop (ModelBroken source) s
-  left_out_stop (stop.Broken f) l = least_first f l
-  left_out_stop stop.NoMemory l = tt
+  pub names_stop : (s : Stop) → IsStop (NamesBroken source) s → IsStop (ModelBroken source) s
+  names_stop (stop.Broken f) l = least_first f l
+  names_stop stop.NoMemory l = tt
 
-  pub names_stop : IsUnbroken (FormsLeftOut source) → (s : Stop) → IsStop (NamesBroken source) s → IsStop (ModelBroken source) s
-  names_stop built (stop.Broken f) l = least_later (Some f) built (least_first f l)
-  names_stop built stop.NoMemory l = tt
+  pub values_stop : IsUnbroken (NamesBroken source) → (s : Stop) → IsStop (ValuesBroken source) s → IsStop (ModelBroken source) s
+  values_stop named (stop.Broken f) l = least_later (Some f) named (least_first f l)
+  values_stop named stop.NoMemory l = tt
 
-  pub values_stop : IsUnbroken (FormsLeftOut source) → IsUnbroken (NamesBroken source) → (s : Stop) → IsStop (ValuesBroken source) s → IsStop (ModelBroken source) s
-  values_stop built named (stop.Broken f) l = least_later (Some f) built (least_later (Some f) named (least_first f l))
-  values_stop built named stop.NoMemory l = tt
+  pub parts_stop : IsUnbroken (NamesBroken source) → IsUnbroken (ValuesBroken source) → (s : Stop) → IsStop (PartsBroken source) s → IsStop (ModelBroken source) s
+  parts_stop named valued (stop.Broken f) l = least_later (Some f) named (least_later (Some f) valued (least_first f l))
+  parts_stop named valued stop.NoMemory l = tt
 
-  pub parts_stop : IsUnbroken (FormsLeftOut source) → IsUnbroken (NamesBroken source) → IsUnbroken (ValuesBroken source) → (s : Stop) → IsStop (PartsBroken source) s → IsStop (ModelBroken source) s
-  parts_stop built named valued (stop.Broken f) l = least_later (Some f) built (least_later (Some f) named (least_later (Some f) valued (least_last (Some f) l)))
-  parts_stop built named valued stop.NoMemory l = tt
+  pub states_stop : IsUnbroken (NamesBroken source) → IsUnbroken (ValuesBroken source) → IsUnbroken (PartsBroken source) → (s : Stop) → IsStop (StatesBroken source) s → IsStop (ModelBroken source) s
+  states_stop named valued whole (stop.Broken f) l = least_later (Some f) named (least_later (Some f) valued (least_later (Some f) whole (least_last (Some f) l)))
+  states_stop named valued whole stop.NoMemory l = tt
 
-  pub none_stops : IsUnbroken (FormsLeftOut source) → IsUnbroken (NamesBroken source) → IsUnbroken (ValuesBroken source) → IsUnbroken (PartsBroken source) → IsUnbroken (ModelBroken source)
-  none_stops built named valued whole = none_phased built (none_phased named (none_phased valued (none_phased whole (λ f p. p))))
+  pub none_stops : IsUnbroken (NamesBroken source) → IsUnbroken (ValuesBroken source) → IsUnbroken (PartsBroken source) → IsUnbroken (StatesBroken source) → IsUnbroken (ModelBroken source)
+  none_stops named valued whole moving = none_phased named (none_phased valued (none_phased whole (none_phased moving (λ f p. p))))
 
 module _ (source : Source) (unbroken : IsUnbroken (ModelBroken source)) where
-  behind_forms : IsUnbroken (InPhases (NamesBroken source ∷ ValuesBroken source ∷ PartsBroken source ∷ []))
-  behind_forms = later_unbroken unbroken
+  behind_names : IsUnbroken (InPhases (ValuesBroken source ∷ PartsBroken source ∷ StatesBroken source ∷ []))
+  behind_names = later_unbroken unbroken
 
-  behind_names : IsUnbroken (InPhases (ValuesBroken source ∷ PartsBroken source ∷ []))
-  behind_names = later_unbroken behind_forms
-
-  behind_values : IsUnbroken (InPhases (PartsBroken source ∷ []))
+  behind_values : IsUnbroken (InPhases (PartsBroken source ∷ StatesBroken source ∷ []))
   behind_values = later_unbroken behind_names
 
-  pub forms_hold : IsUnbroken (FormsLeftOut source)
-  forms_hold = first_unbroken unbroken
+  behind_parts : IsUnbroken (InPhases (StatesBroken source ∷ []))
+  behind_parts = later_unbroken behind_values
 
   pub names_hold : IsUnbroken (NamesBroken source)
-  names_hold = first_unbroken behind_forms
+  names_hold = first_unbroken unbroken
 
   pub values_hold : IsUnbroken (ValuesBroken source)
   values_hold = first_unbroken behind_names
 
   pub parts_hold : IsUnbroken (PartsBroken source)
   parts_hold = first_unbroken behind_values
+
+  pub machines_hold : IsUnbroken (MachinesBroken source)
+  machines_hold f b = first_unbroken behind_parts f (inl b)
+
+  pub instances_hold : IsUnbroken (InstancesBroken source)
+  instances_hold f b = first_unbroken behind_parts f (inr b)

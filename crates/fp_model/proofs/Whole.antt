@@ -13,7 +13,6 @@ use Rattle.fp_tables.specs.Types.{is_of_size}
 use Rattle.fp_tables.specs.declared.kind.Constant.{Constant}
 use Rattle.fp_tables.specs.declared.kind.PortDef.{PortDef}
 use Rattle.fp_tables.specs.declared.kind.TypeDef.{TypeDef}
-use Rattle.fp_tables.specs.declared.machine.Machine.{Machine}
 use Rattle.fp_tables.specs.declared.model.Model.{Model}
 use Rattle.fp_meaning.specs.Layout.{items}
 use Rattle.fp_meaning.specs.Names.{Path}
@@ -22,7 +21,10 @@ use Rattle.fp_type_forms.specs.Written.{AllAt, IsWritten, types}
 use Rattle.fp_types.specs.WellWritten.{AreSoundTypes}
 use Rattle.fp_component_forms.specs.Written.{ComponentIs, PortDefIs, component_of, components, port_definitions, port_of}
 use Rattle.fp_components.specs.Resolved.{port_def_of}
+use Rattle.fp_source_components.specs.Machines.{machine_of, machines}
+use Rattle.fp_source_machines.specs.Built.{IsMachine}
 use Rattle.fp_sound_components.specs.Sound.{AreSound}
+use Rattle.fp_sound_parts.specs.Machines.{AreSoundMachines}
 use Rattle.fp_source_types.specs.Named.{DefinitionsAreNamed}
 use Rattle.fp_source_types.specs.Typed.{AreTypesOf}
 use Rattle.fp_model.specs.Defined.{Defined, HasParts, IsConstant, model_with}
@@ -73,19 +75,22 @@ pub record AreKnown (source : Source) (ts : List TypeDef) : Type 0 where
   pub chains : chains_are_short ts ≡ true
 
 module _ (source : Source) (m : Model) (d : Defined source m) (named : DefinitionsAreNamed source) (short : lists_are_short m ≡ true) (known : AreKnown source m.types)
-    (parts : AreSound m.types m.machines m.ports m.components) (size : (scope : Path) (s : Opened) (v : Value) → Val source scope s v → is_of_size v ≡ true) where
-  same : model_with m.constants m.types m.ports m.components m.order ≡ m
-  same = of_lists m d.machines d.instances d.topologies
+    (parts : AreSound m.types m.machines m.ports m.components) (moving : AreSoundMachines m.types m.machines) (size : (scope : Path) (s : Opened) (v : Value) → Val source scope s v → is_of_size v ≡ true) where
+  same : model_with m.constants m.types m.ports m.components m.machines m.order ≡ m
+  same = of_lists m d.instances d.topologies
 
   constants_long : length (flat_map constants_of (items source)) ≡ length m.constants
   constants_long = as_long (IsConstant source) 0 (flat_map constants_of (items source)) m.constants d.constants
 
-  lists : AreSoundLists m.constants m.types m.ports m.components m.order
+  machines_long : length (flat_map machine_of (items source)) ≡ length m.machines
+  machines_long = as_long (IsMachine source) 0 (machines source) m.machines d.machines
+
+  lists : AreSoundLists m.constants m.types m.ports m.components m.machines m.order
   lists = record {
     types_lie = known.lie;
     order_lies =
-        ap (list_all (item_lies (model_with m.constants m.types m.ports m.components m.order))) d.order
-        ∙ order_lies (model_with m.constants m.types m.ports m.components m.order) (items source) constants_long known.long (ports_long source m d.parts) (components_long source m d.parts);
+        ap (list_all (item_lies (model_with m.constants m.types m.ports m.components m.machines m.order))) d.order
+        ∙ order_lies (model_with m.constants m.types m.ports m.components m.machines m.order) (items source) constants_long known.long (ports_long source m d.parts) (components_long source m d.parts) machines_long;
     short = ap lists_are_short same ∙ short;
     own = known.own;
     constants_named = each_constant_qualified source named m.constants d.constants;
@@ -94,8 +99,9 @@ module _ (source : Source) (m : Model) (d : Defined source m) (named : Definitio
     types = known.sound;
     chains = known.chains;
     sized = sized source size 0 (flat_map constants_of (items source)) m.constants d.constants;
-    parts = subst (λ (xs : List Machine). AreSound m.types xs m.ports m.components) d.machines parts;
+    parts = parts;
+    machines = moving;
   }
 
   pub whole_sound : IsSound m
-  whole_sound = subst IsSound same (sound_with m.constants m.types m.ports m.components m.order lists)
+  whole_sound = subst IsSound same (sound_with m.constants m.types m.ports m.components m.machines m.order lists)

@@ -1,5 +1,5 @@
--- What a source breaks, phase by phase: forms that have no meaning yet; the rules of names; then those of values, which are those of constants, of types,
--- of formats and of what belongs to components; and then those of ports, dictionaries and components.
+-- What a source breaks, phase by phase: the rules of names; then those of values, which are those of constants, of types, of formats and of what
+-- belongs to components; then those of ports, dictionaries and components; and then those of state machines and their instances.
 use Rattle.std.specs.Prelude.{List, [], ◌∷◌}
 use Rattle.fp_base.specs.declared.refusal.Refusal.{Refusal}
 use Rattle.fp_base.specs.Least.{Either}
@@ -13,7 +13,8 @@ use Rattle.fp_type_formats.specs.Broken.{FormatsBroken}
 use Rattle.fp_part_forms.specs.Broken.{PartFormsBroken}
 use Rattle.fp_part_values.specs.Broken.{PartValuesBroken}
 use Rattle.fp_source_components.specs.Broken.{PartsBroken}
-use Rattle.fp_left_out.specs.Broken.{FormsLeftOut}
+use Rattle.fp_source_components.specs.Machines.{InstancesBroken}
+use Rattle.fp_source_machines.specs.Broken.{MachinesBroken}
 use Rattle.fp_model.specs.Phases.{InPhases}
 
 -- what is written of the types is one list
@@ -25,9 +26,13 @@ abbrev pub ValuesBroken : Source → Refusal → Type 0
 ValuesBroken source =
     Either (ConstantsBroken source) (Either (TypesBroken source) (Either (FormatsBroken source) (Either (PartFormsBroken source) (ConversionsBroken source))))
 
+-- of the machines, and of instances of them in components
+abbrev pub StatesBroken : Source → Refusal → Type 0
+StatesBroken source = Either (MachinesBroken source) (InstancesBroken source)
+
 -- the earliest first
 abbrev pub phases : Source → List (Refusal → Type 0)
-phases source = FormsLeftOut source ∷ NamesBroken source ∷ ValuesBroken source ∷ PartsBroken source ∷ []
+phases source = NamesBroken source ∷ ValuesBroken source ∷ PartsBroken source ∷ StatesBroken source ∷ []
 
 -- broken in the earliest phase in which something is
 abbrev pub ModelBroken : Source → Refusal → Type 0

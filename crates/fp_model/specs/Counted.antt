@@ -6,11 +6,11 @@ use Rattle.fp_tables.specs.declared.model.Item.{Item as Ordered}
 use Rattle.fp_tables.specs.declared.model.Item.TheVariants as ordered
 use Rattle.fp_meaning.specs.declared.item.Item.{Item}
 use Rattle.fp_meaning.specs.declared.item.Item.TheVariants as item
-use Rattle.fp_meaning.specs.Sites.{ModelDef, component}
+use Rattle.fp_meaning.specs.Sites.{ModelDef, component, machine}
 use Rattle.fp_model.specs.declared.ordering.Counts.{Counts}
 
 abbrev pub none_before : Counts
-none_before = record { constants = 0; kinds = 0; ports = 0; components = 0 }
+none_before = record { constants = 0; kinds = 0; ports = 0; components = 0; machines = 0 }
 
 abbrev pub order_by : Counts → Def → Ordered
 order_by n (def.Constant d) = ordered.Constant n.constants
@@ -19,16 +19,18 @@ order_by n _ = ordered.Kind n.kinds
 
 -- with one of that sort more
 abbrev pub counted : Counts → Def → Counts
-counted n (def.Constant d) = record { constants = n.constants + 1; kinds = n.kinds; ports = n.ports; components = n.components }
-counted n (def.Port p) = record { constants = n.constants; kinds = n.kinds; ports = n.ports + 1; components = n.components }
-counted n _ = record { constants = n.constants; kinds = n.kinds + 1; ports = n.ports; components = n.components }
+counted n (def.Constant d) = record { constants = n.constants + 1; kinds = n.kinds; ports = n.ports; components = n.components; machines = n.machines }
+counted n (def.Port p) = record { constants = n.constants; kinds = n.kinds; ports = n.ports + 1; components = n.components; machines = n.machines }
+counted n _ = record { constants = n.constants; kinds = n.kinds + 1; ports = n.ports; components = n.components; machines = n.machines }
 
 abbrev pub order_by_model : Counts → ModelDef → List Ordered
 order_by_model n (component c) = ordered.Component n.components ∷ []
+order_by_model n (machine d) = ordered.Machine n.machines ∷ []
 order_by_model n _ = []
 
 abbrev pub counted_model : Counts → ModelDef → Counts
-counted_model n (component c) = record { constants = n.constants; kinds = n.kinds; ports = n.ports; components = n.components + 1 }
+counted_model n (component c) = record { constants = n.constants; kinds = n.kinds; ports = n.ports; components = n.components + 1; machines = n.machines }
+counted_model n (machine d) = record { constants = n.constants; kinds = n.kinds; ports = n.ports; components = n.components; machines = n.machines + 1 }
 counted_model n _ = n
 
 abbrev pub order_with : Counts → Item → List Ordered

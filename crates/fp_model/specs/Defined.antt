@@ -5,6 +5,7 @@ use Rattle.fp_tables.specs.declared.kind.Constant.{Constant}
 use Rattle.fp_tables.specs.declared.kind.TypeDef.{TypeDef}
 use Rattle.fp_tables.specs.declared.kind.PortDef.{PortDef}
 use Rattle.fp_tables.specs.declared.component.Component.{Component}
+use Rattle.fp_tables.specs.declared.machine.Machine.{Machine}
 use Rattle.fp_tables.specs.declared.model.Item.{Item as Ordered}
 use Rattle.fp_tables.specs.declared.model.Model.{Model}
 use Rattle.fp_meaning.specs.Values.{opened, Val}
@@ -12,6 +13,7 @@ use Rattle.fp_type_sizes.specs.declared.written.WrittenType.{WrittenType}
 use Rattle.fp_type_forms.specs.Written.{AllAt, AreWritten}
 use Rattle.fp_source_types.specs.Typed.{AreTypesOf}
 use Rattle.fp_source_components.specs.Built.{ArePartsOf}
+use Rattle.fp_source_machines.specs.Built.{AreMachinesOf}
 use Rattle.fp_model.specs.Definitions as written
 use Rattle.fp_model.specs.Definitions.{ConstantHere, qualified}
 
@@ -28,24 +30,24 @@ AreConstants source hs cs = AllAt (λ position. IsConstant source) 0 hs cs
 abbrev pub HasParts : Source → Model → Type 0
 HasParts source m = (ws : List WrittenType) × AreWritten source ws × ArePartsOf source ws (record { ports = m.ports; components = m.components })
 
--- the constants, the types, each given, the ports and the components, all in the order of the source; there is nothing else yet
+-- the constants, the types, each given, the ports, the components and the state machines, all in the order of the source; there is nothing else yet
 pub record Defined (source : Source) (m : Model) : Type 0 where
   pub constants : AreConstants source (written.constants source) m.constants
   pub types : AreTypesOf source (map (λ (d : TypeDef). Some d) m.types)
   pub parts : HasParts source m
-  pub machines : m.machines ≡ []
+  pub machines : AreMachinesOf source m.machines
   pub instances : m.instances ≡ []
   pub topologies : m.topologies ≡ []
   pub order : m.order ≡ written.order source
 
 -- the model of these lists alone
-abbrev pub model_with : List Constant → List TypeDef → List PortDef → List Component → List Ordered → Model
-model_with cs ts ps xs os = record {
+abbrev pub model_with : List Constant → List TypeDef → List PortDef → List Component → List Machine → List Ordered → Model
+model_with cs ts ps xs ms os = record {
   constants = cs;
   types = ts;
   ports = ps;
   components = xs;
-  machines = [];
+  machines = ms;
   instances = [];
   topologies = [];
   order = os;

@@ -4,7 +4,8 @@ ghost use Rattle.fp_meaning.specs.Layout as layout;
 ghost use Rattle.fp_meaning.specs.Origins.{expressions};
 ghost use Rattle.fp_source_types.specs.Typed.{AreTypesOf};
 ghost use Rattle.fp_source_components.specs.Built.{ArePartsOf};
-ghost use Rattle.fp_tables.specs.Positions.{component_is_short, is_short, lists_are_short};
+ghost use Rattle.fp_source_machines.specs.Built.{AreMachinesOf};
+ghost use Rattle.fp_tables.specs.Positions.{component_is_short, is_short, lists_are_short, machine_is_short};
 ghost use Rattle.fp_tables.specs.declared.kind.TypeDef.{TypeDef as Given};
 ghost use Rattle.fp_tree.specs.declared.source.Source.{Source};
 ghost use Rattle.fp_type_forms.specs.Written.{AreWritten};
@@ -17,27 +18,29 @@ use crate::ordering::order_among;
 use fp_base::{NoMemory, Row, Value};
 use fp_meaning::Item;
 use fp_source_components::Parts;
-use fp_tables::{Component, Constant, Item as Ordered, Model, PortDef, TypeDef};
+use fp_tables::{Component, Constant, Item as Ordered, Machine, Model, PortDef, TypeDef};
 use std::alloc::Global;
 
-/// The model of a source that is laid out flat, from the values of its expressions, its types, and its ports and components. Want of memory where
-/// a list has more items than can be numbered.
+/// The model of a source that is laid out flat, from the values of its expressions, its types, its ports and components, and its state machines.
+/// Want of memory where a list has more items than can be numbered.
 pub fn model_of(
     alloc: Global,
     items: &[Item],
     values: &[Option<Value>],
     types: Row<TypeDef>,
     parts: Parts,
+    machines: Row<Machine>,
 ) -> Result<Model, NoMemory>
-    requires { list_all component_is_short parts.components ≡ true }
+    requires components { list_all component_is_short parts.components ≡ true }
+    requires machines { list_all machine_is_short machines ≡ true }
     ensures defined { IfOk result (λ model. (source : Source) (ws : List WrittenType) → items.now ≡ layout.items source → StandFrom source values.now (expressions source) 0
-        → AreTypesOf source (map (λ (d : Given). Some d) types) → AreWritten source ws → ArePartsOf source ws parts → Defined source model) }
+        → AreTypesOf source (map (λ (d : Given). Some d) types) → AreWritten source ws → ArePartsOf source ws parts → AreMachinesOf source machines → Defined source model) }
     ensures short { IfOk result (λ model. lists_are_short model ≡ true) }
 {
     let Parts { ports, components } = parts;
     let constants = constants_among(alloc, items, values)?;
     let order = order_among(alloc, items)?;
-    let model = assembled(alloc, constants, types, ports, components, order)?;
+    let model = assembled(alloc, constants, types, ports, components, machines, order)?;
     Ok(model)
 }
 
@@ -48,22 +51,24 @@ fn assembled(
     types: Row<TypeDef>,
     ports: Row<PortDef>,
     components: Row<Component>,
+    machines: Row<Machine>,
     order: Row<Ordered>,
 ) -> Result<Model, NoMemory>
-    ensures model { IfOk result (λ model. model ≡ model_with constants types ports components order) }
-    ensures short { IfOk result (λ model. (is_short constants && is_short types && is_short ports && is_short components) ≡ true) }
+    ensures model { IfOk result (λ model. model ≡ model_with constants types ports components machines order) }
+    ensures short { IfOk result (λ model. (is_short constants && is_short types && is_short ports && is_short components && is_short machines) ≡ true) }
 {
     let short = is_short(constants.len())
         & is_short(types.len())
         & is_short(ports.len())
-        & is_short(components.len());
+        & is_short(components.len())
+        & is_short(machines.len());
     if short {
         Ok(Model {
             constants,
             types,
             ports,
             components,
-            machines: Row::new(alloc),
+            machines,
             instances: Row::new(alloc),
             topologies: Row::new(alloc),
             order,

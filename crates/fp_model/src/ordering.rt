@@ -1,8 +1,8 @@
 ghost use Rattle.std.specs.Prelude.{◌≡◌, ◌+◌, ◌++◌, ◌∷◌, [], IfOk, List};
 ghost use Rattle.fp_meaning.specs.declared.item.Item.{Item as Laid};
 ghost use Rattle.fp_meaning.specs.Read.{read};
-ghost use Rattle.fp_tables.specs.declared.model.Item.TheVariants.{Component};
-ghost use Rattle.fp_model.specs.Counted.{counted, counted_model, none_before, order_by, order_by_model, order_from, order_with};
+ghost use Rattle.fp_tables.specs.declared.model.Item.TheVariants.{Component, Machine};
+ghost use Rattle.fp_model.specs.Counted.{counted, counted_model, none_before, order_by, order_by_model, order_from};
 ghost use Rattle.fp_model.specs.Definitions.{order_behind};
 
 use fp_base::{NoMemory, Row};
@@ -11,13 +11,14 @@ use fp_tables::Item as Ordered;
 use fp_tree::Def;
 use std::alloc::Global;
 
-/// How many constants, types, ports and components stand before an item.
+/// How many constants, types, ports, components and state machines stand before an item.
 #[derive(Clone, Copy)]
 pub struct Counts {
     pub constants: u32,
     pub kinds: u32,
     pub ports: u32,
     pub components: u32,
+    pub machines: u32,
 }
 
 /// The definitions among items, in their order. Want of memory where so many of one sort have no number.
@@ -46,6 +47,7 @@ fn none_before() -> Counts
         kinds: 0,
         ports: 0,
         components: 0,
+        machines: 0,
     }
 }
 
@@ -73,7 +75,7 @@ fn add_definition(
     counted(definition, before)
 }
 
-/// A component is listed; what else is declared has no place in the order.
+/// A component and a state machine are listed; what else is declared has no place in the order.
 fn add_declared(
     definition: ModelDef,
     before: Counts,
@@ -83,7 +85,7 @@ fn add_declared(
     ensures counts { IfOk result (λ after. after ≡ counted_model before (read definition.entry)) }
 {
     match definition {
-        ModelDef::Machine(_) => Ok(before),
+        ModelDef::Machine(_) => add_machine(before, found),
         ModelDef::Component(_) => add_component(before, found),
         ModelDef::Interface(_) => Ok(before),
         ModelDef::Instance(_) => Ok(before),
@@ -93,7 +95,7 @@ fn add_declared(
 
 fn add_component(before: Counts, found: &mut Row<Ordered>) -> Result<Counts, NoMemory>
     ensures found { IfOk result (λ after. found.new ≡ found.old ++ Component before.components ∷ []) }
-    ensures counts { IfOk result (λ after. after ≡ record { constants = before.constants; kinds = before.kinds; ports = before.ports; components = before.components + 1 }) }
+    ensures counts { IfOk result (λ after. after ≡ record { constants = before.constants; kinds = before.kinds; ports = before.ports; components = before.components + 1; machines = before.machines }) }
 {
     found.push(Ordered::Component(before.components))?;
     let components = one_more(before.components)?;
@@ -102,6 +104,22 @@ fn add_component(before: Counts, found: &mut Row<Ordered>) -> Result<Counts, NoM
         kinds: before.kinds,
         ports: before.ports,
         components,
+        machines: before.machines,
+    })
+}
+
+fn add_machine(before: Counts, found: &mut Row<Ordered>) -> Result<Counts, NoMemory>
+    ensures found { IfOk result (λ after. found.new ≡ found.old ++ Machine before.machines ∷ []) }
+    ensures counts { IfOk result (λ after. after ≡ record { constants = before.constants; kinds = before.kinds; ports = before.ports; components = before.components; machines = before.machines + 1 }) }
+{
+    found.push(Ordered::Machine(before.machines))?;
+    let machines = one_more(before.machines)?;
+    Ok(Counts {
+        constants: before.constants,
+        kinds: before.kinds,
+        ports: before.ports,
+        components: before.components,
+        machines,
     })
 }
 
@@ -134,7 +152,7 @@ fn counted(definition: &Def, before: Counts) -> Result<Counts, NoMemory>
 }
 
 fn with_constant(before: Counts) -> Result<Counts, NoMemory>
-    ensures { IfOk result (λ after. after ≡ record { constants = before.constants + 1; kinds = before.kinds; ports = before.ports; components = before.components }) }
+    ensures { IfOk result (λ after. after ≡ record { constants = before.constants + 1; kinds = before.kinds; ports = before.ports; components = before.components; machines = before.machines }) }
 {
     let constants = one_more(before.constants)?;
     Ok(Counts {
@@ -142,11 +160,12 @@ fn with_constant(before: Counts) -> Result<Counts, NoMemory>
         kinds: before.kinds,
         ports: before.ports,
         components: before.components,
+        machines: before.machines,
     })
 }
 
 fn with_kind(before: Counts) -> Result<Counts, NoMemory>
-    ensures { IfOk result (λ after. after ≡ record { constants = before.constants; kinds = before.kinds + 1; ports = before.ports; components = before.components }) }
+    ensures { IfOk result (λ after. after ≡ record { constants = before.constants; kinds = before.kinds + 1; ports = before.ports; components = before.components; machines = before.machines }) }
 {
     let kinds = one_more(before.kinds)?;
     Ok(Counts {
@@ -154,11 +173,12 @@ fn with_kind(before: Counts) -> Result<Counts, NoMemory>
         kinds,
         ports: before.ports,
         components: before.components,
+        machines: before.machines,
     })
 }
 
 fn with_port(before: Counts) -> Result<Counts, NoMemory>
-    ensures { IfOk result (λ after. after ≡ record { constants = before.constants; kinds = before.kinds; ports = before.ports + 1; components = before.components }) }
+    ensures { IfOk result (λ after. after ≡ record { constants = before.constants; kinds = before.kinds; ports = before.ports + 1; components = before.components; machines = before.machines }) }
 {
     let ports = one_more(before.ports)?;
     Ok(Counts {
@@ -166,6 +186,7 @@ fn with_port(before: Counts) -> Result<Counts, NoMemory>
         kinds: before.kinds,
         ports,
         components: before.components,
+        machines: before.machines,
     })
 }
 

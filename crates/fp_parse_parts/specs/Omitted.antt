@@ -11,7 +11,7 @@ use Rattle.fp_parse_pieces.specs.Kinds.{kind, k_reserved}
 
 -- the first words of members whose meaning isn't built
 abbrev pub unbuilt : List ℕ
-unbuilt = reserved "state" ∷ reserved "instance" ∷ reserved "topology" ∷ []
+unbuilt = reserved "instance" ∷ reserved "topology" ∷ []
 
 -- the kinds of these reserved words
 abbrev pub kinds_of : List ℕ → List ℕ

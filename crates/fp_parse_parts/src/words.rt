@@ -17,7 +17,7 @@ use fp_lexer::{Token, Word};
 use fp_parse_pieces::expect_word;
 
 /// The first words of members whose meaning isn't built.
-const UNBUILT: [u8; 3] = [STATE, INSTANCE, TOPOLOGY];
+const UNBUILT: [u8; 2] = [INSTANCE, TOPOLOGY];
 
 /// The first words of members that say what a model is put together from.
 const MODEL: [u8; 7] = [

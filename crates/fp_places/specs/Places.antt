@@ -1,10 +1,12 @@
--- The places in definitions at which rules of constants, types, formats and components can be broken: of names that are defined, of types, of
--- expressions and of the expressions and members that these are made of, of formats, and of the parts of components, interfaces and machines.
--- FPP Language Specification, "Definitions", "Expressions", "Type Names", "Component Definitions", "Interface Definitions" and "State Machine
--- Definitions".
-use Rattle.std.specs.Prelude.{List, [], ◌∷◌, ◌++◌, flat_map, Option}
+-- The places in definitions at which rules of constants, types, formats, components and state machines can be broken: of names that are
+-- defined, of types, of expressions and of the expressions and members that these are made of, of formats, of the parts of components and
+-- interfaces, and of the elements of machines and of each signal, action, guard, state or choice that is named in one.
+-- FPP Language Specification, "Definitions", "Expressions", "Type Names", "Component Definitions", "Interface Definitions", "State Machine
+-- Definitions" and "State Machine Behavior Elements".
+use Rattle.std.specs.Prelude.{List, [], ◌∷◌, ◌++◌, flat_map, map, Option}
 use Rattle.fp_base.specs.declared.place.Place.{Place}
 use Rattle.fp_base.specs.declared.place.Span.{Span}
+use Rattle.fp_tree.specs.declared.name.Name.{Name}
 use Rattle.fp_tree.specs.declared.name.Str.{Str}
 use Rattle.fp_tree.specs.declared.expression.Expr.{Expr, Expr-F, fold-Expr}
 use Rattle.fp_tree.specs.declared.expression.Form.{Form, Form-F, fold-Form}
@@ -20,6 +22,13 @@ use Rattle.fp_tree.specs.declared.definition.Def.{Def}
 use Rattle.fp_tree.specs.declared.definition.Def.TheVariants as def
 use Rattle.fp_tree.specs.declared.dictionary.Limit.{Limit}
 use Rattle.fp_tree.specs.declared.dictionary.Limits.{Limits}
+use Rattle.fp_tree.specs.declared.machine.ActionUse.{ActionUse}
+use Rattle.fp_tree.specs.declared.machine.Do.{Do}
+use Rattle.fp_tree.specs.declared.machine.Goto.{Goto}
+use Rattle.fp_tree.specs.declared.machine.Transition.{Transition}
+use Rattle.fp_tree.specs.declared.machine.Transition.TheVariants as way
+use Rattle.fp_tree.specs.declared.machine.Choice.{Choice}
+use Rattle.fp_tree.specs.declared.machine.OnSignal.{OnSignal}
 use Rattle.fp_tree.specs.declared.machine.ElementForm.{ElementForm}
 use Rattle.fp_tree.specs.declared.machine.ElementForm.TheVariants as element
 use Rattle.fp_tree.specs.declared.machine.BehaviorElement.{BehaviorElement}
@@ -141,18 +150,42 @@ places_in_interface_part (interface_part.Import i) = i.at.first ∷ []
 
 -- ---- what belongs to machines
 
-abbrev pub places_in_typed : TypedName → List Place
-places_in_typed t = in_optional places_in_type t.of
+abbrev pub places_in_do : Do → List Place
+places_in_do d = map (λ (a : ActionUse). a.name.at.first) d.actions
 
--- of the types of signals, actions and guards
-abbrev pub places_in_element_form : ElementForm → List Place
-places_in_element_form (element.Signal t) = places_in_typed t
-places_in_element_form (element.Action t) = places_in_typed t
-places_in_element_form (element.Guard t) = places_in_typed t
-places_in_element_form _ = []
+abbrev pub places_in_goto : Goto → List Place
+places_in_goto g = in_optional places_in_do g.actions ++ g.target.at.first ∷ []
+
+abbrev pub places_in_transition : Transition → List Place
+places_in_transition (way.Goto g) = places_in_goto g
+places_in_transition (way.Do d) = places_in_do d
+
+abbrev pub places_in_choice : Choice → List Place
+places_in_choice c = c.name.at.first ∷ c.guard.at.first ∷ (places_in_goto c.met ++ places_in_goto c.unmet)
+
+abbrev pub places_of_guard : Option Name → List Place
+places_of_guard guard = in_optional (λ (n : Name). n.at.first ∷ []) guard
+
+abbrev pub places_in_on_signal : OnSignal → List Place
+places_in_on_signal o = o.signal.at.first ∷ (places_of_guard o.guard ++ places_in_transition o.transition)
+
+abbrev pub places_in_typed : TypedName → List Place
+places_in_typed t = t.name.at.first ∷ in_optional places_in_type t.of
+
+-- an element stands at its name where it has one, else at its own first byte
+abbrev pub places_in_element_form : Span → ElementForm → List Place
+places_in_element_form at (element.State n) = n.at.first ∷ []
+places_in_element_form at (element.Choice c) = places_in_choice c
+places_in_element_form at (element.Initial g) = at.first ∷ places_in_goto g
+places_in_element_form at (element.Signal t) = places_in_typed t
+places_in_element_form at (element.Action t) = places_in_typed t
+places_in_element_form at (element.Guard t) = places_in_typed t
+places_in_element_form at (element.On o) = at.first ∷ places_in_on_signal o
+places_in_element_form at (element.Entry d) = at.first ∷ places_in_do d
+places_in_element_form at (element.Exit d) = at.first ∷ places_in_do d
 
 abbrev pub places_in_element : BehaviorElement → List Place
-places_in_element e = places_in_element_form e.form
+places_in_element e = places_in_element_form e.at e.form
 
 abbrev pub places_in_behavior : Behavior → List Place
 places_in_behavior b = flat_map places_in_element b.elements

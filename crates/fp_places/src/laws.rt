@@ -12,7 +12,8 @@ ghost use Rattle.fp_sites.specs.Sites.{BeginsToken, in_parts};
 ghost use Rattle.fp_places.specs.Places.{places_in_part, places_of};
 
 /// Where the tokens of a file spell members, each place in these of a name that is defined, of a type, of an expression and of what it is
-/// made of, of a format, and of a part of a component or an interface is one where one of the tokens begins.
+/// made of, of a format, of a part of a component or an interface, and of an element of a machine and of what it uses is one where one of the
+/// tokens begins.
 pub fn places_begin_tokens()
     ensures { (tokens : List Token) (ms : List Member) (scope : Path) (i : Item) (place : Place) → SpellsUnit tokens ms → Contains (in_members scope ms) i → Contains (places_of i) place → BeginsToken tokens place }
 {}

@@ -1,4 +1,4 @@
-//! That each place at which a rule of constants, types, formats or components can be broken is one where a token of its file begins.
+//! That each place at which a rule of constants, types, formats, components or machines can be broken is one where a token of its file begins.
 #![tactic(auto)]
 
 mod laws;

@@ -10,6 +10,7 @@ use Rattle.fp_tables.specs.declared.component.Part.TheVariants as part
 use Rattle.fp_written_parts.specs.declared.dictionary.WrittenEvent.{WrittenEvent}
 use Rattle.fp_written_parts.specs.declared.dictionary.WrittenChannel.{WrittenChannel}
 use Rattle.fp_written_parts.specs.declared.dictionary.WrittenParam.{WrittenParam}
+use Rattle.fp_written_parts.specs.declared.member.WrittenRunning.{WrittenRunning}
 use Rattle.fp_written_parts.specs.declared.member.WrittenMember.{WrittenMember}
 use Rattle.fp_written_parts.specs.declared.member.WrittenMember.TheVariants.{Port, Import, Command, Event, Channel, Param, Match, Running}
 use Rattle.fp_dictdefs.specs.declared.listed.Listed.{Listed}
@@ -133,6 +134,16 @@ module _ (P : WrittenMember → Type 0) where
   param_has (Match d) h = tt
   param_has (Running r) h = tt
 
+  running_has : (m : WrittenMember) → P m → AllByRecursion (λ (r : WrittenRunning). P (Running r)) (running_in m)
+  running_has (Port p) h = tt
+  running_has (Import i) h = tt
+  running_has (Command c) h = tt
+  running_has (Event e) h = tt
+  running_has (Channel t) h = tt
+  running_has (Param p) h = tt
+  running_has (Match d) h = tt
+  running_has (Running r) h = (h, tt)
+
   pub events_have : (ms : List WrittenMember) → ((k : ℕ) (m : WrittenMember) → slice_get ms k ≡ Some m → P m) → (k : ℕ) (e : WrittenEvent)
       → slice_get (flat_map event_in ms) k ≡ Some e → P (Event e)
   events_have ms each k e at = picked event_in (λ (x : WrittenEvent). P (Event x)) event_has ms each k e at
@@ -144,6 +155,10 @@ module _ (P : WrittenMember → Type 0) where
   pub params_have : (ms : List WrittenMember) → ((k : ℕ) (m : WrittenMember) → slice_get ms k ≡ Some m → P m) → (k : ℕ) (p : WrittenParam)
       → slice_get (flat_map param_in ms) k ≡ Some p → P (Param p)
   params_have ms each k p at = picked param_in (λ (x : WrittenParam). P (Param x)) param_has ms each k p at
+
+  pub runnings_have : (ms : List WrittenMember) → ((k : ℕ) (m : WrittenMember) → slice_get ms k ≡ Some m → P m) → (k : ℕ) (r : WrittenRunning)
+      → slice_get (flat_map running_in ms) k ≡ Some r → P (Running r)
+  runnings_have ms each k r at = picked running_in (λ (x : WrittenRunning). P (Running x)) running_has ms each k r at
 
   -- a command of a parameter has what the parameter has
   abbrev pub HereHas : CommandHere → Type 0

@@ -33,7 +33,7 @@ use Rattle.fp_sound_components.proofs.Single.{below_true, formals_itself, size_f
 
 -- ---- roles
 
-later_is : (q : QueueWords) (way : Way) → IsLater q way → is_later way ≡ true
+pub later_is : (q : QueueWords) (way : Way) → IsLater q way → is_later way ≡ true
 later_is q (Later priority full) h = refl
 later_is q Sync h = absurd h
 later_is q Guarded h = absurd h

@@ -1,5 +1,5 @@
 -- What it says of members that a rule isn't broken.
-use Rattle.std.proofs.Common.{◌≡◌, inl, inr, ℕ, List, [], Some, refl}
+use Rattle.std.proofs.Common.{◌≡◌, inl, inr, ℕ, true, List, [], Some, refl}
 use Rattle.std.specs.Prelude.{slice_get}
 use Rattle.fp_base.specs.Least.{IsUnbroken, InSome, broken_at}
 use Rattle.fp_base.specs.declared.refusal.Refusal.{Refusal}
@@ -17,9 +17,9 @@ use Rattle.fp_port_rules.specs.Broken.{PortsBroken, RepeatedFormals}
 use Rattle.fp_port_rules.specs.Broken as ports
 use Rattle.fp_dictdefs.specs.Broken.{BrokenLists, DictionaryBroken}
 use Rattle.fp_dictdefs.specs.Broken as parts
-use Rattle.fp_component_rules.specs.Broken.{AreOfOneKind, ClashAt, ComponentsBroken, GivesAgain, HaveOneName, QueueBroken, RepeatsBroken, UseAt, Waits}
+use Rattle.fp_component_rules.specs.Broken.{AreOfOneKind, ClashAt, ComponentsBroken, GivesAgain, HaveOneName, QueueBroken, RepeatsBroken, UseAt, Waits, waits_itself}
 use Rattle.fp_components.specs.Resolved.{running_in}
-use Rattle.fp_sound_components.specs.Ready.{OfEachMember, RunsNoMachine}
+use Rattle.fp_sound_components.specs.Ready.{OfEachMember}
 use Rattle.fp_sound_components.proofs.Given.{GiveApart}
 
 -- ---- ports
@@ -94,7 +94,8 @@ module _ (interfaces : List WrittenInterface) where
 
 -- ---- instances of state machines
 
-pub no_running : (m : WrittenMember) → RunsNoMachine m → running_in m ≡ []
+-- what doesn't wait is none
+pub no_running : (m : WrittenMember) → (waits_itself m ≡ true → ⊥) → running_in m ≡ []
 no_running (Port p) h = refl
 no_running (Import i) h = refl
 no_running (Command c) h = refl
@@ -102,4 +103,4 @@ no_running (Event e) h = refl
 no_running (Channel t) h = refl
 no_running (Param p) h = refl
 no_running (Match d) h = refl
-no_running (Running r) h = absurd h
+no_running (Running r) h = absurd (h refl)

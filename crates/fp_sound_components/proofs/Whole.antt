@@ -8,7 +8,7 @@ use Rattle.fp_base.specs.Least.{IsUnbroken, InSome}
 use Rattle.fp_base.specs.Names.{is_name}
 use Rattle.fp_base.specs.declared.value.Value.{Value}
 use Rattle.fp_base.proofs.Bools.{both, join}
-use Rattle.fp_base.proofs.Lists.{all_get}
+use Rattle.fp_base.proofs.Lists.{all_get, get_within}
 use Rattle.fp_tables.specs.Components as components
 use Rattle.fp_tables.specs.Names.{is_qualified, numbers_differ, texts_differ}
 use Rattle.fp_tables.specs.Positions as positions
@@ -38,6 +38,7 @@ use Rattle.fp_written_parts.specs.declared.dictionary.WrittenEvent.{WrittenEvent
 use Rattle.fp_written_parts.specs.declared.dictionary.WrittenParam.{WrittenParam}
 use Rattle.fp_written_parts.specs.declared.member.WrittenComponent.{WrittenComponent}
 use Rattle.fp_written_parts.specs.declared.member.WrittenInterface.{WrittenInterface}
+use Rattle.fp_written_parts.specs.declared.member.WrittenRunning.{WrittenRunning}
 use Rattle.fp_written_parts.specs.declared.member.WrittenMember.{WrittenMember}
 use Rattle.fp_written_parts.specs.declared.member.WrittenMember.TheVariants as member
 use Rattle.fp_dictdefs.specs.Broken.{DictionaryBroken}
@@ -50,7 +51,7 @@ use Rattle.fp_port_rules.specs.Broken.{BrokenFormals, PortsBroken}
 use Rattle.fp_port_rules.specs.Broken as ports
 use Rattle.fp_component_rules.specs.Broken.{AreOfOneKind, ComponentsBroken, HaveOneName, QueueBroken, UseAt, waits_itself}
 use Rattle.fp_components.specs.Resolved.{AreComponents, AreEach, CommandHere, written, sets, saves, IsChannel, IsCommand, IsComponent, IsDefault, IsEvent, IsMatch, IsParam, IsRunning, PortIs, channel_in, commands_from, event_in, formals_of, match_in, param_in, port_def_of, running_in}
-use Rattle.fp_sound_components.specs.Ready.{AreReady, HasAgreeingFormat, HasFittingLimits, IsGood, OfEachMember, RunsNoMachine, definition_lies, formals_have_names, formals_lie, member_has_names, member_lies}
+use Rattle.fp_sound_components.specs.Ready.{AreReady, HasAgreeingFormat, HasFittingLimits, IsGood, OfEachMember, RunsFitting, definition_lies, formals_have_names, formals_lie, instances_differ, member_has_names, member_lies}
 use Rattle.fp_sound_components.specs.Sound.{AreSound, HaveSoundLists, HaveSoundNames, HaveSoundParts, HaveSoundPorts, HaveSoundValues}
 use Rattle.fp_sound_components.proofs.Channels.{colors_apart, limits_have_kind, limits_lie, no_limit_or_integer, other_colors_apart}
 use Rattle.fp_sound_components.proofs.Commands.{HasItsParam, HasParam, chosen_through, command_apart, command_lies, command_name, command_names, command_part, command_quiet, command_takes, one_each, saved_same, set_same}
@@ -60,9 +61,9 @@ use Rattle.fp_sound_components.proofs.Events.{event_agrees, event_apart, event_l
 use Rattle.fp_sound_components.proofs.Formals.{formals_apart, formals_lying, formals_named}
 use Rattle.fp_sound_components.proofs.Given.{given_apart, given_with}
 use Rattle.fp_sound_components.proofs.Single.{below_true, same_kinds}
-use Rattle.fp_sound_components.proofs.Listed.{ParamHere, channel_listed, channels_alike, channels_have, command_listed, commands_alike, commands_have, event_listed, events_alike, events_have, none_running, param_at, param_listed, params_alike, params_have, part_here, saved_by, saves_in_order, set_by, sets_in_order}
+use Rattle.fp_sound_components.proofs.Listed.{ParamHere, channel_listed, channels_alike, channels_have, command_listed, commands_alike, commands_have, event_listed, events_alike, events_have, none_running, param_at, param_listed, params_alike, params_have, part_here, runnings_have, saved_by, saves_in_order, set_by, sets_in_order}
 use Rattle.fp_sound_components.proofs.Lists.{AreApart, all_items, both_and, both_back, chosen_apart, mapped_apart, numbers_from, position_within}
-use Rattle.fp_sound_components.proofs.Ports.{defined, has_formals, later_inside, of_lies, quiet, size_good, special_back, suits_role, waits_without, with_formals}
+use Rattle.fp_sound_components.proofs.Ports.{defined, has_formals, later_inside, later_is, of_lies, quiet, size_good, special_back, suits_role, waits_without, with_formals}
 use Rattle.fp_sound_components.proofs.Rules.{component_queue, component_repeats, definition_rules, interface_repeats, kinds_once, list_rules, member_rules, names_once, no_running, none_waits, port_rules}
 
 empty_beside : {A B : Type 0} (is : ℕ → A → B → Type 0) (xs : List A) (ys : List B) → AreEach is xs ys → xs ≡ [] → ys ≡ []
@@ -71,14 +72,14 @@ empty_beside is [] (y ∷ ys) h e = absurd (omega (arith, h.each))
 empty_beside is (x ∷ xs) ys h e = absurd (cc)
 
 -- nothing that these rules are on is broken
-pub record AreRuled (types : List TypeDef) (ws : List WrittenType) (definitions : List WrittenPortDef) (interfaces : List WrittenInterface) (written : List WrittenComponent) (cs : List Component) : Type 0 where
-  pub ready : AreReady types ws definitions interfaces written cs
+pub record AreRuled (types : List TypeDef) (machines : List Machine) (ws : List WrittenType) (definitions : List WrittenPortDef) (interfaces : List WrittenInterface) (written : List WrittenComponent) (cs : List Component) : Type 0 where
+  pub ready : AreReady types machines ws definitions interfaces written cs
   pub of_ports : IsUnbroken (PortsBroken definitions interfaces written)
   pub of_parts : IsUnbroken (InSome (λ (k : ℕ). DictionaryBroken types) written)
   pub of_wholes : IsUnbroken (ComponentsBroken interfaces written)
 
-module _ (types : List TypeDef) (ws : List WrittenType) (definitions : List WrittenPortDef) (interfaces : List WrittenInterface) (all_written : List WrittenComponent) (cs : List Component)
-    (h : AreRuled types ws definitions interfaces all_written cs) where
+module _ (types : List TypeDef) (machines : List Machine) (ws : List WrittenType) (definitions : List WrittenPortDef) (interfaces : List WrittenInterface) (all_written : List WrittenComponent) (cs : List Component)
+    (h : AreRuled types machines ws definitions interfaces all_written cs) where
   module _ (v : ℕ) (w : WrittenComponent) (c : Component) (here : slice_get all_written v ≡ Some w) (is : IsComponent interfaces definitions ws w c) where
     -- ---- what holds of its members and of the ports that they give
 
@@ -333,18 +334,42 @@ module _ (types : List TypeDef) (ws : List WrittenType) (definitions : List Writ
         (ap (λ (z : Kind). nat_le (length d.limits) 0 || is_integer types z) i.kind ∙ no_limit_or_integer types x d.limits i.limits u) (colors_apart types x d.limits i.limits u))
         (other_colors_apart types x d.limits i.limits u))
 
-    -- ---- no instances of state machines
+    -- ---- instances of state machines
 
-    no_machines : c.machines ≡ []
-    no_machines =
-        empty_beside (λ k. IsRunning) (flat_map running_in w.members) c.machines is.machines
-        (none_running RunsNoMachine no_running w.members (members h.ready.no_machine_runs))
+    every_running : (test : Running → Bool) → ((k : ℕ) (r : WrittenRunning) (d : Running) → slice_get (flat_map running_in w.members) k ≡ Some r → IsRunning r d → test d ≡ true)
+        → list_all test c.machines ≡ true
+    every_running test good = all_beside (λ k. IsRunning) (flat_map running_in w.members) c.machines is.machines test good
+
+    fitting : (k : ℕ) (r : WrittenRunning) → slice_get (flat_map running_in w.members) k ≡ Some r → RunsFitting machines (member.Running r)
+    fitting k r e = runnings_have (RunsFitting machines) w.members (members h.ready.running_fit) k r e
+
+    running_lie : list_all (λ (r : Running). nat_lt r.machine (length machines)) c.machines ≡ true
+    running_lie =
+        every_running (λ (r : Running). nat_lt r.machine (length machines))
+        (λ k r d e i.
+        let t = fitting k r e in
+        ap (λ (n : ℕ). nat_lt n (length machines)) i.machine ∙ below_true r.machine (length machines) (get_within machines r.machine t.0 t.1))
+
+    running_named : list_all (λ (r : Running). is_name r.name) c.machines ≡ true
+    running_named =
+        every_running (λ (r : Running). is_name r.name)
+        (λ k r d e i. ap is_name i.name ∙ runnings_have (λ m. member_has_names m ≡ true) w.members (members h.ready.members_have_names) k r e)
 
     all_later : list_all (λ (r : Running). components.is_later r.way) c.machines ≡ true
-    all_later = ap (list_all (λ (r : Running). components.is_later r.way)) no_machines
+    all_later = every_running (λ (r : Running). components.is_later r.way) (λ k r d e i. later_is r.queue d.way i.way)
 
-    none_external : (machines : List Machine) → components.runs_no_external machines c ≡ true
-    none_external machines = ap (list_all (λ (r : Running). some_and (λ (m : Machine). not m.external) (slice_get machines r.machine))) no_machines
+    none_external : components.runs_no_external machines c ≡ true
+    none_external =
+        every_running (λ (r : Running). some_and (λ (m : Machine). not m.external) (slice_get machines r.machine))
+        (λ k r d e i.
+        let t = fitting k r e in
+        ap (λ (n : ℕ). some_and (λ (m : Machine). not m.external) (slice_get machines n)) i.machine ∙ ap (some_and (λ (m : Machine). not m.external)) t.1 ∙ ap not t.2)
+
+    running_names_apart : texts_differ (map (λ (r : Running). r.name) c.machines) ≡ true
+    running_names_apart =
+        ap texts_differ
+        (mapped_each (λ k. IsRunning) (λ (r : WrittenRunning). r.name) (λ (r : Running). r.name) (flat_map running_in w.members) c.machines is.machines (λ k r d i. i.name))
+        ∙ all_get instances_differ all_written v w h.ready.running_differ here
 
     -- ---- a passive component has no queue
 
@@ -363,6 +388,11 @@ module _ (types : List TypeDef) (ws : List WrittenType) (definitions : List Writ
           every_command (λ (x : Command). not (components.is_later x.way))
           (λ k x d e i. command_quiet x d i.is (commands_have (λ m. waits_itself m ≡ true → ⊥) w.members (λ j m f wait. none_waits interfaces w.members u j m f (inl wait)) k x e))
 
+      no_machines : c.machines ≡ []
+      no_machines =
+          empty_beside (λ k. IsRunning) (flat_map running_in w.members) c.machines is.machines
+          (none_running (λ m. waits_itself m ≡ true → ⊥) no_running w.members (λ j m f wait. none_waits interfaces w.members u j m f (inl wait)))
+
       waits_for_nothing : components.waits_for_nothing c ≡ true
       waits_for_nothing =
           join (list_all (λ (q : Port). not (components.waits q.role)) c.ports && list_all (λ (x : Command). not (components.is_later x.way)) c.commands) (nat_le (length c.machines) 0)
@@ -380,12 +410,11 @@ module _ (types : List TypeDef) (ws : List WrittenType) (definitions : List Writ
 
     -- ---- the whole component
 
-    component_lies : (machines : ℕ) → positions.component_lies (length types) (length (defined definitions)) machines c ≡ true
-    component_lies machines =
-        rw (ports_lie, commands_lie, events_lie, channels_lie, params_lie, matches_lie) (ap (list_all (λ (r : Running). nat_lt r.machine machines)) no_machines)
+    component_lies : positions.component_lies (length types) (length (defined definitions)) (length machines) c ≡ true
+    component_lies = rw (ports_lie, commands_lie, events_lie, channels_lie, params_lie, matches_lie) running_lie
 
     component_names : sound.component_has_names c ≡ true
-    component_names = rw (ports_named, commands_named, events_named, channels_named, params_named) (ap (list_all (λ (r : Running). is_name r.name)) no_machines)
+    component_names = rw (ports_named, commands_named, events_named, channels_named, params_named) running_named
 
     qualified : is_qualified c.name ≡ true
     qualified = ap is_qualified is.name ∙ all_get (λ (x : WrittenComponent). is_qualified x.name) all_written v w h.ready.components_are_qualified here
@@ -440,7 +469,7 @@ module _ (types : List TypeDef) (ws : List WrittenType) (definitions : List Writ
 
     all_names_apart : components.names_differ c ≡ true
     all_names_apart =
-        rw (port_names, command_names_apart, event_names_apart, channel_names_apart, param_names_apart) (ap (λ (rs : List Running). texts_differ (map (λ (r : Running). r.name) rs)) no_machines)
+        rw (port_names, command_names_apart, event_names_apart, channel_names_apart, param_names_apart) running_names_apart
 
     all_ids_apart : components.ids_differ c ≡ true
     all_ids_apart = rw (command_ids_apart, event_ids_apart, channel_ids_apart) param_ids_apart
@@ -455,10 +484,10 @@ module _ (types : List TypeDef) (ws : List WrittenType) (definitions : List Writ
         → ((v : ℕ) (w : WrittenComponent) (c : Component) → slice_get all_written v ≡ Some w → IsComponent interfaces definitions ws w c → test c ≡ true) → list_all test cs ≡ true
     every test good = all_beside (λ k. IsComponent interfaces definitions ws) all_written cs resolved test good
 
-    lists_sound : (machines : List Machine) → HaveSoundLists types machines (defined definitions) cs
-    lists_sound machines = record {
+    lists_sound : HaveSoundLists types machines (defined definitions) cs
+    lists_sound = record {
       definitions_lie = list_all-map (positions.port_def_lies (length types)) port_def_of definitions ∙ all_items (λ (d : WrittenPortDef). positions.port_def_lies (length types) (port_def_of d)) definitions (λ k d e. definition_good d (all_get (definition_lies (length types)) definitions k d h.ready.definitions_lie e));
-      components_lie = every (positions.component_lies (length types) (length (defined definitions)) (length machines)) (λ v w c here is. component_lies v w c here is (length machines));
+      components_lie = every (positions.component_lies (length types) (length (defined definitions)) (length machines)) component_lies;
       components_are_short = h.ready.components_are_short;
     }
       where
@@ -467,8 +496,8 @@ module _ (types : List TypeDef) (ws : List WrittenType) (definitions : List Writ
             let t = both (formals_lie (length types) d.formals) (if_some (positions.kind_lies (length types)) d.result) l in
             join (positions.formals_lie (length types) (formals_of d.formals)) (if_some (positions.kind_lies (length types)) d.result) (formals_lying (length types) d.formals t.0) t.1
 
-    names_sound : (machines : List Machine) → HaveSoundNames types machines (defined definitions) cs
-    names_sound machines = record {
+    names_sound : HaveSoundNames types machines (defined definitions) cs
+    names_sound = record {
       definitions_have_names =
           list_all-map (λ (p : PortDef). sound.formals_have_names p.formals) port_def_of definitions
           ∙ all_items (λ (d : WrittenPortDef). sound.formals_have_names (formals_of d.formals)) definitions
@@ -478,14 +507,14 @@ module _ (types : List TypeDef) (ws : List WrittenType) (definitions : List Writ
       components_are_qualified = every (λ (c : Component). is_qualified c.name) qualified;
     }
 
-    values_sound : (machines : List Machine) → HaveSoundValues types machines (defined definitions) cs
-    values_sound machines = record {
+    values_sound : HaveSoundValues types machines (defined definitions) cs
+    values_sound = record {
       parts_have_their_values = every (components.component_has_values types) has_values;
       defaults_are_of_size = every (λ (c : Component). list_all (λ (p : Param). is_of_size p.default) c.params) defaults_of_size;
     }
 
-    ports_sound : (machines : List Machine) → HaveSoundPorts types machines (defined definitions) cs
-    ports_sound machines = record {
+    ports_sound : HaveSoundPorts types machines (defined definitions) cs
+    ports_sound = record {
       ports_have_their_formals = every (λ (c : Component). list_all (components.has_its_formals (defined definitions)) c.ports) own_formals;
       ports_suit_their_roles = every (λ (c : Component). list_all (components.suits_its_role (defined definitions)) c.ports) suited_roles;
       internal_ports_are_later = every (λ (c : Component). list_all (λ (q : Port). components.internal_is_later q.role) c.ports) later_internals;
@@ -498,8 +527,8 @@ module _ (types : List TypeDef) (ws : List WrittenType) (definitions : List Writ
       ports_are_of_size = every (λ (c : Component). list_all (λ (q : Port). components.is_from_1_to 1024 q.size) c.ports) good_sizes;
     }
 
-    parts_sound : (machines : List Machine) → HaveSoundParts types machines (defined definitions) cs
-    parts_sound machines = record {
+    parts_sound : HaveSoundParts types machines (defined definitions) cs
+    parts_sound = record {
       names_differ = every components.names_differ all_names_apart;
       ids_differ = every components.ids_differ all_ids_apart;
       formals_differ = every components.formals_differ all_formals_apart;
@@ -510,15 +539,15 @@ module _ (types : List TypeDef) (ws : List WrittenType) (definitions : List Writ
       fields_agree_with_formals = every (λ (c : Component). list_all (components.agrees_with_formals types) c.events) events_agree;
       limits_are_good = every (λ (c : Component). list_all (components.has_good_limits types) c.channels) good_limits;
       running_machines_are_later = every (λ (c : Component). list_all (λ (r : Running). components.is_later r.way) c.machines) all_later;
-      no_external_machine_runs = every (components.runs_no_external machines) (λ v w c here is. none_external v w c here is machines);
+      no_external_machine_runs = every (components.runs_no_external machines) none_external;
       passive_ones_wait_for_nothing = every (λ (c : Component). not (components.is_passive c.queueing) || components.waits_for_nothing c) passive_is_quiet;
     }
 
-    pub components_sound : (machines : List Machine) → AreSound types machines (defined definitions) cs
-    components_sound machines = record {
-      lists = lists_sound machines;
-      names = names_sound machines;
-      values = values_sound machines;
-      ports = ports_sound machines;
-      parts = parts_sound machines;
+    pub components_sound : AreSound types machines (defined definitions) cs
+    components_sound = record {
+      lists = lists_sound;
+      names = names_sound;
+      values = values_sound;
+      ports = ports_sound;
+      parts = parts_sound;
     }

@@ -1,6 +1,6 @@
 -- What components are wanted to have besides what the rules on ports, dictionaries and whole components say: names that are names, positions that lie,
 -- and values that have their types. FPP Language Specification, "Component Definitions".
-use Rattle.std.specs.Prelude.{◌≡◌, ℕ, ℤ, Bool, true, ◌&&◌, List, length, slice_get, Option, Some, None}
+use Rattle.std.specs.Prelude.{◌≡◌, ℕ, ℤ, Bool, true, false, ◌&&◌, List, length, map, flat_map, slice_get, Option, Some, None}
 use Rattle.std.specs.List.{list_all}
 use Rattle.fp_base.specs.Names.{is_name}
 use Rattle.fp_base.specs.declared.format.Piece.{Piece}
@@ -8,12 +8,13 @@ use Rattle.fp_base.specs.declared.value.Value.{Value, Int}
 use Rattle.fp_tables.specs.Components.{definition_of}
 use Rattle.fp_tables.specs.Formats.{agree}
 use Rattle.fp_tables.specs.Lists.{if_some}
-use Rattle.fp_tables.specs.Names.{is_qualified}
+use Rattle.fp_tables.specs.Names.{is_qualified, texts_differ}
 use Rattle.fp_tables.specs.Positions.{kind_lies, component_is_short}
 use Rattle.fp_tables.specs.Types.{has_kind, is_of_size}
 use Rattle.fp_tables.specs.declared.kind.Kind.{Kind}
 use Rattle.fp_tables.specs.declared.kind.TypeDef.{TypeDef}
 use Rattle.fp_tables.specs.declared.component.Component.{Component}
+use Rattle.fp_tables.specs.declared.machine.Machine.{Machine}
 use Rattle.fp_formats.specs.Spelling.{IsFormat}
 use Rattle.fp_type_sizes.specs.declared.written.WrittenType.{WrittenType}
 use Rattle.fp_types.specs.Converting.{Converts, DefaultIs}
@@ -24,11 +25,12 @@ use Rattle.fp_written_parts.specs.declared.port.WrittenRole.TheVariants.{Special
 use Rattle.fp_written_parts.specs.declared.dictionary.WrittenEvent.{WrittenEvent}
 use Rattle.fp_written_parts.specs.declared.dictionary.WrittenLimit.{WrittenLimit}
 use Rattle.fp_written_parts.specs.declared.dictionary.WrittenChannel.{WrittenChannel}
+use Rattle.fp_written_parts.specs.declared.member.WrittenRunning.{WrittenRunning}
 use Rattle.fp_written_parts.specs.declared.member.WrittenMember.{WrittenMember}
 use Rattle.fp_written_parts.specs.declared.member.WrittenMember.TheVariants as member
 use Rattle.fp_written_parts.specs.declared.member.WrittenInterface.{WrittenInterface}
 use Rattle.fp_written_parts.specs.declared.member.WrittenComponent.{WrittenComponent}
-use Rattle.fp_components.specs.Resolved.{formals_of}
+use Rattle.fp_components.specs.Resolved.{formals_of, running_in}
 
 -- it holds of each member of the interfaces and of the components
 pub record OfEachMember (interfaces : List WrittenInterface) (written : List WrittenComponent) (P : WrittenMember → Type 0) : Type 0 where
@@ -46,6 +48,7 @@ member_has_names (member.Command c) = is_name c.name && formals_have_names c.for
 member_has_names (member.Event e) = is_name e.name && formals_have_names e.formals
 member_has_names (member.Channel t) = is_name t.name
 member_has_names (member.Param p) = is_name p.name
+member_has_names (member.Running r) = is_name r.name
 member_has_names _ = true
 
 -- ---- positions of types, by their number
@@ -78,9 +81,14 @@ HasItsDefinition definitions _ = Unit {0}
 
 -- ---- instances of state machines
 
-abbrev pub RunsNoMachine : WrittenMember → Type 0
-RunsNoMachine (member.Running r) = ⊥
-RunsNoMachine _ = Unit {0}
+-- its machine is one of these, and has a body
+abbrev pub RunsFitting : List Machine → WrittenMember → Type 0
+RunsFitting machines (member.Running r) = (m : Machine) × (slice_get machines r.machine ≡ Some m) × (m.external ≡ false)
+RunsFitting machines _ = Unit {0}
+
+-- no two of a component have the same name
+abbrev pub instances_differ : WrittenComponent → Bool
+instances_differ w = texts_differ (map (λ (r : WrittenRunning). r.name) (flat_map running_in w.members))
 
 -- ---- limits and formats
 
@@ -106,8 +114,8 @@ HasAgreeingFormat types _ = Unit {0}
 abbrev pub IsGood : List TypeDef → Kind → Value → Type 0
 IsGood types k v = (has_kind types k v ≡ true) × (is_of_size v ≡ true)
 
--- of what is written of components, and of the components that it comes to
-pub record AreReady (types : List TypeDef) (ws : List WrittenType) (definitions : List WrittenPortDef) (interfaces : List WrittenInterface) (written : List WrittenComponent) (cs : List Component) : Type 0 where
+-- of what is written of components, and of the components that it comes to, among these machines
+pub record AreReady (types : List TypeDef) (machines : List Machine) (ws : List WrittenType) (definitions : List WrittenPortDef) (interfaces : List WrittenInterface) (written : List WrittenComponent) (cs : List Component) : Type 0 where
   pub members_have_names : OfEachMember interfaces written (λ m. member_has_names m ≡ true)
   pub definitions_have_names : list_all (λ (d : WrittenPortDef). formals_have_names d.formals) definitions ≡ true
   pub definitions_are_qualified : list_all (λ (d : WrittenPortDef). is_qualified d.name) definitions ≡ true
@@ -115,7 +123,8 @@ pub record AreReady (types : List TypeDef) (ws : List WrittenType) (definitions 
   pub members_lie : OfEachMember interfaces written (λ m. member_lies (length types) m ≡ true)
   pub definitions_lie : list_all (definition_lies (length types)) definitions ≡ true
   pub ports_have_their_definitions : OfEachMember interfaces written (HasItsDefinition definitions)
-  pub no_machine_runs : OfEachMember interfaces written RunsNoMachine
+  pub running_fit : OfEachMember interfaces written (RunsFitting machines)
+  pub running_differ : list_all instances_differ written ≡ true
   pub limits_fit : OfEachMember interfaces written (HasFittingLimits types)
   pub formats_agree : OfEachMember interfaces written (HasAgreeingFormat types)
   pub converted_values_are_good : (v : Value) (k : Kind) (made : Value) → Converts ws v k made → IsGood types k made

@@ -17,6 +17,6 @@ ghost use Rattle.fp_sound_components.specs.Sound.{AreSound};
 /// Components that written ones come to are sound, with the definitions of their ports, where the written ones break no rule.
 pub fn resolved_components_are_sound()
     ensures { (types : List TypeDef) (machines : List Machine) (ws : List WrittenType) (definitions : List WrittenPortDef) (interfaces : List WrittenInterface) (written : List WrittenComponent) (cs : List Component)
-        → AreReady types ws definitions interfaces written cs → IsUnbroken (PortsBroken definitions interfaces written) → IsUnbroken (InSome (λ (k : ℕ). DictionaryBroken types) written)
+        → AreReady types machines ws definitions interfaces written cs → IsUnbroken (PortsBroken definitions interfaces written) → IsUnbroken (InSome (λ (k : ℕ). DictionaryBroken types) written)
         → IsUnbroken (ComponentsBroken interfaces written) → AreComponents interfaces definitions ws written cs → AreSound types machines (map port_def_of definitions) cs }
 {}

@@ -188,7 +188,7 @@ module _ (source : Source) (w : WrittenSource) (are : IsWrittenSource source w) 
       let kept = each_flat P member_part s.node.parts (each_weaker P (λ (p : Part). AllByRecursion P (member_part p)) (parts_kept P) s.node.parts parts) in
       of_part source P Q by (component_scope s.scope s.node) member.one m (of_item P (flat_map member_part s.node.parts) k member.one kept member.here) member.related
 
-  in_interface : InInterfaces source P → (v k : ℕ) (f : WrittenInterface) (m : WrittenMember) → slice_get w.interfaces v ≡ Some f → slice_get f.members k ≡ Some m → Q m
+  pub in_interface : InInterfaces source P → (v k : ℕ) (f : WrittenInterface) (m : WrittenMember) → slice_get w.interfaces v ≡ Some f → slice_get f.members k ≡ Some m → Q m
   in_interface each v k f m at there =
       let whole = second_read (InterfaceIs source) 0 (interfaces source) w.interfaces v f are.interfaces at in
       let s = whole.one in

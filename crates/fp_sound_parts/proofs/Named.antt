@@ -38,15 +38,15 @@ use Rattle.fp_sound_parts.proofs.Each.{ByForm, each_by_place, each_of_all, of_ea
 -- ---- what is known of each item
 
 -- a name behind those of a scope
-abbrev HasName : Path → List ℕ → Type 0
+abbrev pub HasName : Path → List ℕ → Type 0
 HasName scope n = list_all is_name (scope ++ n ∷ []) ≡ true
 
-abbrev IsNamed : Definition → Type 0
+abbrev pub IsNamed : Definition → Type 0
 IsNamed d = list_all is_name d.name ≡ true
 
-record NamesHold (i : Item) : Type 0 where
-  own : AllByRecursion IsNamed (definitions_of i)
-  parts : PartsOfItemAreNamed i
+pub record NamesHold (i : Item) : Type 0 where
+  pub own : AllByRecursion IsNamed (definitions_of i)
+  pub parts : PartsOfItemAreNamed i
 
 in_each : {A B : Type 0} (P : A → Type 0) (f : B → List A) (xs : List B) → AllByRecursion P (flat_map f xs) → AllByRecursion (λ (x : B). AllByRecursion P (f x)) xs
 in_each P f [] h = tt
@@ -56,7 +56,7 @@ both_each : (is : List Item) → AllByRecursion (λ (i : Item). AllByRecursion I
 both_each [] h k = tt
 both_each (i ∷ is) h k = (record { own = h.0; parts = k.0 }, both_each is h.1 k.1)
 
-qualified_name : (scope : Path) (n : List ℕ) → HasName scope n → is_qualified (dotted (scope ++ n ∷ [])) ≡ true
+pub qualified_name : (scope : Path) (n : List ℕ) → HasName scope n → is_qualified (dotted (scope ++ n ∷ [])) ≡ true
 qualified_name scope n h = dotted_qualified (scope ++ n ∷ []) h (some scope)
   where
     some : (s : Path) → s ++ n ∷ [] ≡ [] → ⊥
@@ -130,7 +130,7 @@ interface_named (item.Used since n) h = tt
 interface_named (item.Written since p) h = tt
 
 module _ (source : Source) (named : DefinitionsAreNamed source) (parts : PartsAreNamed source) where
-  items_named : AllByRecursion NamesHold (items source)
+  pub items_named : AllByRecursion NamesHold (items source)
   items_named =
       both_each (items source) (in_each IsNamed definitions_of (items source) (each_by_place IsNamed (definitions source) named))
       (each_by_place PartsOfItemAreNamed (items source) parts)
@@ -177,7 +177,7 @@ module _ (source : Source) where
     channel = λ scope p w h is. ap is_name is.name ∙ h;
     param = λ scope p w h is. ap is_name is.name ∙ h;
     matched = λ scope p w h is. refl;
-    running = λ scope p w h is. refl;
+    running = λ scope p w h is. ap is_name is.name ∙ h;
   }
 
   definitions_written : (k : ℕ) (ss : List (Scoped Port)) (ds : List WrittenPortDef) → AllByRecursion PortNamed ss → AllAt (λ position. PortDefIs source) k ss ds

@@ -23,7 +23,6 @@ use Rattle.fp_type_forms.specs.declared.resolving.Resolution.{Resolution}
 use Rattle.fp_source_types.specs.Broken.{TypesBroken}
 use Rattle.fp_source_types.specs.Named.{DefinitionsAreNamed}
 use Rattle.fp_source_types.specs.Typed.{AreTypesOf}
-use Rattle.fp_left_out.specs.Broken.{FormsLeftOut}
 use Rattle.fp_written_parts.specs.declared.member.WrittenComponent.{WrittenComponent}
 use Rattle.fp_written_parts.specs.declared.member.WrittenInterface.{WrittenInterface}
 use Rattle.fp_written_parts.specs.declared.port.WrittenPortDef.{WrittenPortDef}
@@ -33,8 +32,10 @@ use Rattle.fp_component_rules.specs.Broken.{ComponentsBroken}
 use Rattle.fp_components.specs.Resolved.{AreComponents, port_def_of}
 use Rattle.fp_source_components.specs.Broken.{BrokenBy, PartsBroken}
 use Rattle.fp_source_components.specs.Built.{ArePartsOf}
+use Rattle.fp_source_components.specs.Machines.{InstancesBroken}
 use Rattle.fp_source_components.specs.Valued.{IsValued}
 use Rattle.fp_source_components.specs.declared.parts.Parts.{Parts}
+use Rattle.fp_source_machines.specs.Built.{AreMachinesOf}
 use Rattle.fp_sound_components.specs.Ready.{AreReady}
 use Rattle.fp_sound_components.specs.Sound.{AreSound}
 use Rattle.fp_sound_parts.proofs.Fitting.{LimitsConvert, PartNumbersStand, limits_fit}
@@ -42,12 +43,13 @@ use Rattle.fp_sound_parts.proofs.Formats.{formats_agree}
 use Rattle.fp_sound_parts.proofs.Good.{ConvertedHasKind, ConvertedIsOfSize, DefaultHasForm, OneDefault, all_given, converted_good, defaults_good}
 use Rattle.fp_sound_parts.proofs.Lying.{definitions_lie, members_lie}
 use Rattle.fp_sound_parts.proofs.Named.{components_are_qualified, definitions_are_qualified, definitions_have_names, members_have_names}
-use Rattle.fp_sound_parts.proofs.Suiting.{no_machine_runs, ports_have_their_definitions}
+use Rattle.fp_sound_parts.proofs.Running.{running_differ, running_fit}
+use Rattle.fp_sound_parts.proofs.Suiting.{ports_have_their_definitions}
 
 -- the laws of the crates below on which this stands
 pub record Laws : Type 0 where
   pub resolved_sound : (types : List TypeDef) (machines : List Machine) (ws : List WrittenType) (definitions : List WrittenPortDef) (interfaces : List WrittenInterface) (written : List WrittenComponent) (cs : List Component)
-      → AreReady types ws definitions interfaces written cs → IsUnbroken (PortsBroken definitions interfaces written) → IsUnbroken (InSome (λ (k : ℕ). DictionaryBroken types) written)
+      → AreReady types machines ws definitions interfaces written cs → IsUnbroken (PortsBroken definitions interfaces written) → IsUnbroken (InSome (λ (k : ℕ). DictionaryBroken types) written)
       → IsUnbroken (ComponentsBroken interfaces written) → AreComponents interfaces definitions ws written cs → AreSound types machines (map port_def_of definitions) cs
   pub numbers_stand : PartNumbersStand
   pub limits_convert : LimitsConvert
@@ -62,7 +64,7 @@ pub record Laws : Type 0 where
 
 module _ (laws : Laws) (source : Source) (values : List (Option Value)) (resolutions : List Resolution) (ws : List WrittenType) (types : List TypeDef) (machines : List Machine) (parts : Parts)
     (valued : IsValued source values resolutions ws types) (once : IsUnbroken (BrokenByDefinitions source)) (definitions : DefinitionsAreNamed source) (named : PartsAreNamed source)
-    (kept : IsUnbroken (FormsLeftOut source)) (unbroken : IsUnbroken (PartsBroken source)) (of : ArePartsOf source ws parts) (short : list_all component_is_short parts.components ≡ true) where
+    (unbroken : IsUnbroken (PartsBroken source)) (running : IsUnbroken (InstancesBroken source)) (built : AreMachinesOf source machines) (of : ArePartsOf source ws parts) (short : list_all component_is_short parts.components ≡ true) where
   sound : AreSoundTypes types
   sound = laws.types_sound source types once valued.types_unbroken valued.given
 
@@ -70,7 +72,7 @@ module _ (laws : Laws) (source : Source) (values : List (Option Value)) (resolut
   written_unbroken : IsUnbroken (BrokenBy types of.written)
   written_unbroken f broken = unbroken f (record { written = of.written; are = of.are; types = types; given = valued.given; broken = broken })
 
-  ready : AreReady types ws of.written.definitions of.written.interfaces of.written.components parts.components
+  ready : AreReady types machines ws of.written.definitions of.written.interfaces of.written.components parts.components
   ready =
       let given = all_given source values resolutions ws types valued in
       record {
@@ -81,7 +83,8 @@ module _ (laws : Laws) (source : Source) (values : List (Option Value)) (resolut
         members_lie = members_lie source of.written of.are types valued.given;
         definitions_lie = definitions_lie source of.written of.are types valued.given;
         ports_have_their_definitions = ports_have_their_definitions source of.written of.are;
-        no_machine_runs = no_machine_runs source of.written of.are kept;
+        running_fit = running_fit source of.written of.are machines built running;
+        running_differ = running_differ source of.written of.are running;
         limits_fit = limits_fit source values resolutions ws types of.written valued of.are written_unbroken sound laws.numbers_stand laws.limits_convert laws.has_kind;
         formats_agree = formats_agree source values resolutions ws types of.written valued of.are laws.formats_read laws.numbers_stand laws.has_size;
         converted_values_are_good = converted_good ws types given sound laws.has_kind laws.is_of_size;

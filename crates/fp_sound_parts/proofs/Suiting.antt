@@ -1,36 +1,23 @@
--- Special ports have the definitions of their kinds, internal ports have none, and no state machine runs.
-use Rattle.std.proofs.Common.{◌≡◌, ℕ, List, slice_get, Option, Some, None, refl, sym, ap, subst, ◌∙◌}
+-- Special ports have the definitions of their kinds, and internal ports have none.
+use Rattle.std.proofs.Common.{◌≡◌, ℕ, List, slice_get, Option, Some, None, sym, ap, subst, ◌∙◌}
 use Rattle.std.specs.Prelude.{option_map}
-use Rattle.std.specs.List.{AllByRecursion}
 use Rattle.std.proofs.lemmas.Option.{slice_get-map}
-use Rattle.fp_base.proofs.Lists.{each_flat, each_of_any, each_weaker}
 use Rattle.fp_base.proofs.Options.{same_some}
-use Rattle.fp_base.specs.Least.{IsUnbroken}
 use Rattle.fp_tree.specs.declared.source.Source.{Source}
 use Rattle.fp_tree.specs.declared.definition.Port.{Port}
-use Rattle.fp_tree.specs.declared.component.Component.{Component}
 use Rattle.fp_tree.specs.declared.component.GeneralKind.{GeneralKind}
 use Rattle.fp_tree.specs.declared.component.GeneralKind.TheVariants as general
-use Rattle.fp_tree.specs.declared.component.Interface.{Interface}
-use Rattle.fp_tree.specs.declared.component.InterfacePart.{InterfacePart}
-use Rattle.fp_tree.specs.declared.component.InterfacePart.TheVariants as interface_part
 use Rattle.fp_tree.specs.declared.component.Part.{Part}
 use Rattle.fp_tables.specs.Components.{definition_of}
 use Rattle.fp_tables.specs.declared.component.Special.{Special}
-use Rattle.fp_meaning.specs.declared.item.Item.{Item}
-use Rattle.fp_meaning.specs.declared.item.Item.TheVariants as item
-use Rattle.fp_meaning.specs.Layout.{items}
-use Rattle.fp_meaning.specs.Names.{Path}
-use Rattle.fp_meaning.specs.Sites.{ModelDef, component, interface, instance, machine, topology}
-use Rattle.fp_left_out.specs.Broken.{FormsLeftOut, LeftOutByItem, LeftOutByModel, LeftOutByPart}
 use Rattle.fp_written_parts.specs.declared.port.WrittenPortDef.{WrittenPortDef}
 use Rattle.fp_written_parts.specs.declared.port.WrittenRole.{WrittenRole}
 use Rattle.fp_written_parts.specs.declared.port.WrittenRole.TheVariants as role
 use Rattle.fp_component_forms.specs.declared.writing.WrittenSource.{WrittenSource}
-use Rattle.fp_component_forms.specs.Written.{IsWrittenSource, PortDefIs, PortDefsAre, Scoped, SpecialTypeIs, component_in, component_of, interfaces, part_of, port_definitions, port_names, qualified, role_of, special_of}
+use Rattle.fp_component_forms.specs.Written.{IsWrittenSource, PortDefIs, PortDefsAre, Scoped, SpecialTypeIs, port_definitions, port_names, qualified, role_of, special_of}
 use Rattle.fp_source_components.proofs.Places.{second_read}
-use Rattle.fp_sound_components.specs.Ready.{DefinitionSuits, HasItsDefinition, OfEachMember, RunsNoMachine}
-use Rattle.fp_sound_parts.proofs.Each.{ByForm, any_component, any_interface, each_by_place, of_each_member}
+use Rattle.fp_sound_components.specs.Ready.{DefinitionSuits, HasItsDefinition, OfEachMember}
+use Rattle.fp_sound_parts.proofs.Each.{ByForm, any_component, any_interface, of_each_member}
 
 -- ---- definitions of ports
 
@@ -68,58 +55,9 @@ module _ (source : Source) (definitions : List WrittenPortDef) (are : PortDefsAr
     running = λ scope p w h is. tt;
   }
 
--- ---- forms that are left out
-
-abbrev Kept : Part → Type 0
-Kept p = IsUnbroken (LeftOutByPart p)
-
-abbrev ComponentKept : Scoped Component → Type 0
-ComponentKept s = AllByRecursion Kept s.node.parts
-
-component_kept : (i : Item) → IsUnbroken (LeftOutByItem i) → AllByRecursion ComponentKept (component_of i)
-component_kept (item.Declared d) h = of_model d.scope d.definition h
-  where
-    of_model : (scope : Path) (m : ModelDef) → IsUnbroken (LeftOutByModel m) → AllByRecursion ComponentKept (component_in scope m)
-    of_model scope (component c) h = (each_by_place Kept c.parts (λ k p at f broken. h f (k, p, at, broken)), tt)
-    of_model scope (machine m) h = tt
-    of_model scope (interface m) h = tt
-    of_model scope (instance m) h = tt
-    of_model scope (topology m) h = tt
-component_kept (item.Defined s) h = tt
-component_kept (item.Enumerated e) h = tt
-component_kept (item.Used since n) h = tt
-component_kept (item.Written since p) h = tt
-
-inner_kept : (p : InterfacePart) → Kept (part_of p)
-inner_kept (interface_part.General p) f broken = broken
-inner_kept (interface_part.Special p) f broken = broken
-inner_kept (interface_part.Import i) f broken = broken
-
-runs_none : (source : Source) → ByForm source Kept RunsNoMachine
-runs_none source = record {
-  general = λ scope p w h is. tt;
-  special = λ scope p w h is. tt;
-  internal = λ scope p w h is. tt;
-  imported = λ scope p w h is. tt;
-  command = λ scope p w h is. tt;
-  event = λ scope p w h is. tt;
-  channel = λ scope p w h is. tt;
-  param = λ scope p w h is. tt;
-  matched = λ scope p w h is. tt;
-  running = λ scope p w h is. h _ refl;
-}
-
 module _ (source : Source) (w : WrittenSource) (are : IsWrittenSource source w) where
   pub ports_have_their_definitions : OfEachMember w.interfaces w.components (HasItsDefinition w.definitions)
   ports_have_their_definitions =
       of_each_member source w are (λ (p : Part). Unit {0}) (HasItsDefinition w.definitions) (suited source w.definitions are.definitions)
       (any_component source)
       (any_interface source)
-
-  pub no_machine_runs : IsUnbroken (FormsLeftOut source) → OfEachMember w.interfaces w.components RunsNoMachine
-  no_machine_runs kept =
-      of_each_member source w are Kept RunsNoMachine (runs_none source)
-      (each_flat ComponentKept component_of (items source) (each_weaker (λ (i : Item). IsUnbroken (LeftOutByItem i)) (λ (i : Item). AllByRecursion ComponentKept (component_of i)) component_kept (items source)
-      (each_by_place (λ (i : Item). IsUnbroken (LeftOutByItem i)) (items source) (λ k i at f broken. kept f (k, i, at, broken)))))
-      (each_of_any (λ (s : Scoped Interface). AllByRecursion (λ (p : InterfacePart). Kept (part_of p)) s.node.parts)
-      (λ s. each_of_any (λ (p : InterfacePart). Kept (part_of p)) inner_kept s.node.parts) (interfaces source))

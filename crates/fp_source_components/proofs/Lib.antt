@@ -1,7 +1,7 @@
 pub mod Places
 pub mod Positions
 mod Once
-mod Given
+pub mod Given
 mod Imports
 mod Least
 pub mod Values
@@ -11,5 +11,6 @@ pub mod Numbered
 pub mod Sized
 mod Whole
 mod Names
+mod External
 mod Assembled
 mod Building

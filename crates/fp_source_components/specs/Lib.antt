@@ -1,3 +1,4 @@
 pub mod Broken
 pub mod Built
+pub mod Machines
 pub mod Valued

@@ -1,18 +1,20 @@
-ghost use Rattle.std.specs.Prelude.{List, Option, Some, map};
+ghost use Rattle.std.specs.Prelude.{ℕ, List, Option, Some, map};
 ghost use Rattle.fp_base.specs.declared.refusal.Refusal.{Refusal};
 ghost use Rattle.fp_base.specs.declared.value.Value.{Value};
-ghost use Rattle.fp_base.specs.Least.{IsLeast, IsUnbroken};
+ghost use Rattle.fp_base.specs.Least.{InSome, IsLeast, IsUnbroken};
 ghost use Rattle.fp_tree.specs.declared.source.Source.{Source};
 ghost use Rattle.fp_tables.specs.declared.kind.TypeDef.{TypeDef};
 ghost use Rattle.fp_type_sizes.specs.declared.written.WrittenType.{WrittenType};
 ghost use Rattle.fp_type_forms.specs.declared.resolving.Resolution.{Resolution};
 ghost use Rattle.fp_source_types.specs.Typed.{AreTypesOf};
+ghost use Rattle.fp_dictdefs.specs.Running.{RunningBroken};
 ghost use Rattle.fp_interfaces.specs.Gifts.{AreWithin};
 ghost use Rattle.fp_interfaces.specs.Lists.{AreImportsWithin};
 ghost use Rattle.fp_component_forms.specs.declared.writing.WrittenSource.{WrittenSource};
 ghost use Rattle.fp_component_forms.specs.Written.{IsWrittenSource, TypeNamesStand};
 ghost use Rattle.fp_components.specs.Whole.{AreWhole};
 ghost use Rattle.fp_source_components.specs.Broken.{BrokenBy, PartsBroken};
+ghost use Rattle.fp_source_components.specs.Machines.{InstancesBroken, externals};
 ghost use Rattle.fp_source_components.specs.Valued.{IsValued};
 
 use fp_component_rules::unbroken_are_consistent;
@@ -28,6 +30,12 @@ pub fn parts_are_least()
 {
     one_default();
 }
+
+/// The least rule that the instances of state machines which are written break is the least that those of the source break.
+pub fn instances_are_least()
+    ensures { (source : Source) (written : WrittenSource) (first : Option Refusal) → IsWrittenSource source written → IsLeast (InSome (λ (k : ℕ). RunningBroken (externals source)) written.components) first
+        → IsLeast (InstancesBroken source) first }
+{}
 
 /// Each import that is written is of one of the interfaces.
 pub fn written_imports_lie()

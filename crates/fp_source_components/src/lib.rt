@@ -2,7 +2,8 @@
 #![tactic(auto)]
 
 mod laws;
+mod outside;
 mod parts;
 
 pub use laws::{parts_are_least, unbroken_components_are_whole};
-pub use parts::{Parts, parts_of};
+pub use parts::{Found, Parts, parts_of};

@@ -1,9 +1,10 @@
-ghost use Rattle.std.specs.Prelude.{◌≡◌, IfErr, IfOk, OnOk, map, true};
+ghost use Rattle.std.specs.Prelude.{◌≡◌, ℕ, IfErr, IfOk, OnOk, flat_map, map, true};
 ghost use Rattle.std.specs.List.{list_all};
-ghost use Rattle.fp_base.specs.Least.{IsLeast, IsUnbroken};
+ghost use Rattle.fp_base.specs.Least.{InSome, IsLeast, IsUnbroken};
 ghost use Rattle.fp_components.specs.Resolved.{AreComponents, port_def_of};
 ghost use Rattle.fp_components.specs.Whole.{AreWhole};
 ghost use Rattle.fp_consts.specs.Answered.{IsStop};
+ghost use Rattle.fp_dictdefs.specs.Running.{RunningBroken};
 ghost use Rattle.fp_interfaces.specs.Gifts.{AreWithin};
 ghost use Rattle.fp_interfaces.specs.Lists.{AreImportsWithin};
 ghost use Rattle.fp_meaning.specs.Layout as layout;
@@ -11,16 +12,19 @@ ghost use Rattle.fp_source_types.specs.Measured.{IsMeasured};
 ghost use Rattle.fp_tables.specs.Positions.{component_is_short};
 ghost use Rattle.fp_source_components.specs.Broken.{BrokenBy, PartsBroken};
 ghost use Rattle.fp_source_components.specs.Built.{ArePartsOf};
+ghost use Rattle.fp_source_components.specs.Machines.{InstancesBroken, is_outside, machine_of};
 ghost use Rattle.fp_source_components.specs.Valued.{IsValued};
 
 use crate::laws::{
-    parts_are_least, unbroken_components_are_whole, unbroken_type_names_stand, written_imports_lie,
+    instances_are_least, parts_are_least, unbroken_components_are_whole, unbroken_type_names_stand,
+    written_imports_lie,
 };
+use crate::outside::externals_in;
 use fp_base::{NoMemory, Refusal, Row, Stop, Value, lesser};
 use fp_component_forms::{WrittenSource, parts_written};
 use fp_component_rules::component_faults;
 use fp_components::{Types, components_of, port_definitions};
-use fp_dictdefs::dictionary_faults;
+use fp_dictdefs::{dictionary_faults, running_faults};
 use fp_meaning::Item;
 use fp_port_rules::port_faults;
 use fp_source_types::Measured;
@@ -35,8 +39,16 @@ pub struct Parts {
     pub components: Row<Component>,
 }
 
+/// What is found of the ports and components of a source that breaks no rule of these.
+#[derive(Drop)]
+pub struct Found {
+    pub parts: Parts,
+    /// The least rule that instances of state machines break, if they break one.
+    pub running: Option<Refusal>,
+}
+
 /// The definitions of ports and the components of a source that is laid out flat, from its values and types, or the least rule of ports,
-/// dictionaries and components that it breaks. State machines have no meaning here yet.
+/// dictionaries and components that it breaks; beside them the least rule that instances of state machines break.
 pub fn parts_of(
     alloc: Global,
     source: &Source,
@@ -44,18 +56,20 @@ pub fn parts_of(
     values: &[Option<Value>],
     measured: &Measured,
     types: &[TypeDef],
-) -> Result<Parts, Stop>
+) -> Result<Found, Stop>
     requires laid { items.now ≡ layout.items source.now }
     requires measured { IsMeasured measured.now }
     requires valued { IsValued source.now values.now measured.now.resolutions measured.now.written types.now }
-    ensures parts { IfOk result (ArePartsOf source.now measured.now.written) }
-    ensures short { IfOk result (λ parts. list_all component_is_short parts.components ≡ true) }
+    ensures parts { IfOk result (λ found. ArePartsOf source.now measured.now.written found.parts) }
+    ensures short { IfOk result (λ found. list_all component_is_short found.parts.components ≡ true) }
+    ensures running { IfOk result (λ found. IsLeast (InstancesBroken source.now) found.running) }
     ensures unbroken { OnOk result (IsUnbroken (PartsBroken source.now)) }
     ensures stop { IfErr result (IsStop (PartsBroken source.now)) }
 {
     unbroken_type_names_stand();
     written_imports_lie();
     parts_are_least();
+    instances_are_least();
     unbroken_components_are_whole();
     let resolutions = measured.resolutions.as_slice();
     let written = parts_written(alloc, items, resolutions, values)?;
@@ -64,7 +78,8 @@ pub fn parts_of(
         Some(refusal) => Err(Stop::Broken(refusal)),
         None => {
             let parts = built(alloc, measured, &written)?;
-            Ok(parts)
+            let running = instances_fault(alloc, items, &written)?;
+            Ok(Found { parts, running })
         }
     }
 }
@@ -87,6 +102,18 @@ fn parts_fault(
     let of_wholes = component_faults(alloc, interfaces, components)?;
     let behind = lesser(of_dictionaries, of_wholes);
     Ok(lesser(of_ports, behind))
+}
+
+/// The least rule that instances of state machines break, over the machines among items.
+fn instances_fault(
+    alloc: Global,
+    items: &[Item],
+    written: &WrittenSource,
+) -> Result<Option<Refusal>, NoMemory>
+    ensures { IfOk result (IsLeast (InSome (λ (k : ℕ). RunningBroken (map is_outside (flat_map machine_of items.now))) written.now.components)) }
+{
+    let externals = externals_in(alloc, items)?;
+    running_faults(alloc, &externals, written.components.as_slice())
 }
 
 /// What the written parts come to that break no rule.

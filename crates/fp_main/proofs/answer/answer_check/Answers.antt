@@ -2,7 +2,7 @@ use Rattle.std.proofs.Common.{List, ℕ, ap, refl, sym, subst, ◌∙◌}
 use Rattle.fp_base.proofs.Options.{if_ok_then}
 use Rattle.fp_gather.specs.FilesRun.{files_run}
 use Rattle.fp_main.proofs.Dues.{due_broken, due_source}
-use Rattle.fp_main.proofs.Givens.{definitions_named, enumerations_listed, fields_named, parts_named}
+use Rattle.fp_main.proofs.Givens.{definitions_named, enumerations_listed, fields_named, machines_ordered, parts_named}
 use Rattle.fp_main.specs.Lines.{refusal_line}
 use Rattle.fp_main.specs.Output.{IsDue}
 use Rattle.fp_main.specs.declared.answer.Due.{Due}
@@ -21,11 +21,14 @@ pub check-requires-clause-enumerations : goal.check-requires-clause-enumerations
 check-requires-clause-enumerations g c =
     enumerations_listed c.enumerations_have_constants.ensures c.part_enumerations_have_constants.ensures c.listed_items_have_constants.ensures _ _ c.in-Ok.source c.in-Ok.ensures
 
+pub check-requires-clause-machines : goal.check-requires-clause-machines
+check-requires-clause-machines g c = machines_ordered c.machines_are_ordered.ensures c.part_machines_are_ordered.ensures _ _ c.in-Ok.source c.in-Ok.ensures
+
 pub returns-in-Ok : goal.returns-in-Ok
 returns-in-Ok g c words check =
     if_ok_then c.check.result _ _
     (λ due d. due_source words _ _ check c.in_files_read.ensures c.places_in_files.ensures
-    (record { forms = c.forms_left_out_at_places.ensures; values = c.values_break_at_places.ensures; parts = c.parts_break_at_places.ensures }) _ due.status due.output due.line c.in-Ok.ensures d)
+    (record { values = c.values_break_at_places.ensures; parts = c.parts_break_at_places.ensures; states = c.states_break_at_places.ensures }) _ due.status due.output due.line c.in-Ok.ensures d)
     c.check.ensures
 
 pub returns-in_ok-line-in-Err-Broken : goal.returns-in_ok-line-in-Err-Broken

@@ -1,10 +1,16 @@
-use Rattle.std.proofs.Common.{◌∙◌, List, Option, sym, subst}
+use Rattle.std.proofs.Common.{List, Option, map, Some, sym, subst, ◌∙◌}
 use Rattle.fp_base.specs.declared.value.Value.{Value}
 use Rattle.fp_consts.specs.Answered.{IsStop}
+use Rattle.fp_meaning.specs.declared.item.Item.{Item}
+use Rattle.fp_meaning.specs.Layout.{items}
 use Rattle.fp_meaning.specs.Origins.{expressions}
+use Rattle.fp_source_types.specs.Typed.{AreTypesOf}
+use Rattle.fp_tables.specs.declared.kind.TypeDef.{TypeDef}
+use Rattle.fp_type_forms.specs.declared.resolving.Resolution.{Resolution}
+use Rattle.fp_type_forms.specs.Resolved.{AreResolved}
 use Rattle.fp_model.specs.Broken.{ModelBroken}
 use Rattle.fp_model.specs.Given.{StandFrom}
-use Rattle.fp_model.proofs.Stopping.{left_out_stop, names_stop, none_stops, parts_stop, passed, values_stop}
+use Rattle.fp_model.proofs.Stopping.{names_stop, none_stops, parts_stop, passed, states_stop, values_stop}
 use Rattle.fp_model.proofs.resolving.resolve.Goals as goal
 
 pub values_of-requires-clause-laid : goal.values_of-requires-clause-laid
@@ -13,48 +19,53 @@ values_of-requires-clause-laid c = c.items-items.ensures ∙ c.in_ok-layout.ensu
 pub parts_of-requires-clause-laid : goal.parts_of-requires-clause-laid
 parts_of-requires-clause-laid c = c.items-items.ensures ∙ c.in_ok-layout.ensures
 
-pub returns-in_err-all_built-clause-stop : goal.returns-in_err-all_built-clause-stop
-returns-in_err-all_built-clause-stop c =
-    passed c.from_residual-in_err-all_built.result _ (IsStop (ModelBroken c.args.source.now)) c.from_residual-in_err-all_built.ensures.1
-    (left_out_stop c.args.source.now _ (c.in_err-all_built.ensures.stop c.args.source.now (c.items-items.ensures ∙ c.in_ok-layout.ensures)))
+pub machines_of-requires-clause-laid : goal.machines_of-requires-clause-laid
+machines_of-requires-clause-laid c = c.items-items.ensures ∙ c.in_ok-layout.ensures
+
+pub machines_of-requires-clause-resolved : goal.machines_of-requires-clause-resolved
+machines_of-requires-clause-resolved c =
+    let source = c.args.source.now in
+    let values = c.as_slice-at.result.now in
+    let resolutions = c.as_slice-resolutions.result.now in
+    subst (λ (is : List Item). AreResolved source values resolutions is 0) (sym (c.items-items.ensures ∙ c.in_ok-layout.ensures))
+    (subst (λ (vs : List (Option Value)). AreResolved source vs resolutions (items source) 0) (sym c.as_slice-at.ensures)
+    (subst (λ (rs : List Resolution). AreResolved source c.in_ok-valued.valued.values rs (items source) 0) (sym c.as_slice-resolutions.ensures) c.in_ok-valued.ensures.valued.resolved))
 
 pub returns-in_err-names-clause-stop : goal.returns-in_err-names-clause-stop
 returns-in_err-names-clause-stop c =
-    let built = c.in_ok-all_built.ensures.built c.args.source.now (c.items-items.ensures ∙ c.in_ok-layout.ensures) in
-    passed c.from_residual-in_err-names.result _ (IsStop (ModelBroken c.args.source.now)) c.from_residual-in_err-names.ensures.1
-    (names_stop c.args.source.now built _ c.in_err-names.ensures.stop)
+    passed c.from_residual-in_err-names.result _ (IsStop (ModelBroken c.args.source.now)) c.from_residual-in_err-names.ensures.1 (names_stop c.args.source.now _ c.in_err-names.ensures.stop)
 
 pub returns-in_err-uses-clause-stop : goal.returns-in_err-uses-clause-stop
 returns-in_err-uses-clause-stop c =
-    let built = c.in_ok-all_built.ensures.built c.args.source.now (c.items-items.ensures ∙ c.in_ok-layout.ensures) in
-    passed c.from_residual-in_err-uses.result _ (IsStop (ModelBroken c.args.source.now)) c.from_residual-in_err-uses.ensures.1
-    (names_stop c.args.source.now built _ c.in_err-uses.ensures.stop)
+    passed c.from_residual-in_err-uses.result _ (IsStop (ModelBroken c.args.source.now)) c.from_residual-in_err-uses.ensures.1 (names_stop c.args.source.now _ c.in_err-uses.ensures.stop)
 
 pub returns-in_err-valued-clause-stop : goal.returns-in_err-valued-clause-stop
 returns-in_err-valued-clause-stop c =
-    let built = c.in_ok-all_built.ensures.built c.args.source.now (c.items-items.ensures ∙ c.in_ok-layout.ensures) in
     passed c.from_residual-in_err-valued.result _ (IsStop (ModelBroken c.args.source.now)) c.from_residual-in_err-valued.ensures.1
-    (values_stop c.args.source.now built c.in_ok-uses.ensures.unbroken _ c.in_err-valued.ensures.stop)
+    (values_stop c.args.source.now c.in_ok-uses.ensures.unbroken _ c.in_err-valued.ensures.stop)
 
-pub returns-in_err-parts-clause-stop : goal.returns-in_err-parts-clause-stop
-returns-in_err-parts-clause-stop c =
-    let built = c.in_ok-all_built.ensures.built c.args.source.now (c.items-items.ensures ∙ c.in_ok-layout.ensures) in
-    passed c.from_residual-in_err-parts.result _ (IsStop (ModelBroken c.args.source.now)) c.from_residual-in_err-parts.ensures.1
-    (parts_stop c.args.source.now built c.in_ok-uses.ensures.unbroken c.in_ok-valued.ensures.unbroken _ c.in_err-parts.ensures.stop)
+pub returns-in_err-found-clause-stop : goal.returns-in_err-found-clause-stop
+returns-in_err-found-clause-stop c =
+    passed c.from_residual-in_err-found.result _ (IsStop (ModelBroken c.args.source.now)) c.from_residual-in_err-found.ensures.1
+    (parts_stop c.args.source.now c.in_ok-uses.ensures.unbroken c.in_ok-valued.ensures.unbroken _ c.in_err-found.ensures.stop)
+
+pub returns-in_err-machines-clause-stop : goal.returns-in_err-machines-clause-stop
+returns-in_err-machines-clause-stop c =
+    passed c.from_residual-in_err-machines.result _ (IsStop (ModelBroken c.args.source.now)) c.from_residual-in_err-machines.ensures.1
+    (states_stop c.args.source.now c.in_ok-uses.ensures.unbroken c.in_ok-valued.ensures.unbroken c.in_ok-found.ensures.unbroken _ c.in_err-machines.ensures.stop)
 
 pub returns-clause-unbroken : goal.returns-clause-unbroken
 returns-clause-unbroken c =
-    let built = c.in_ok-all_built.ensures.built c.args.source.now (c.items-items.ensures ∙ c.in_ok-layout.ensures) in
-    none_stops c.args.source.now built c.in_ok-uses.ensures.unbroken c.in_ok-valued.ensures.unbroken c.in_ok-parts.ensures.unbroken
+    none_stops c.args.source.now c.in_ok-uses.ensures.unbroken c.in_ok-valued.ensures.unbroken c.in_ok-found.ensures.unbroken c.in_ok-machines.ensures.unbroken
 
 pub returns-clause-defined : goal.returns-clause-defined
 returns-clause-defined c =
     let stand = subst (λ (vs : List (Option Value)). StandFrom c.args.source.now vs (expressions c.args.source.now) 0) (sym c.as_slice-at.ensures) c.in_ok-valued.ensures.values in
     c.in_ok-model.ensures.defined c.args.source.now c.in_ok-valued.valued.measured.written (c.items-items.ensures ∙ c.in_ok-layout.ensures) stand c.in_ok-valued.ensures.valued.given
-    c.in_ok-valued.ensures.valued.written c.in_ok-parts.ensures.parts
+    c.in_ok-valued.ensures.valued.written c.in_ok-found.ensures.parts c.in_ok-machines.ensures.machines
 
 pub returns-clause-sound : goal.returns-clause-sound
 returns-clause-sound c =
     let valued = c.in_ok-valued.ensures.valued in
     c.defined_is_sound.ensures c.args.source.now c.in_ok-valued.valued.values c.in_ok-valued.valued.measured.resolutions c.in_ok-model.model valued.resolved valued.valued c.requires.names c.requires.fields
-    c.requires.parts (returns-clause-unbroken c) (returns-clause-defined c) c.in_ok-model.ensures.short
+    c.requires.parts c.requires.machines (returns-clause-unbroken c) (returns-clause-defined c) c.in_ok-model.ensures.short

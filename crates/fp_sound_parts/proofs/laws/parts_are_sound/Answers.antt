@@ -2,7 +2,7 @@ use Rattle.fp_sound_parts.proofs.Ready.{parts_sound}
 use Rattle.fp_sound_parts.proofs.laws.parts_are_sound.Goals as goal
 
 pub returns : goal.returns
-returns c source values resolutions ws types machines parts valued once definitions named kept unbroken of short =
+returns c source values resolutions ws types machines parts valued once definitions named unbroken running built of short =
     parts_sound
     (record {
       resolved_sound = c.resolved_components_are_sound.ensures;
@@ -16,4 +16,4 @@ returns c source values resolutions ws types machines parts valued once definiti
       has_size = c.default_has_form.ensures.size;
       one_default = c.one_default.ensures;
     })
-    source values resolutions ws types machines parts valued once definitions named kept unbroken of short
+    source values resolutions ws types machines parts valued once definitions named unbroken running built of short

@@ -1,0 +1,5 @@
+mod Rows
+mod Preorder
+mod Machines
+mod Ordering
+mod Members

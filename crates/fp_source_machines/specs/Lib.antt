@@ -1,0 +1,4 @@
+pub mod Broken
+pub mod Built
+pub mod Declared
+pub mod Ordered
