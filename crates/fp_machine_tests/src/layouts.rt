@@ -89,7 +89,9 @@ fn fault_in(
     types: &[Option<u32>],
 ) -> Result<Option<Option<Refusal>>, NoMemory> {
     let laid = lay_out_machine(alloc, place, elements, types)?;
-    if is_laid(laid.items.as_slice()) {
+    let items = laid.items.as_slice();
+    let stand = is_laid(items);
+    if stand {
         let fault = behavior_fault(alloc, place, elements, types)?;
         return Ok(Some(fault));
     }
