@@ -3,7 +3,7 @@ ghost use Rattle.std.specs.Option.{option_copied};
 ghost use Rattle.fp_tables.specs.Sound.{IsSound};
 
 use crate::reading::read_machine;
-use fp_base::{NoMemory, Row, Text};
+use fp_base::{NoMemory, Row};
 use fp_machine_flat::{FlatMachine, Next, flatten, sound_machines};
 use fp_machines::machine_of;
 use fp_sound_model::SoundModel;

@@ -1,4 +1,3 @@
-use Rattle.std.proofs.Common.{◌↔◌}
 use Rattle.fp_base.specs.declared.rule.Rule.TheVariants.{NumberOutOfRange}
 use Rattle.fp_base.specs.Least.{broken_at}
 use Rattle.fp_instance_rules.proofs.Folding.{least_told}
