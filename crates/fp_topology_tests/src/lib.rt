@@ -1,0 +1,5 @@
+//! Tests of the rules that instances, connections and members of topologies break by themselves.
+#![tactic(auto)]
+
+#[cfg(test)]
+mod rules;
