@@ -5,9 +5,9 @@ use Rattle.fp_base.specs.declared.rule.Rule.TheVariants.{BadDirection, PortMissi
 use Rattle.fp_base.specs.Least.{BrokenAt, Either, InSome}
 use Rattle.fp_tables.specs.declared.component.Role.{Role}
 use Rattle.fp_tables.specs.Lookup.{is_input, is_output}
-use Rattle.fp_connection_rules.specs.declared.written.JoinedPort.{JoinedPort}
-use Rattle.fp_connection_rules.specs.declared.written.WrittenConnection.{WrittenConnection}
-use Rattle.fp_connection_rules.specs.declared.written.WrittenEnd.{WrittenEnd}
+use Rattle.fp_connection_rules.specs.declared.facts.JoinedPort.{JoinedPort}
+use Rattle.fp_connection_rules.specs.declared.facts.ConnectionFacts.{ConnectionFacts}
+use Rattle.fp_connection_rules.specs.declared.facts.EndFacts.{EndFacts}
 
 -- ---- at an end, by what its port has to be
 
@@ -15,7 +15,7 @@ use Rattle.fp_connection_rules.specs.declared.written.WrittenEnd.{WrittenEnd}
 abbrev pub IsOther : (Role → Bool) → Option JoinedPort → Type 0
 IsOther wanted port = (p : JoinedPort) × (port ≡ Some p) × (wanted p.role ≡ false)
 
-abbrev pub BrokenEnd : (Role → Bool) → WrittenEnd → Refusal → Type 0
+abbrev pub BrokenEnd : (Role → Bool) → EndFacts → Refusal → Type 0
 BrokenEnd wanted e = Either (BrokenAt PortMissing e.at (e.port ≡ None)) (BrokenAt BadDirection e.at (IsOther wanted e.port))
 
 -- ---- at a connection
@@ -28,9 +28,9 @@ abbrev pub Differ : Option JoinedPort → Option JoinedPort → Type 0
 Differ from to = (p : JoinedPort) × (q : JoinedPort) × (from ≡ Some p) × (to ≡ Some q) × (AreOfOne p q → ⊥)
 
 -- from an output to an input of one definition
-abbrev pub BrokenConnection : WrittenConnection → Refusal → Type 0
+abbrev pub BrokenConnection : ConnectionFacts → Refusal → Type 0
 BrokenConnection c =
     Either (BrokenAt TypesDiffer c.at (Differ c.from.port c.to.port)) (Either (BrokenEnd is_output c.from) (BrokenEnd is_input c.to))
 
-abbrev pub BrokenByConnections : List WrittenConnection → Refusal → Type 0
+abbrev pub BrokenByConnections : List ConnectionFacts → Refusal → Type 0
 BrokenByConnections = InSome (λ (k : ℕ). BrokenConnection)

@@ -3,12 +3,12 @@ ghost use Rattle.fp_base.specs.Least.{IsLeast};
 ghost use Rattle.fp_tables.specs.Lookup.{is_input, is_output};
 ghost use Rattle.fp_connection_rules.specs.Broken.{AreOfOne, BrokenByConnections, BrokenConnection, BrokenEnd, Differ, IsOther};
 
-use crate::written::{JoinedPort, WrittenConnection, WrittenEnd};
+use crate::facts::{ConnectionFacts, EndFacts, JoinedPort};
 use fp_base::{Refusal, Rule, lesser, refusal_if};
 use fp_tables::{Role, Special};
 
 /// The least rule that one of the connections breaks by itself.
-pub fn connection_faults(connections: &[WrittenConnection]) -> Option<Refusal>
+pub fn connection_faults(connections: &[ConnectionFacts]) -> Option<Refusal>
     ensures { IsLeast (BrokenByConnections connections.now) result }
 {
     let mut first = None;
@@ -19,7 +19,7 @@ pub fn connection_faults(connections: &[WrittenConnection]) -> Option<Refusal>
     first
 }
 
-fn connection_fault(connection: &WrittenConnection) -> Option<Refusal>
+fn connection_fault(connection: &ConnectionFacts) -> Option<Refusal>
     ensures { IsLeast (BrokenConnection connection.now) result }
 {
     let differ = differ(connection.from.port, connection.to.port);
@@ -30,7 +30,7 @@ fn connection_fault(connection: &WrittenConnection) -> Option<Refusal>
     lesser(types, ends)
 }
 
-fn from_fault(end: WrittenEnd) -> Option<Refusal>
+fn from_fault(end: EndFacts) -> Option<Refusal>
     ensures { IsLeast (BrokenEnd is_output end) result }
 {
     let missing = refusal_if(end.port.is_none(), Rule::PortMissing, end.at);
@@ -38,7 +38,7 @@ fn from_fault(end: WrittenEnd) -> Option<Refusal>
     lesser(missing, other)
 }
 
-fn to_fault(end: WrittenEnd) -> Option<Refusal>
+fn to_fault(end: EndFacts) -> Option<Refusal>
     ensures { IsLeast (BrokenEnd is_input end) result }
 {
     let missing = refusal_if(end.port.is_none(), Rule::PortMissing, end.at);

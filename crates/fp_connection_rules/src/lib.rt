@@ -1,8 +1,8 @@
 //! Which rules each connection of a topology breaks by itself.
 #![tactic(auto)]
 
+mod facts;
 mod faults;
-mod written;
 
+pub use facts::{ConnectionFacts, EndFacts, JoinedPort};
 pub use faults::connection_faults;
-pub use written::{JoinedPort, WrittenConnection, WrittenEnd};

@@ -7,7 +7,7 @@ use Rattle.fp_tables.specs.declared.component.Queueing.{Queueing}
 use Rattle.fp_tables.specs.declared.component.Queueing.TheVariants.{Active, Passive}
 use Rattle.fp_written_parts.specs.declared.port.Given.{Given}
 use Rattle.fp_port_rules.specs.Broken.{IsOutside, OutsideAt}
-use Rattle.fp_instance_rules.specs.declared.written.WrittenInstance.{WrittenInstance}
+use Rattle.fp_instance_rules.specs.declared.facts.InstanceFacts.{InstanceFacts}
 
 -- ---- what has to stand there, and what must not
 
@@ -17,11 +17,11 @@ IsQueueWrong Passive queue = is_some queue ≡ true
 IsQueueWrong _ queue = queue ≡ None
 
 -- what speaks of a thread, of an instance that has none
-abbrev pub HasWordsOfActive : Queueing → WrittenInstance → Type 0
+abbrev pub HasWordsOfActive : Queueing → InstanceFacts → Type 0
 HasWordsOfActive Active i = ⊥
 HasWordsOfActive _ i = (is_some i.stack || is_some i.priority || is_some i.cpu) ≡ true
 
-abbrev pub BrokenWords : WrittenInstance → Refusal → Type 0
+abbrev pub BrokenWords : InstanceFacts → Refusal → Type 0
 BrokenWords i = Either (BrokenAt QueueSize i.at (IsQueueWrong i.queueing i.queue)) (BrokenAt ForActiveAlone i.at (HasWordsOfActive i.queueing i))
 
 -- ---- numbers
@@ -41,7 +41,7 @@ BrokenBase base top = BrokenAt NumberOutOfRange base.at (IsBaseOutside base.numb
 abbrev pub BrokenNumber : ℤ → ℤ → Option Given → Refusal → Type 0
 BrokenNumber low high = ByOptional (OutsideAt NumberOutOfRange low high)
 
-abbrev pub BrokenNumbers : WrittenInstance → Refusal → Type 0
+abbrev pub BrokenNumbers : InstanceFacts → Refusal → Type 0
 BrokenNumbers i =
     Either (BrokenBase i.base i.top)
     (Either (Either (BrokenNumber (pos 1) (pos (2 ^ 16 - 1)) i.queue) (BrokenNumber (pos 0) (pos (2 ^ 63 - 1)) i.stack))
@@ -49,8 +49,8 @@ BrokenNumbers i =
 
 -- ---- an instance, and all of them
 
-abbrev pub BrokenInstance : WrittenInstance → Refusal → Type 0
+abbrev pub BrokenInstance : InstanceFacts → Refusal → Type 0
 BrokenInstance i = Either (BrokenWords i) (BrokenNumbers i)
 
-abbrev pub BrokenByInstances : List WrittenInstance → Refusal → Type 0
+abbrev pub BrokenByInstances : List InstanceFacts → Refusal → Type 0
 BrokenByInstances = InSome (λ k. BrokenInstance)

@@ -2,14 +2,14 @@ ghost use Rattle.std.specs.Prelude.{◌≡◌, ◌↔◌, ◌||◌, IsTrue, is_s
 ghost use Rattle.fp_base.specs.Least.{IsLeast};
 ghost use Rattle.fp_instance_rules.specs.Broken.{BrokenByInstances, BrokenInstance, BrokenNumbers, BrokenWords, HasWordsOfActive, IsQueueWrong};
 
+use crate::facts::InstanceFacts;
 use crate::numbers::{base_fault, number_fault};
-use crate::written::WrittenInstance;
 use fp_base::{Refusal, Rule, lesser, refusal_if};
 use fp_tables::Queueing;
 use fp_written_parts::Given;
 
 /// The least rule that one of the instances breaks by itself.
-pub fn instance_faults(instances: &[WrittenInstance]) -> Option<Refusal>
+pub fn instance_faults(instances: &[InstanceFacts]) -> Option<Refusal>
     ensures { IsLeast (BrokenByInstances instances.now) result }
 {
     let mut first = None;
@@ -20,7 +20,7 @@ pub fn instance_faults(instances: &[WrittenInstance]) -> Option<Refusal>
     first
 }
 
-fn instance_fault(instance: &WrittenInstance) -> Option<Refusal>
+fn instance_fault(instance: &InstanceFacts) -> Option<Refusal>
     ensures { IsLeast (BrokenInstance instance.now) result }
 {
     let words = words_fault(instance);
@@ -29,7 +29,7 @@ fn instance_fault(instance: &WrittenInstance) -> Option<Refusal>
 }
 
 /// The rules on what has to stand there, and what must not.
-fn words_fault(instance: &WrittenInstance) -> Option<Refusal>
+fn words_fault(instance: &InstanceFacts) -> Option<Refusal>
     ensures { IsLeast (BrokenWords instance.now) result }
 {
     let wrong = is_queue_wrong(instance.queueing, instance.queue);
@@ -49,7 +49,7 @@ fn is_queue_wrong(queueing: Queueing, queue: Option<Given>) -> bool
     }
 }
 
-fn has_words_of_active(instance: &WrittenInstance) -> bool
+fn has_words_of_active(instance: &InstanceFacts) -> bool
     ensures { IsTrue result ↔ HasWordsOfActive instance.now.queueing instance.now }
 {
     match instance.queueing {
@@ -59,14 +59,14 @@ fn has_words_of_active(instance: &WrittenInstance) -> bool
     }
 }
 
-fn has_words(instance: &WrittenInstance) -> bool
+fn has_words(instance: &InstanceFacts) -> bool
     ensures { result ≡ (is_some instance.now.stack || is_some instance.now.priority || is_some instance.now.cpu) }
 {
     instance.stack.is_some() || instance.priority.is_some() || instance.cpu.is_some()
 }
 
 /// The rule on numbers.
-fn numbers_fault(instance: &WrittenInstance) -> Option<Refusal>
+fn numbers_fault(instance: &InstanceFacts) -> Option<Refusal>
     ensures { IsLeast (BrokenNumbers instance.now) result }
 {
     let base = base_fault(instance.base, instance.top);

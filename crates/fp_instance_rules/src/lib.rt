@@ -1,9 +1,9 @@
 //! Which rules each instance of a component breaks by itself.
 #![tactic(auto)]
 
+mod facts;
 mod faults;
 mod numbers;
-mod written;
 
+pub use facts::InstanceFacts;
 pub use faults::instance_faults;
-pub use written::WrittenInstance;

@@ -10,7 +10,7 @@ use Rattle.fp_base.specs.declared.refusal.Refusal.{Refusal}
 use Rattle.fp_base.specs.declared.rule.Rule.TheVariants.{BadInstance}
 use Rattle.fp_base.specs.Least.{broken_at, InFirst, IsLeast, lesser_of}
 use Rattle.fp_topology_members.specs.Broken.{Holds, IsRepeated, LackingAt, RepeatedAt, Repeated, Stands}
-use Rattle.fp_topology_members.specs.declared.written.UsedInstance.{UsedInstance}
+use Rattle.fp_written_topologies.specs.declared.topology.UsedInstance.{UsedInstance}
 use Rattle.fp_topology_members.proofs.Folding.{least_next, least_of_all, least_told, not_both}
 
 numbers_equal : (m n : ℕ) → (m == n) ≡ true → m ≡ n

@@ -5,8 +5,8 @@ ghost use Rattle.fp_base.specs.Least.{IsLeast};
 ghost use Rattle.fp_topology_members.specs.Broken.{Holds, Lacking, MembersBroken, Repeated};
 
 use crate::noting::{note, noted};
-use crate::written::UsedInstance;
 use fp_base::{NoMemory, Refusal, Rule, lesser, refusal_if};
+use fp_written_topologies::UsedInstance;
 use std::alloc::Global;
 use std::collections::BTreeSet;
 

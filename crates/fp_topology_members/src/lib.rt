@@ -3,7 +3,5 @@
 
 mod faults;
 mod noting;
-mod written;
 
 pub use faults::member_faults;
-pub use written::UsedInstance;

@@ -2,4 +2,6 @@
 #![tactic(auto)]
 
 #[cfg(test)]
+mod deployed;
+#[cfg(test)]
 mod rules;

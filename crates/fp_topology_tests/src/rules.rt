@@ -1,9 +1,10 @@
 use fp_base::{NoMemory, Place, Refusal};
-use fp_connection_rules::{JoinedPort, WrittenConnection, WrittenEnd, connection_faults};
-use fp_instance_rules::{WrittenInstance, instance_faults};
+use fp_connection_rules::{ConnectionFacts, EndFacts, JoinedPort, connection_faults};
+use fp_instance_rules::{InstanceFacts, instance_faults};
 use fp_tables::{Queueing, Role, Special, Way};
-use fp_topology_members::{UsedInstance, member_faults};
+use fp_topology_members::member_faults;
 use fp_written_parts::Given;
+use fp_written_topologies::UsedInstance;
 use std::alloc::Global;
 use std::test::Fail;
 
@@ -36,8 +37,8 @@ const fn number(line: u32, column: u32, number: i128) -> Given {
 }
 
 /// An active instance that breaks no rule.
-const fn active(line: u32) -> WrittenInstance {
-    WrittenInstance {
+const fn active(line: u32) -> InstanceFacts {
+    InstanceFacts {
         at: place(line, 10),
         queueing: Queueing::Active,
         top: Some(255),
@@ -49,8 +50,8 @@ const fn active(line: u32) -> WrittenInstance {
     }
 }
 
-const fn passive(line: u32) -> WrittenInstance {
-    WrittenInstance {
+const fn passive(line: u32) -> InstanceFacts {
+    InstanceFacts {
         at: place(line, 10),
         queueing: Queueing::Passive,
         top: None,
@@ -62,20 +63,20 @@ const fn passive(line: u32) -> WrittenInstance {
     }
 }
 
-const fn based(base: i128, top: u32) -> WrittenInstance {
+const fn based(base: i128, top: u32) -> InstanceFacts {
     let mut one = passive(1);
     one.base = number(1, 20, base);
     one.top = Some(top);
     one
 }
 
-const fn with_queue(one: WrittenInstance, queue: Option<Given>) -> WrittenInstance {
+const fn with_queue(one: InstanceFacts, queue: Option<Given>) -> InstanceFacts {
     let mut other = one;
     other.queue = queue;
     other
 }
 
-const fn with_cpu(one: WrittenInstance, cpu: i128) -> WrittenInstance {
+const fn with_cpu(one: InstanceFacts, cpu: i128) -> InstanceFacts {
     let mut other = one;
     other.cpu = Some(number(other.at.line, 60, cpu));
     other
@@ -132,15 +133,15 @@ fn instances(rt: HostRuntime) -> Result<(), Fail> {
 
 // ---- connections
 
-const fn end(column: u32, role: Role, of: Option<u32>) -> WrittenEnd {
-    WrittenEnd {
+const fn end(column: u32, role: Role, of: Option<u32>) -> EndFacts {
+    EndFacts {
         at: place(3, column),
         port: Some(JoinedPort { role, of }),
     }
 }
 
-const fn missing(column: u32) -> WrittenEnd {
-    WrittenEnd {
+const fn missing(column: u32) -> EndFacts {
+    EndFacts {
         at: place(3, column),
         port: None,
     }
@@ -190,7 +191,7 @@ fn connections(rt: HostRuntime) -> Result<(), Fail> {
         ),
     ];
     for (expected, from, to) in rows.iter() {
-        let connection = WrittenConnection {
+        let connection = ConnectionFacts {
             at: place(3, 2),
             from: *from,
             to: *to,

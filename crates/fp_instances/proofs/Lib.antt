@@ -1,0 +1,5 @@
+mod Apart
+mod Built
+mod Ranged
+mod Sized
+pub mod Once

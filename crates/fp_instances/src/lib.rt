@@ -1,0 +1,15 @@
+//! From what is written of instances of components to the instances of a model, or the first rule that these break.
+#![tactic(auto)]
+
+mod building;
+mod facts;
+mod faults;
+mod laws;
+mod numbers;
+mod overlaps;
+mod ranges;
+mod tops;
+
+pub use building::instances_of;
+pub use faults::instances_fault;
+pub use laws::unbroken_are_within;

@@ -1,0 +1,5 @@
+mod Lists
+mod Pieces
+mod Ports
+mod Dictionary
+mod Components

@@ -1,0 +1,10 @@
+mod Going
+mod Holding
+mod Instanced
+mod Lain
+mod Linked
+mod Lists
+mod Own
+mod Spaced
+mod Whole
+mod Written

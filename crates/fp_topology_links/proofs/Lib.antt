@@ -1,0 +1,13 @@
+pub mod Closing
+pub mod Differing
+pub mod Earlier
+pub mod Filling
+pub mod Having
+pub mod Hiding
+pub mod Lying
+pub mod Meeting
+pub mod Noting
+pub mod OneOrder
+pub mod Ordering
+pub mod Placing
+pub mod Single

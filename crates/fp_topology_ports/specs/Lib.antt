@@ -1,0 +1,4 @@
+pub mod Indexed
+pub mod Firsts
+pub mod Ports
+pub mod Patterns
