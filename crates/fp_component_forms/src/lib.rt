@@ -15,4 +15,7 @@ mod specials;
 mod wholes;
 mod writing;
 
+pub use positions::ranks_among;
+pub use reading::{given_taken, optional_taken, position_taken};
+pub use wholes::name_behind;
 pub use writing::{WrittenSource, parts_written};

@@ -1,7 +1,8 @@
 ghost use Rattle.std.specs.Prelude.{◌≡◌, IfOk};
 ghost use Rattle.fp_meaning.specs.Layout.{items as laid_out};
 ghost use Rattle.fp_tree.specs.declared.source.Source.{Source};
-ghost use Rattle.fp_component_forms.specs.Positions.{ArePositions, names_in};
+ghost use Rattle.fp_meaning.specs.Names.{definitions};
+ghost use Rattle.fp_component_forms.specs.Positions.{ArePositions, RanksAre, names_in};
 ghost use Rattle.fp_component_forms.specs.Written.{port_names};
 
 use crate::ranking::ranks_in;
@@ -39,4 +40,13 @@ pub fn positions_in(
         machines,
         specials,
     })
+}
+
+/// The number of definitions of a group before each definition of a source that is laid out flat: what stands in the group at such a
+/// position is named by it. Want of memory where so many have no number.
+pub fn ranks_among(alloc: Global, items: &[Item], group: Group) -> Result<Row<u32>, NoMemory>
+    ensures { IfOk result (λ ranks. (source : Source) → items.now ≡ laid_out source → RanksAre group (definitions source) ranks) }
+{
+    let ranks = ranks_in(alloc, items, group)?;
+    Ok(ranks)
 }

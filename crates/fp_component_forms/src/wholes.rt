@@ -46,7 +46,7 @@ pub fn port_written(
 }
 
 /// The qualified name of a definition in a scope.
-fn name_behind(alloc: Global, scope: &Row<Text>, name: &Name) -> Result<Text, NoMemory>
+pub fn name_behind(alloc: Global, scope: &Row<Text>, name: &Name) -> Result<Text, NoMemory>
     ensures { IfOk result (λ text. text ≡ qualified scope.now name.now) }
 {
     let names = behind(alloc, scope, name)?;

@@ -1,6 +1,6 @@
 pub mod Places
 pub mod Positions
-mod Once
+pub mod Once
 pub mod Given
 mod Imports
 mod Least

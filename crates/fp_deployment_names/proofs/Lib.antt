@@ -1,0 +1,2 @@
+mod Kinded
+pub mod Texts

@@ -1,0 +1,3 @@
+mod Along
+mod Once
+mod Least

@@ -1,0 +1,6 @@
+use Rattle.fp_topology_forms.specs.Written.{InstanceIs, instance_of}
+use Rattle.fp_topology_forms.proofs.Items.{GivesFirst}
+use Rattle.fp_topology_forms.proofs.writing.instances_in.Given as goal
+
+abbrev pub invariant-loop-index : goal.invariant-loop-index
+invariant-loop-index l = GivesFirst InstanceIs instance_of l.ranks l.marks l.resolutions l.items l.index l.written

@@ -1,0 +1,15 @@
+//! From a source that is laid out to what is written of its instances and topologies.
+#![tactic(auto)]
+
+mod adding;
+mod connections;
+mod laws;
+mod members;
+mod patterns;
+mod ranks;
+mod uses;
+mod wholes;
+mod writing;
+
+pub use laws::{deployments_have_numbers, one_deployment, written_deployments_lie};
+pub use writing::deployment_written;
