@@ -25,7 +25,6 @@ use Rattle.fp_parse_pieces.specs.Words as words
 use Rattle.fp_parse_parts.specs.declared.bare.BareMember.{BareMember}
 use Rattle.fp_parse_parts.specs.declared.bare.BareMember.TheVariants as bare
 use Rattle.fp_parse_parts.specs.Members.{k_module, semicolons, definition_begins, definition_goes_on, definition_member, made_include, include, made_locate, locate, model_member, noted_definition, noted_member, with_member, member_of, members_of, made_module, modules, members}
-use Rattle.fp_parse_parts.specs.Omitted.{unbuilt}
 use Rattle.fp_parse_parts.specs.Files.{SpellsFile}
 use Rattle.fp_parse_parts.specs.Units.{SpellsUnit, component_parts}
 use Rattle.fp_sites.specs.Sites.{in_parts}
@@ -86,34 +85,34 @@ definition_member_yields expressions =
     gives_map HoldsNoted bare.Def (λ d h note. definition_holds (noted_definition d note) (h note))
     (gives_seal {a = definition expressions} definition_begins definition_goes_on (definition_yields expressions))
 
-model_yields : (omitted : List ℕ) (expressions : ℕ) → Yields (model_member omitted expressions) HoldsNoted
+model_yields : (expressions : ℕ) → Yields (model_member expressions) HoldsNoted
 unfolding having
-model_yields omitted expressions = gives_map HoldsNoted bare.Model (λ m h note. (h note).items) (models_yield (having expressions) omitted)
+model_yields expressions = gives_map HoldsNoted bare.Model (λ m h note. (h note).items) (models_yield (having expressions))
 
-module _ (omitted : List ℕ) (expressions : ℕ) where
-  member_yields : (inner : Language Token BareMember) → LanguageGives Any inner HoldsNoted → Yields (member_of omitted expressions inner) HoldsNoted
+module _ (expressions : ℕ) where
+  member_yields : (inner : Language Token BareMember) → LanguageGives Any inner HoldsNoted → Yields (member_of expressions inner) HoldsNoted
   member_yields inner given =
-      gives_alt (gives_ref _ given) (gives_alt include_yields (gives_alt locate_yields (gives_alt (definition_member_yields expressions) (model_yields omitted expressions))))
+      gives_alt (gives_ref _ given) (gives_alt include_yields (gives_alt locate_yields (gives_alt (definition_member_yields expressions) (model_yields expressions))))
 
-  members_yield : (inner : Language Token BareMember) → LanguageGives Any inner HoldsNoted → Yields (members_of omitted expressions inner) (Each Holds)
+  members_yield : (inner : Language Token BareMember) → LanguageGives Any inner HoldsNoted → Yields (members_of expressions inner) (Each Holds)
   members_yield inner given =
       gives_map (Each Holds) or_none (each_or_none Holds)
       (gives_optional (gives_some_of HoldsNoted (Each Holds) with_member (λ ms m lines h k. each_push Holds ms (noted_member m (joined lines)) h (k (joined lines))) semicolons [] tt
       (member_yields inner given)))
 
-  modules_yield : (depth : ℕ) → LanguageGives Any (modules omitted expressions depth) HoldsNoted
+  modules_yield : (depth : ℕ) → LanguageGives Any (modules expressions depth) HoldsNoted
   modules_yield zero = λ w m s h. absurd s
   modules_yield (suc depth) =
       (gives_map HoldsNoted made_module opened_holds
       (gives_seq {a = words.at k_module} gives_anything (gives_seq {a = words.name} gives_anything (gives_after k_open_brace
-      (gives_seq {b = words.at k_close_brace} (members_yield (modules omitted expressions depth) (modules_yield depth)) gives_anything))))).given
+      (gives_seq {b = words.at k_close_brace} (members_yield (modules expressions depth) (modules_yield depth)) gives_anything))))).given
 
-  all_yield : (depth : ℕ) → Yields (members omitted expressions depth) (Each Holds)
-  all_yield depth = members_yield (modules omitted expressions depth) (modules_yield depth)
+  all_yield : (depth : ℕ) → Yields (members expressions depth) (Each Holds)
+  all_yield depth = members_yield (modules expressions depth) (modules_yield depth)
 
 pub all_listed : (tokens : List Token) (ms : List Member) → SpellsUnit tokens ms → (scope : Path) (i : Item) → Contains (in_members scope ms) i → IsListed i
 all_listed tokens ms spelled scope i there =
-    let hold = (all_yield unbuilt limit limit).given tokens ms spelled (each_of_any Any (λ t. tt) tokens) in
+    let hold = (all_yield limit limit).given tokens ms spelled (each_of_any Any (λ t. tt) tokens) in
     of_contained IsListed (in_members scope ms) i (all_hold ms hold scope) there
 
 parts_hold : (tokens : List Token) (ps : List Part) → SpellsFile component_parts tokens ps → (scope : Path) → Each IsListed (in_parts scope ps)

@@ -2,8 +2,12 @@ mod Constants
 mod Conversions
 mod Dictionaries
 mod Expressions
+mod Filtered
 mod Formats
+mod InstanceRules
+mod LinkPlaces
 mod Machines
+mod NumberRules
 mod Parted
 mod PartForms
 mod PartNames
@@ -11,7 +15,9 @@ mod PartNumbers
 mod PortRules
 mod Standing
 mod States
+mod TopologyRules
 mod Types
 mod Wholes
 mod Written
+mod WrittenDeployment
 mod WrittenSource

@@ -2,6 +2,7 @@
 use Rattle.std.proofs.Common.{List, inl, inr}
 use Rattle.std.specs.List.{AllByRecursion as Each}
 use Rattle.fp_base.specs.declared.refusal.Refusal.{Refusal}
+use Rattle.fp_base.specs.Least.{IsUnbroken}
 use Rattle.fp_base.proofs.Lists.{each_contained, of_item}
 use Rattle.fp_tree.specs.declared.source.Source.{Source}
 use Rattle.fp_tables.specs.declared.kind.TypeDef.{TypeDef}
@@ -10,6 +11,11 @@ use Rattle.fp_component_forms.specs.declared.writing.WrittenSource.{WrittenSourc
 use Rattle.fp_component_forms.specs.Written.{IsWrittenSource}
 use Rattle.fp_source_components.specs.Broken.{BrokenBy, PartsBroken}
 use Rattle.fp_source_components.specs.Machines.{externals}
+use Rattle.fp_written_topologies.specs.declared.topology.WrittenDeployment.{WrittenDeployment}
+use Rattle.fp_topology_forms.specs.Written.{IsWrittenDeployment}
+use Rattle.fp_topology_imports.specs.Laws.{UnbrokenAreClosed}
+use Rattle.fp_topology_links.specs.Laws.{HaveClosures}
+use Rattle.fp_source_topologies.specs.Broken.{SourceInstancesBroken, SourceNumbersBroken, SourceTopologiesBroken, deployed}
 use Rattle.fp_model.specs.Broken.{StatesBroken, ValuesBroken}
 use Rattle.fp_places.specs.Places.{places_of}
 use Rattle.fp_fault_places.specs.Standing.{IsPlaceOf}
@@ -17,11 +23,16 @@ use Rattle.fp_fault_places.proofs.Constants.{StandOf, constants_placed}
 use Rattle.fp_fault_places.proofs.Conversions.{conversions_placed}
 use Rattle.fp_fault_places.proofs.Dictionaries.{dictionary_placed}
 use Rattle.fp_fault_places.proofs.Formats.{formats_placed}
+use Rattle.fp_fault_places.proofs.InstanceRules.{instances_placed as component_instances_placed}
+use Rattle.fp_fault_places.proofs.LinkPlaces.{links_stand}
+use Rattle.fp_fault_places.proofs.NumberRules.{numbers_placed}
 use Rattle.fp_fault_places.proofs.PartForms.{part_forms_placed}
 use Rattle.fp_fault_places.proofs.PortRules.{ports_placed}
 use Rattle.fp_fault_places.proofs.States.{instances_placed, machines_placed}
+use Rattle.fp_fault_places.proofs.TopologyRules.{topologies_placed}
 use Rattle.fp_fault_places.proofs.Types.{types_broken}
 use Rattle.fp_fault_places.proofs.Wholes.{wholes_placed}
+use Rattle.fp_fault_places.proofs.WrittenDeployment.{InstanceStands, TopologyStands, instances_stand, topologies_stand}
 use Rattle.fp_fault_places.proofs.WrittenSource.{ComponentStands, InterfaceStands, components_stand, definitions_stand, interfaces_stand}
 
 -- each place of an item of the source is one
@@ -57,3 +68,39 @@ parts_placed source f b = written_placed source b.written b.are b.types f b.brok
 pub states_placed : (source : Source) (f : Refusal) → StatesBroken source f → IsPlaceOf source f.place
 states_placed source f (inl b) = machines_placed (IsPlaceOf source) source (all_stand source) f b
 states_placed source f (inr b) = instances_placed (IsPlaceOf source) (externals source) b.written.components f (components_placed source b.written b.are) b.broken
+
+-- ---- instances and topologies
+
+module _ (source : Source) (w : WrittenDeployment) (are : IsWrittenDeployment source w) where
+  all_instances : Each (InstanceStands (IsPlaceOf source)) w.instances
+  all_instances = instances_stand (IsPlaceOf source) source (all_stand source) w are
+
+  all_topologies : Each (TopologyStands (IsPlaceOf source)) w.topologies
+  all_topologies = topologies_stand (IsPlaceOf source) source (all_stand source) w are
+
+pub source_instances_placed : (source : Source) (f : Refusal) → SourceInstancesBroken source f → IsPlaceOf source f.place
+source_instances_placed source f b =
+    component_instances_placed (IsPlaceOf source) b.parts.components b.written.instances f (all_instances source b.written b.are.deployment) b.broken
+
+pub source_topologies_placed : (source : Source) (f : Refusal) → SourceTopologiesBroken source f → IsPlaceOf source f.place
+source_topologies_placed source f b =
+    topologies_placed (IsPlaceOf source) b.parts.ports b.parts.components b.instances b.written.topologies f (all_topologies source b.written b.are.deployment) b.broken
+
+-- where topologies break no rule, no import is on a cycle
+closures_there : (source : Source) (f : Refusal) (b : SourceNumbersBroken source f) → UnbrokenAreClosed → IsUnbroken (SourceTopologiesBroken source) → HaveClosures b.written.topologies
+closures_there source f b law unbroken closures closed t low =
+    law b.written.topologies closures closed
+    (λ g broken. unbroken g (record {
+      parts = b.parts;
+      written = b.written;
+      are = b.are;
+      instances = b.instances;
+      built = b.built;
+      broken = record { closures = closures; closed = closed; broken = inl broken };
+    })) t low
+
+pub source_numbers_placed : UnbrokenAreClosed → (source : Source) (f : Refusal) → IsUnbroken (SourceTopologiesBroken source) → SourceNumbersBroken source f → IsPlaceOf source f.place
+source_numbers_placed law source f unbroken b =
+    numbers_placed (IsPlaceOf source) (deployed b.parts.ports b.parts.components b.instances b.topologies) f
+    (links_stand (IsPlaceOf source) b.parts.ports b.parts.components b.instances b.written.topologies b.topologies (closures_there source f b law unbroken)
+    (all_topologies source b.written b.are.deployment) b.joined) b.broken

@@ -111,7 +111,7 @@ module _ (G : Place → Type 0) where
   side_places (Some ls) h = split G places_in_limit ls.limits h
 
   module _ (source : Source) (scope : Path) where
-    given_stands : (o : Option Expr) (g : Option Given) → Each G (places_in_value o) → BothOrNeither (GivenIs source scope) o g → InOption GivenStands g
+    pub given_stands : (o : Option Expr) (g : Option Given) → Each G (places_in_value o) → BothOrNeither (GivenIs source scope) o g → InOption GivenStands g
     given_stands None None h is = tt
     given_stands None (Some g) h is = absurd is
     given_stands (Some e) None h is = absurd is

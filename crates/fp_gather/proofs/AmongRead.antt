@@ -10,31 +10,32 @@ use Rattle.fp_lexer.proofs.Rises.{spans_rise}
 use Rattle.fp_lexer.specs.Tokens.{Lexed, Rising}
 use Rattle.fp_lexer.specs.declared.token.Token.{Token}
 use Rattle.fp_tree.specs.declared.component.Part.{Part}
+use Rattle.fp_tree.specs.declared.topology.TMember.{TMember}
 use Rattle.fp_tree.specs.declared.member.Include.{Include}
 use Rattle.fp_tree.specs.declared.member.Member.{Member}
 use Rattle.fp_meaning.specs.Broken.{BrokenByDefinitions, BrokenByUses, NamesBroken}
 use Rattle.fp_meaning.specs.declared.item.Item.{Item}
 use Rattle.fp_meaning.specs.Layout.{in_members, items}
 use Rattle.fp_meaning.specs.Sites.{Path}
-use Rattle.fp_places.specs.Places.{places_in_part, places_of}
+use Rattle.fp_places.specs.Places.{places_in_part, places_in_topology_member, places_of}
 use Rattle.fp_meaning.specs.Names.{definitions, definitions_of, mentions, uses_of}
 use Rattle.fp_meaning.specs.declared.names.Definition.{Definition}
 use Rattle.fp_meaning.specs.declared.names.Mention.{Mention}
 use Rattle.fp_outside.specs.declared.files.HeldFile.{HeldFile}
 use Rattle.fp_parse_defs.specs.Reading.{BeginsAt}
 use Rattle.fp_parse_parts.specs.Files.{SpellsFile}
-use Rattle.fp_parse_parts.specs.Units.{BreaksInside, SpellsUnit, component_parts}
+use Rattle.fp_parse_parts.specs.Units.{BreaksInside, SpellsUnit, component_parts, topology_members}
 use Rattle.fp_parse_parts.specs.declared.parsing.Inside.{Inside}
 use Rattle.fp_parse_parts.specs.declared.parsing.Inside.TheVariants as inside
 use Rattle.fp_parse_parts.specs.declared.parsing.Members.{Members}
 use Rattle.fp_parse_parts.specs.declared.parsing.Members.TheVariants as given
 use Rattle.fp_sites.specs.Includes.{includes_in}
-use Rattle.fp_sites.specs.Sites.{BeginsToken, PartsStandAtTokens, StandAtTokens, in_parts}
+use Rattle.fp_sites.specs.Sites.{BeginsToken, PartsStandAtTokens, StandAtTokens, TopologyStandsAtTokens, in_parts, in_topology}
 use Rattle.fp_base.proofs.Lists.{each_before, each_behind, each_contained, each_flat, each_of_any, each_weaker, of_contained, of_item}
-use Rattle.fp_gather.proofs.InclusionsStand.{of_members, of_parts}
+use Rattle.fp_gather.proofs.InclusionsStand.{of_members, of_parts, of_topology}
 use Rattle.fp_gather.proofs.ItemsKept.{by_kind, units_items}
-use Rattle.fp_gather.proofs.PartsHold.{Hold, in_each, members_hold, parts_hold}
-use Rattle.fp_gather.proofs.StandBelow.{AnyPart, DefinesBelow, IncludesBelow, IsNumbered, PartBelow, PlacesBelow, StandBelow, UsesBelow, files_below, none_below}
+use Rattle.fp_gather.proofs.PartsHold.{Hold, in_each, members_hold, parts_hold, topology_holds}
+use Rattle.fp_gather.proofs.StandBelow.{DefinesBelow, IncludesBelow, IsNumbered, PlacesBelow, StandBelow, UsesBelow, definers, files_below, none_below, placed_parts, users}
 use Rattle.fp_gather.specs.gathering.Gathered.{AnyBroken, InFiles, StandsAmong, names_read, source_of}
 use Rattle.fp_gather.specs.gathering.Reading.{Reading, BreaksGrammar, BreaksTokenRule, Gives, nothing_in}
 use Rattle.fp_gather.specs.gathering.Walks.{Walked, Went, WalksFiles, nothing_read}
@@ -50,12 +51,9 @@ PlacesInFiles =
     (told : Option (List HeldFile)) (names : List (List ℕ)) (walked : Walked) (units : List (List Member)) (i : Item) (place : Place)
     → WalksFiles told names nothing_read (Went walked units) → Contains (items (source_of walked units)) i → Contains (places_of i) place → place.file < length (names_read walked)
 
--- each place of what members give begins a token
-abbrev PlacesBegin : List Token → List Member → Type 0
-PlacesBegin tokens ms = (scope : Path) (i : Item) (place : Place) → Contains (in_members scope ms) i → Contains (places_of i) place → BeginsToken tokens place
-
-abbrev PartPlacesBegin : List Token → List Part → Type 0
-PartPlacesBegin tokens ps = (scope : Path) (i : Item) (place : Place) → Contains (in_parts scope ps) i → Contains (places_of i) place → BeginsToken tokens place
+-- each place of what is given in a scope begins a token
+abbrev PlacesBegin : List Token → (Path → List Item) → Type 0
+PlacesBegin tokens given = (scope : Path) (i : Item) (place : Place) → Contains (given scope) i → Contains (places_of i) place → BeginsToken tokens place
 
 -- ---- tokens
 
@@ -106,33 +104,50 @@ module _ (r : Reading) (tokens : List Token) (stand : AllByRecursion (StandsIn r
   places_there is h = each_contained (PlacesBelow (suc r.number)) is
       (λ i there. each_contained (λ (p : Place). p.file < suc r.number) (places_of i) (λ p among. below p (h i p there among)))
 
-  members_below : (ms : List Member) → StandAtTokens tokens ms → PlacesBegin tokens ms → StandBelow (suc r.number) (given.Unit ms) × IncludesBelow (suc r.number) (given.Unit ms)
+  members_below : (ms : List Member) → StandAtTokens tokens ms → PlacesBegin tokens (λ scope. in_members scope ms) → StandBelow (suc r.number) (given.Unit ms) × IncludesBelow (suc r.number) (given.Unit ms)
   members_below ms sites placed = (
     record {
-      definitions = members_hold (DefinesBelow (suc r.number)) AnyPart ms (λ scope. defines (in_members scope ms) (sites.definitions scope));
-      mentions = members_hold (UsesBelow (suc r.number)) AnyPart ms (λ scope. mentions_there (in_members scope ms) (sites.mentions scope));
-      places = members_hold (PlacesBelow (suc r.number)) (PartBelow (suc r.number)) ms (λ scope. places_there (in_members scope ms) (placed scope));
+      definitions = members_hold (DefinesBelow (suc r.number)) (definers (suc r.number)) ms (λ scope. defines (in_members scope ms) (sites.definitions scope));
+      mentions = members_hold (UsesBelow (suc r.number)) (users (suc r.number)) ms (λ scope. mentions_there (in_members scope ms) (sites.mentions scope));
+      places = members_hold (PlacesBelow (suc r.number)) (placed_parts (suc r.number)) ms (λ scope. places_there (in_members scope ms) (placed scope));
     },
     of_members (suc r.number) ms []
         (each_contained (λ (i : Include). i.at.first.file < suc r.number) (includes_in ms) (λ i there. below i.at.first (sites.includes i there)))
         (places_there (in_members [] ms) (placed [])),
   )
 
-  parts_below : (ps : List Part) → PartsStandAtTokens tokens ps → ((p : Place) → Contains (flat_map places_in_part ps) p → BeginsToken tokens p) → PartPlacesBegin tokens ps
+  own_places : (ps : List Place) → ((p : Place) → Contains ps p → BeginsToken tokens p) → AllByRecursion (λ (p : Place). p.file < suc r.number) ps
+  own_places ps own = each_contained (λ (p : Place). p.file < suc r.number) ps (λ p there. below p (own p there))
+
+  parts_below : (ps : List Part) → PartsStandAtTokens tokens ps → ((p : Place) → Contains (flat_map places_in_part ps) p → BeginsToken tokens p) → PlacesBegin tokens (λ scope. in_parts scope ps)
       → StandBelow (suc r.number) (given.Component ps) × IncludesBelow (suc r.number) (given.Component ps)
   parts_below ps sites own placed =
-      let places : AllByRecursion (λ (p : Place). p.file < suc r.number) (flat_map places_in_part ps) =
-      each_contained (λ (p : Place). p.file < suc r.number) (flat_map places_in_part ps) (λ p there. below p (own p there)) in (
+      let places = own_places (flat_map places_in_part ps) own in
+      let nothing = each_of_any (λ (p : Part). Unit {0}) (λ p. tt) ps in (
         record {
-          definitions = parts_hold (DefinesBelow (suc r.number)) AnyPart ps (each_of_any AnyPart (λ p. tt) ps) (λ scope. defines (in_parts scope ps) (sites.definitions scope));
-          mentions = parts_hold (UsesBelow (suc r.number)) AnyPart ps (each_of_any AnyPart (λ p. tt) ps) (λ scope. mentions_there (in_parts scope ps) (sites.mentions scope));
-          places = parts_hold (PlacesBelow (suc r.number)) (PartBelow (suc r.number)) ps (in_each (λ (p : Place). p.file < suc r.number) places_in_part ps places)
+          definitions = parts_hold (DefinesBelow (suc r.number)) (definers (suc r.number)) ps nothing (λ scope. defines (in_parts scope ps) (sites.definitions scope));
+          mentions = parts_hold (UsesBelow (suc r.number)) (users (suc r.number)) ps nothing (λ scope. mentions_there (in_parts scope ps) (sites.mentions scope));
+          places = parts_hold (PlacesBelow (suc r.number)) (placed_parts (suc r.number)) ps (in_each (λ (p : Place). p.file < suc r.number) places_in_part ps places)
               (λ scope. places_there (in_parts scope ps) (placed scope));
         },
         of_parts (suc r.number) ps places,
       )
 
--- what the laws below say of files of members and of files that are included in components
+  topology_below : (ts : List TMember) → TopologyStandsAtTokens tokens ts → ((p : Place) → Contains (flat_map places_in_topology_member ts) p → BeginsToken tokens p) → PlacesBegin tokens (λ scope. in_topology scope ts)
+      → StandBelow (suc r.number) (given.Topology ts) × IncludesBelow (suc r.number) (given.Topology ts)
+  topology_below ts sites own placed =
+      let places = own_places (flat_map places_in_topology_member ts) own in
+      let nothing = each_of_any (λ (t : TMember). Unit {0}) (λ t. tt) ts in (
+        record {
+          definitions = topology_holds (DefinesBelow (suc r.number)) (definers (suc r.number)) ts nothing (λ scope. defines (in_topology scope ts) (sites.definitions scope));
+          mentions = topology_holds (UsesBelow (suc r.number)) (users (suc r.number)) ts nothing (λ scope. mentions_there (in_topology scope ts) (sites.mentions scope));
+          places = topology_holds (PlacesBelow (suc r.number)) (placed_parts (suc r.number)) ts (in_each (λ (p : Place). p.file < suc r.number) places_in_topology_member ts places)
+              (λ scope. places_there (in_topology scope ts) (placed scope));
+        },
+        of_topology (suc r.number) ts places,
+      )
+
+-- what the laws below say of files of members and of files that are included in components and in topologies
 pub record Begin : Type 0 where
   pub sites : (tokens : List Token) (ms : List Member) → SpellsUnit tokens ms → StandAtTokens tokens ms
   pub placed : (tokens : List Token) (ms : List Member) (scope : Path) (i : Item) (place : Place)
@@ -141,8 +156,11 @@ pub record Begin : Type 0 where
   pub part_own : (tokens : List Token) (ps : List Part) (place : Place) → SpellsFile component_parts tokens ps → Contains (flat_map places_in_part ps) place → BeginsToken tokens place
   pub part_placed : (tokens : List Token) (ps : List Part) (scope : Path) (i : Item) (place : Place)
       → SpellsFile component_parts tokens ps → Contains (in_parts scope ps) i → Contains (places_of i) place → BeginsToken tokens place
+  pub topology_sites : (tokens : List Token) (ts : List TMember) → SpellsFile topology_members tokens ts → TopologyStandsAtTokens tokens ts
+  pub topology_own : (tokens : List Token) (ts : List TMember) (place : Place) → SpellsFile topology_members tokens ts → Contains (flat_map places_in_topology_member ts) place → BeginsToken tokens place
+  pub topology_placed : (tokens : List Token) (ts : List TMember) (scope : Path) (i : Item) (place : Place)
+      → SpellsFile topology_members tokens ts → Contains (in_topology scope ts) i → Contains (places_of i) place → BeginsToken tokens place
 
--- of what stands in a topology nothing is asked
 abbrev GiftBelow : ℕ → Members → Type 0
 GiftBelow n x = StandBelow n x × IncludesBelow n x
 
@@ -158,7 +176,8 @@ gift_below laws r x (inl (tokens, has, spelled)) =
     (λ ms s. members_below r tokens stand ms (laws.sites tokens ms s) (λ scope i place there among. laws.placed tokens ms scope i place s there among))
     (λ ps s. parts_below r tokens stand ps (laws.part_sites tokens ps s) (λ p there. laws.part_own tokens ps p s there)
     (λ scope i place there among. laws.part_placed tokens ps scope i place s there among))
-    (λ ts. (record { definitions = tt; mentions = tt; places = tt }, tt)) r.inside x spelled
+    (λ ts s. topology_below r tokens stand ts (laws.topology_sites tokens ts s) (λ p there. laws.topology_own tokens ts p s there)
+    (λ scope i place there among. laws.topology_placed tokens ts scope i place s there among)) r.inside x spelled
 gift_below laws r x (inr (broken, e)) = subst (GiftBelow (suc r.number)) (sym e) (none_given (suc r.number) r.inside)
 
 broken_tokens : (r : Reading) (f : Refusal) → BreaksTokenRule r f → f.place.file ≡ r.number
@@ -183,12 +202,12 @@ module _ (n : ℕ) (walked : Walked) (units : List (List Member)) (under : AllBy
   definitions_below : AllByRecursion (λ (d : Definition). d.place.file < n) (definitions (source_of walked units))
   definitions_below =
       each_flat (λ (d : Definition). d.place.file < n) definitions_of (items (source_of walked units))
-      (units_items (DefinesBelow n) AnyPart units (each_weaker (λ (ms : List Member). StandBelow n (given.Unit ms)) (λ (ms : List Member). Hold (DefinesBelow n) AnyPart (given.Unit ms)) (λ ms q. q.definitions) units under))
+      (units_items (DefinesBelow n) (definers n) units (each_weaker (λ (ms : List Member). StandBelow n (given.Unit ms)) (λ (ms : List Member). Hold (DefinesBelow n) (definers n) (given.Unit ms)) (λ ms q. q.definitions) units under))
 
   mentions_below : AllByRecursion (λ (m : Mention). m.place.file < n) (mentions (source_of walked units))
   mentions_below =
       each_flat (λ (m : Mention). m.place.file < n) uses_of (items (source_of walked units))
-      (units_items (UsesBelow n) AnyPart units (each_weaker (λ (ms : List Member). StandBelow n (given.Unit ms)) (λ (ms : List Member). Hold (UsesBelow n) AnyPart (given.Unit ms)) (λ ms q. q.mentions) units under))
+      (units_items (UsesBelow n) (users n) units (each_weaker (λ (ms : List Member). StandBelow n (given.Unit ms)) (λ (ms : List Member). Hold (UsesBelow n) (users n) (given.Unit ms)) (λ ms q. q.mentions) units under))
 
   below_as : (f : Refusal) (place : Place) → f.place ≡ place → place.file < n → f.place.file < n
   below_as f place e lt = subst (λ (p : Place). p.file < n) (sym e) lt
@@ -241,7 +260,7 @@ module _ (laws : Begin) where
       let all = files_below (gift_below laws) told names walked units walks in
       let n : ℕ = length walked.readings in
       let items_below : AllByRecursion (PlacesBelow n) (items (source_of walked units)) =
-      units_items (PlacesBelow n) (PartBelow n) units (each_weaker (λ (ms : List Member). StandBelow n (given.Unit ms)) (λ (ms : List Member). Hold (PlacesBelow n) (PartBelow n) (given.Unit ms)) (λ ms q. q.places) units all.1) in
+      units_items (PlacesBelow n) (placed_parts n) units (each_weaker (λ (ms : List Member). StandBelow n (given.Unit ms)) (λ (ms : List Member). Hold (PlacesBelow n) (placed_parts n) (given.Unit ms)) (λ ms q. q.places) units all.1) in
       let lt = of_contained (λ (p : Place). p.file < n) (places_of i) place (of_contained (PlacesBelow n) (items (source_of walked units)) i items_below there) among in
       let long = length-map walked.readings (λ (r : Reading). r.name) in
       omega (arith, lt, long)

@@ -1,5 +1,5 @@
 -- Where the includes among members and the places of all that members give stand in files below a number, so does each include in them, also
--- in components.
+-- in components and in topologies.
 use Rattle.std.proofs.Common.{◌≡◌, ℕ, ◌<◌, List, [], ◌∷◌, ◌++◌, flat_map, map, sym, subst, ◌∙◌}
 use Rattle.std.specs.List.{AllByRecursion}
 use Rattle.std.proofs.lemmas.List.Folds.{flat_map-map}
@@ -8,6 +8,9 @@ use Rattle.fp_base.specs.declared.place.Place.{Place}
 use Rattle.fp_tree.specs.declared.component.Component.{Component}
 use Rattle.fp_tree.specs.declared.component.Part.{Part}
 use Rattle.fp_tree.specs.declared.component.Part.TheVariants as part
+use Rattle.fp_tree.specs.declared.topology.TMember.{TMember}
+use Rattle.fp_tree.specs.declared.topology.TMember.TheVariants as topology_member
+use Rattle.fp_tree.specs.declared.topology.Topology.{Topology}
 use Rattle.fp_tree.specs.declared.member.Include.{Include}
 use Rattle.fp_tree.specs.declared.member.Member.{Member, Member-F}
 use Rattle.fp_tree.specs.declared.member.Member.TheFolds.{fold-Member, fold-Module, fold-roll-Member, fold-roll-Module, ind-Member, map-Member, map-Module}
@@ -17,12 +20,12 @@ use Rattle.fp_tree.specs.declared.member.Module.{Module, Module-F}
 use Rattle.fp_meaning.specs.declared.item.Item.{Item}
 use Rattle.fp_meaning.specs.declared.item.Item.TheVariants as item
 use Rattle.fp_meaning.specs.Sites.{Path, component, declaration}
-use Rattle.fp_meaning.specs.Layout.{component_items, component_scope, in_member, in_members, inner_items, own_items}
+use Rattle.fp_meaning.specs.Layout.{component_items, component_scope, in_member, in_members, inner_items, own_items, topology_items}
 use Rattle.fp_meaning.proofs.Throughout.{in_module, member_rolled, members_rolled}
-use Rattle.fp_places.specs.Places.{places_in_part, places_of}
+use Rattle.fp_places.specs.Places.{places_in_part, places_in_topology_member, places_of}
 use Rattle.fp_sites.specs.Includes.{includes_in, includes_of_member, includes_of_module, includes_within}
 use Rattle.fp_gather.specs.declared.gathering.including.Inclusion.{Inclusion}
-use Rattle.fp_gather.specs.gathering.Includes.{inclusions_in_part, inclusions_of_member, inclusions_of_module, inclusions_within}
+use Rattle.fp_gather.specs.gathering.Includes.{inclusions_in_part, inclusions_in_topology_member, inclusions_of_member, inclusions_of_module, inclusions_within}
 
 module _ (n : ℕ) where
   abbrev Below : Inclusion → Type 0
@@ -33,6 +36,15 @@ module _ (n : ℕ) where
 
   abbrev IsPlaced : Item → Type 0
   IsPlaced i = AllByRecursion (λ (p : Place). p.file < n) (places_of i)
+
+  -- of what stands in a row
+  of_row : {A : Type 0} (places : A → List Place) (found : A → List Inclusion) → ((x : A) → AllByRecursion (λ (q : Place). q.file < n) (places x) → AllByRecursion Below (found x))
+      → (xs : List A) → AllByRecursion (λ (q : Place). q.file < n) (flat_map places xs) → AllByRecursion Below (flat_map found xs)
+  of_row places found of [] h = tt
+  of_row places found of (x ∷ xs) h =
+      each_append Below (found x) (flat_map found xs)
+      (of x (each_before (λ (q : Place). q.file < n) (places x) (flat_map places xs) h))
+      (of_row places found of xs (each_behind (λ (q : Place). q.file < n) (places x) (flat_map places xs) h))
 
   of_part : (p : Part) → AllByRecursion (λ (q : Place). q.file < n) (places_in_part p) → AllByRecursion Below (inclusions_in_part p)
   of_part (part.Def d) h = tt
@@ -50,17 +62,26 @@ module _ (n : ℕ) where
   of_part (part.Include i) h = (h.0, tt)
 
   pub of_parts : (ps : List Part) → AllByRecursion (λ (q : Place). q.file < n) (flat_map places_in_part ps) → AllByRecursion Below (flat_map inclusions_in_part ps)
-  of_parts [] h = tt
-  of_parts (p ∷ ps) h =
-      each_append Below (inclusions_in_part p) (flat_map inclusions_in_part ps)
-      (of_part p (each_before (λ (q : Place). q.file < n) (places_in_part p) (flat_map places_in_part ps) h))
-      (of_parts ps (each_behind (λ (q : Place). q.file < n) (places_in_part p) (flat_map places_in_part ps) h))
+  of_parts ps h = of_row places_in_part inclusions_in_part of_part ps h
 
   of_component : (scope : Path) (c : Component) → AllByRecursion IsPlaced (component_items scope c) → AllByRecursion Below (flat_map inclusions_in_part c.parts)
   of_component scope c h =
       let own : List Item = flat_map (own_items (component_scope scope c)) c.parts in
       let front = each_before IsPlaced (item.Declared (declaration scope (component c)) ∷ own) (flat_map (inner_items (component_scope scope c)) c.parts) h in
       of_parts c.parts front.0.1
+
+  of_one : (t : TMember) → AllByRecursion (λ (q : Place). q.file < n) (places_in_topology_member t) → AllByRecursion Below (inclusions_in_topology_member t)
+  of_one (topology_member.Instance i) h = tt
+  of_one (topology_member.Import i) h = tt
+  of_one (topology_member.Connections c) h = tt
+  of_one (topology_member.Pattern p) h = tt
+  of_one (topology_member.Include i) h = (h.0, tt)
+
+  pub of_topology : (ts : List TMember) → AllByRecursion (λ (q : Place). q.file < n) (flat_map places_in_topology_member ts) → AllByRecursion Below (flat_map inclusions_in_topology_member ts)
+  of_topology ts h = of_row places_in_topology_member inclusions_in_topology_member of_one ts h
+
+  of_declared : (scope : Path) (t : Topology) → AllByRecursion IsPlaced (topology_items scope t) → AllByRecursion Below (flat_map inclusions_in_topology_member t.members)
+  of_declared scope t h = of_topology t.members h.0.1
 
   -- ---- modules
 
@@ -109,7 +130,8 @@ module _ (n : ℕ) where
       subst (AllByRecursion Below) (sym (rolled (open_member.Component c))) (of_component scope c (subst (AllByRecursion IsPlaced) (member_rolled (open_member.Component c) scope) k))
   by_member (open_member.Interface f) scope h k = subst (AllByRecursion Below) (sym (rolled (open_member.Interface f))) tt
   by_member (open_member.Instance m) scope h k = subst (AllByRecursion Below) (sym (rolled (open_member.Instance m))) tt
-  by_member (open_member.Topology t) scope h k = subst (AllByRecursion Below) (sym (rolled (open_member.Topology t))) tt
+  by_member (open_member.Topology t) scope h k =
+      subst (AllByRecursion Below) (sym (rolled (open_member.Topology t))) (of_declared scope t (subst (AllByRecursion IsPlaced) (member_rolled (open_member.Topology t) scope) k))
   by_member (open_member.Include i) scope h k =
       let own : AllByRecursion AsInclude (i ∷ []) = subst (AllByRecursion AsInclude) (rolled_includes (open_member.Include i)) h in
       subst (AllByRecursion Below) (sym (rolled (open_member.Include i))) (own.0, tt)

@@ -8,7 +8,7 @@ use Rattle.fp_lexer.specs.Tokens.{Lexed}
 use Rattle.fp_lexer.specs.declared.token.Token.{Token}
 use Rattle.fp_outside.specs.declared.files.HeldFile.{HeldFile}
 use Rattle.fp_parse_parts.specs.Files.{SpellsFile}
-use Rattle.fp_parse_parts.specs.Units.{SpellsUnit, component_parts}
+use Rattle.fp_parse_parts.specs.Units.{SpellsUnit, component_parts, topology_members}
 use Rattle.fp_parse_parts.specs.declared.parsing.Inside.{Inside}
 use Rattle.fp_parse_parts.specs.declared.parsing.Inside.TheVariants as inside
 use Rattle.fp_parse_parts.specs.declared.parsing.Members.TheVariants as given
@@ -33,6 +33,7 @@ use Rattle.fp_tree.specs.declared.component.Interface.{Interface}
 use Rattle.fp_tree.specs.declared.component.InterfacePart.{InterfacePart}
 use Rattle.fp_tree.specs.declared.component.InterfacePart.TheVariants as interface_part
 use Rattle.fp_tree.specs.declared.instance.Instance.{Instance}
+use Rattle.fp_tree.specs.declared.topology.TMember.{TMember}
 use Rattle.fp_tree.specs.declared.topology.Topology.{Topology}
 use Rattle.fp_tree.specs.declared.member.Unit.{Unit as File}
 use Rattle.fp_tree.specs.declared.member.Member.{Member, Member-F}
@@ -51,8 +52,8 @@ use Rattle.fp_sites.specs.Names.{names_in, names_of_member, names_of_module, nam
 use Rattle.fp_sites.specs.Parts.{names_in_constant, names_in_definition, names_in_expression, names_in_field, names_in_formal, names_in_type}
 use Rattle.fp_sites.specs.Machines.{names_in_behavior, names_in_element, names_in_element_form, names_in_machine}
 use Rattle.fp_sites.specs.Components.{names_in_component, names_in_interface, names_in_interface_part, names_in_part}
-use Rattle.fp_sites.specs.Topologies.{names_in_instance, names_in_topology}
-use Rattle.fp_sites.specs.Written.{NamesAreWritten, PartNamesAreWritten}
+use Rattle.fp_sites.specs.Topologies.{names_in_instance, names_in_topology, names_in_topology_member}
+use Rattle.fp_sites.specs.Written.{NamesAreWritten, PartNamesAreWritten, TopologyNamesAreWritten}
 use Rattle.fp_gather.proofs.ItemsKept.{by_kind, file_given}
 use Rattle.fp_gather.proofs.KeptByWalks.{units_kept}
 use Rattle.fp_gather.proofs.PartsHold.{HaveNames, in_each, names_inside, names_opened, names_rolled, replaced_names}
@@ -329,17 +330,19 @@ units_named (ms ∷ units) h =
 nothing_named : (i : Inside) → HaveNames IsName (nothing_in i)
 nothing_named inside.Unit = λ scope. tt
 nothing_named inside.Component = λ scope. tt
-nothing_named inside.Topology = tt
+nothing_named inside.Topology = λ scope. tt
 
 pub named_items : ((file : ℕ) (text : List ℕ) (tokens : List Token) (ms : List Member) → Lexed file text tokens → SpellsUnit tokens ms → NamesAreWritten file text ms)
     → ((file : ℕ) (text : List ℕ) (tokens : List Token) (ps : List Part) → Lexed file text tokens → SpellsFile component_parts tokens ps → PartNamesAreWritten file text ps)
+    → ((file : ℕ) (text : List ℕ) (tokens : List Token) (ts : List TMember) → Lexed file text tokens → SpellsFile topology_members tokens ts → TopologyNamesAreWritten file text ts)
     → (told : Option (List HeldFile)) (names : List (List ℕ)) (walked : Walked) (units : List (List Member)) (i : Item)
     → WalksFiles told names nothing_read (Went walked units) → Contains (items (source_of walked units)) i → IsNamed i
-named_items written parts_written told names walked units i h there =
+named_items written parts_written topology_written told names walked units i h there =
     of_contained IsNamed (items (source_of walked units)) i (units_named units
     (units_kept (HaveNames IsName) nothing_named (replaced_names IsName)
     (file_given (HaveNames IsName) nothing_named (λ file text tokens within x lexed spelled. by_kind (HaveNames IsName) tokens
     (λ ms s scope. in_each IsName names_within ms (each_contained IsName (names_in ms) (λ n there. (written file text tokens ms lexed s n there).spelled.0)))
     (λ ps s scope. in_each IsName names_in_part ps (each_contained IsName (flat_map names_in_part ps) (λ n there. (parts_written file text tokens ps lexed s n there).spelled.0)))
-    (λ ts. tt) within x spelled))
+    (λ ts s scope. in_each IsName names_in_topology_member ts (each_contained IsName (flat_map names_in_topology_member ts) (λ n there. (topology_written file text tokens ts lexed s n there).spelled.0)))
+    within x spelled))
     told names walked units h)) there

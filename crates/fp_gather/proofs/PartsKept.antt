@@ -1,6 +1,6 @@
--- What holds of members and of parts of components, and of what files give, holds of what these give once an insert stands in place of each
--- include: in any scope, where it holds of a module if it holds of its name and of its members, and of a component whatever its parts are of
--- which it holds.
+-- What holds of members, of parts of components and of members of topologies, and of what files give, holds of what these give once an insert
+-- stands in place of each include: in any scope, where it holds of a module if it holds of its name and of its members, and of a component
+-- and of a topology whatever its parts or members are of which it holds.
 use Rattle.std.proofs.Common.{◌≡◌, List, [], ◌∷◌, ◌++◌, map, sym, subst}
 use Rattle.std.specs.List.{AllByRecursion}
 use Rattle.fp_parse_parts.specs.declared.parsing.Members.{Members}
@@ -16,20 +16,27 @@ use Rattle.fp_tree.specs.declared.member.Member.TheVariants as member
 use Rattle.fp_tree.specs.declared.member.Member.TheViews.{roll-Member, roll-Module}
 use Rattle.fp_tree.specs.declared.member.Module.{Module, Module-F}
 use Rattle.fp_tree.specs.declared.name.Name.{Name}
+use Rattle.fp_tree.specs.declared.topology.TMember.{TMember}
+use Rattle.fp_tree.specs.declared.topology.TMember.TheVariants as topology_member
+use Rattle.fp_tree.specs.declared.topology.Topology.{Topology}
 use Rattle.fp_meaning.specs.Sites.{Path}
 use Rattle.fp_base.proofs.Lists.{each_append, each_mapped, each_weaker}
-use Rattle.fp_gather.specs.gathering.Includes.{Inserts, Placed, in_turn, itself, members_of, next_insert, parts_of, place_in_member, place_in_module, placed, placed_component, placed_module, placed_part, replaced}
+use Rattle.fp_gather.specs.gathering.Includes.{Inserts, Placed, in_turn, itself, members_of, next_insert, parts_of, place_in_member, place_in_module, placed, placed_component, placed_module, placed_part, placed_topology, placed_topology_member, replaced, topology_members_of}
 
 -- a component with other parts
 abbrev pub with_parts : Component → List Part → Component
 with_parts c ps = record { kind = c.kind; name = c.name; parts = ps; at = c.at; note = c.note }
 
-module _ (At : Path → Member → Type 0) (Within : Path → Module → Type 0) (Own : Name → Type 0) (PartAt : Path → Part → Type 0) where
+-- a topology with other members
+abbrev pub with_members : Topology → List TMember → Topology
+with_members t ts = record { name = t.name; members = ts; at = t.at; note = t.note }
+
+module _ (At : Path → Member → Type 0) (Within : Path → Module → Type 0) (Own : Name → Type 0) (PartAt : Path → Part → Type 0) (InTopology : Path → TMember → Type 0) where
   -- of what a file gives, in any scope
   abbrev pub HoldIn : Members → Type 0
   HoldIn (given.Unit ms) = (scope : Path) → AllByRecursion (At scope) ms
   HoldIn (given.Component ps) = (scope : Path) → AllByRecursion (PartAt scope) ps
-  HoldIn (given.Topology ts) = Unit {0}
+  HoldIn (given.Topology ts) = (scope : Path) → AllByRecursion (InTopology scope) ts
 
   -- of what stands in place of something, and of the inserts that are left
   abbrev Placing : {A : Type 0} → (A → Type 0) → Placed A → Type 0
@@ -45,6 +52,10 @@ module _ (At : Path → Member → Type 0) (Within : Path → Module → Type 0)
       let behind : Placing Q (in_turn fs (f inserts).left) = turn_keeps Q fs h.1 (f inserts).left here.1 in
       (each_append Q (f inserts).items (in_turn fs (f inserts).left).items here.0 behind.0, behind.1)
 
+  -- of each in a row
+  row_keeps : {A : Type 0} (Q : A → Type 0) (place : A → Inserts → Placed A) → ((x : A) → Q x → Keeping Q (place x)) → (xs : List A) → AllByRecursion Q xs → Keeping Q (in_turn (map place xs))
+  row_keeps Q place keeps xs h = turn_keeps Q (map place xs) (each_mapped (Keeping Q) place xs (each_weaker Q (λ x. Keeping Q (place x)) keeps xs h))
+
   own_keeps : {A : Type 0} (Q : A → Type 0) (x : A) → Q x → Keeping Q (itself x)
   own_keeps Q x h inserts k = ((h, tt), k)
 
@@ -57,6 +68,11 @@ module _ (At : Path → Member → Type 0) (Within : Path → Module → Type 0)
   parts_given scope (given.Unit ms) h = tt
   parts_given scope (given.Component ps) h = h scope
   parts_given scope (given.Topology ts) h = tt
+
+  topology_given : (scope : Path) (x : Members) → HoldIn x → AllByRecursion (InTopology scope) (topology_members_of x)
+  topology_given scope (given.Unit ms) h = tt
+  topology_given scope (given.Component ps) h = tt
+  topology_given scope (given.Topology ts) h = h scope
 
   next_keeps : {A : Type 0} (Q : A → Type 0) (of : Members → List A) → ((x : Members) → HoldIn x → AllByRecursion Q (of x)) → Keeping Q (next_insert of)
   next_keeps Q of to [] k = (tt, tt)
@@ -80,9 +96,19 @@ module _ (At : Path → Member → Type 0) (Within : Path → Module → Type 0)
   part_keeps scope (part.Include i) h = next_keeps (PartAt scope) parts_of (parts_given scope)
 
   parts_keep : (scope : Path) (ps : List Part) → AllByRecursion (PartAt scope) ps → Keeping (PartAt scope) (in_turn (map placed_part ps))
-  parts_keep scope ps h =
-      turn_keeps (PartAt scope) (map placed_part ps)
-      (each_mapped (Keeping (PartAt scope)) placed_part ps (each_weaker (PartAt scope) (λ p. Keeping (PartAt scope) (placed_part p)) (part_keeps scope) ps h))
+  parts_keep scope ps h = row_keeps (PartAt scope) placed_part (part_keeps scope) ps h
+
+  -- ---- members of topologies
+
+  one_keeps : (scope : Path) (t : TMember) → InTopology scope t → Keeping (InTopology scope) (placed_topology_member t)
+  one_keeps scope (topology_member.Instance i) h = own_keeps (InTopology scope) (topology_member.Instance i) h
+  one_keeps scope (topology_member.Import i) h = own_keeps (InTopology scope) (topology_member.Import i) h
+  one_keeps scope (topology_member.Connections c) h = own_keeps (InTopology scope) (topology_member.Connections c) h
+  one_keeps scope (topology_member.Pattern p) h = own_keeps (InTopology scope) (topology_member.Pattern p) h
+  one_keeps scope (topology_member.Include i) h = next_keeps (InTopology scope) topology_members_of (topology_given scope)
+
+  listed_keep : (scope : Path) (ts : List TMember) → AllByRecursion (InTopology scope) ts → Keeping (InTopology scope) (in_turn (map placed_topology_member ts))
+  listed_keep scope ts h = row_keeps (InTopology scope) placed_topology_member (one_keeps scope) ts h
 
   -- ---- members
 
@@ -92,12 +118,20 @@ module _ (At : Path → Member → Type 0) (Within : Path → Module → Type 0)
       → At scope (member.Module (record { name = x.name; members = x.members; at = x.at; note = x.note })))
       (parts : (scope : Path) (c : Component) → At scope (member.Component c) → AllByRecursion (PartAt (scope ++ c.name.text ∷ [])) c.parts)
       (renewed : (scope : Path) (c : Component) (ps : List Part) → At scope (member.Component c) → AllByRecursion (PartAt (scope ++ c.name.text ∷ [])) ps
-      → At scope (member.Component (with_parts c ps))) where
+      → At scope (member.Component (with_parts c ps)))
+      (listed : (scope : Path) (t : Topology) → At scope (member.Topology t) → AllByRecursion (InTopology scope) t.members)
+      (relisted : (scope : Path) (t : Topology) (ts : List TMember) → At scope (member.Topology t) → AllByRecursion (InTopology scope) ts
+      → At scope (member.Topology (with_members t ts))) where
     component_keeps : (scope : Path) (c : Component) → At scope (member.Component c) → Keeping (At scope) (placed_component c)
     component_keeps scope c h inserts k =
         let inner : Placing (PartAt (scope ++ c.name.text ∷ [])) (in_turn (map placed_part c.parts) inserts) =
         parts_keep (scope ++ c.name.text ∷ []) c.parts (parts scope c h) inserts k in
         ((renewed scope c (in_turn (map placed_part c.parts) inserts).items h inner.0, tt), inner.1)
+
+    topology_keeps : (scope : Path) (t : Topology) → At scope (member.Topology t) → Keeping (At scope) (placed_topology t)
+    topology_keeps scope t h inserts k =
+        let inner : Placing (InTopology scope) (in_turn (map placed_topology_member t.members) inserts) = listed_keep scope t.members (listed scope t h) inserts k in
+        ((relisted scope t (in_turn (map placed_topology_member t.members) inserts).items h inner.0, tt), inner.1)
 
     abbrev Keeps : Member → Type 0
     Keeps m = (scope : Path) → At scope m → Keeping (At scope) (placed m)
@@ -140,7 +174,7 @@ module _ (At : Path → Member → Type 0) (Within : Path → Module → Type 0)
     by_member (open_member.Instance n) scope h =
         subst (Keeping (At scope)) (sym (rolled_placed (open_member.Instance n))) (own_keeps (At scope) (member.Instance n) (subst (At scope) (rolls-Instance n) h))
     by_member (open_member.Topology t) scope h =
-        subst (Keeping (At scope)) (sym (rolled_placed (open_member.Topology t))) (own_keeps (At scope) (member.Topology t) (subst (At scope) (rolls-Topology t) h))
+        subst (Keeping (At scope)) (sym (rolled_placed (open_member.Topology t))) (topology_keeps scope t (subst (At scope) (rolls-Topology t) h))
     by_member (open_member.Include i) scope h =
         subst (Keeping (At scope)) (sym (rolled_placed (open_member.Include i))) (next_keeps (At scope) members_of (members_given scope))
     by_member (open_member.Locate l) scope h =
@@ -156,12 +190,10 @@ module _ (At : Path → Member → Type 0) (Within : Path → Module → Type 0)
     member_keeps = ind-Member Keeps Keep member_layer module_layer
 
     members_keep : (scope : Path) (ms : List Member) → AllByRecursion (At scope) ms → Keeping (At scope) (in_turn (map placed ms))
-    members_keep scope ms h =
-        turn_keeps (At scope) (map placed ms)
-        (each_mapped (Keeping (At scope)) placed ms (each_weaker (At scope) (λ m. Keeping (At scope) (placed m)) (λ m. member_keeps m scope) ms h))
+    members_keep scope ms h = row_keeps (At scope) placed (λ m. member_keeps m scope) ms h
 
     -- of what a file gives, with an insert in place of each include
     pub replaced_keep : (own : Members) (inserts : Inserts) → HoldIn own → AllByRecursion HoldIn inserts → HoldIn (replaced own inserts)
     replaced_keep (given.Unit ms) inserts h k = λ scope. (members_keep scope ms (h scope) inserts k).0
     replaced_keep (given.Component ps) inserts h k = λ scope. (parts_keep scope ps (h scope) inserts k).0
-    replaced_keep (given.Topology ts) inserts h k = tt
+    replaced_keep (given.Topology ts) inserts h k = λ scope. (listed_keep scope ts (h scope) inserts k).0

@@ -1,4 +1,4 @@
--- The includes of a module and of a component, and what stands in their places.
+-- The includes of a module, of a component and of a topology, and what stands in their places.
 use Rattle.std.proofs.Common.{◌≡◌, List, [], ◌∷◌, ◌++◌, map, sym, ap, ◌∙◌}
 use Rattle.std.proofs.lemmas.List.{append_assoc}
 use Rattle.std.proofs.lemmas.List.Folds.{flat_map-map}
@@ -6,11 +6,12 @@ use Rattle.std.specs.Prelude.{flat_map}
 use Rattle.fp_tree.specs.declared.component.Component.{Component}
 use Rattle.fp_tree.specs.declared.member.Member.{Member, fold-Member, fold-roll-Member}
 use Rattle.fp_tree.specs.declared.member.Member.TheOpen as open_member
-use Rattle.fp_tree.specs.declared.member.Member.TheVariants.{rolls-Component, rolls-Module}
+use Rattle.fp_tree.specs.declared.member.Member.TheVariants.{rolls-Component, rolls-Module, rolls-Topology}
 use Rattle.fp_tree.specs.declared.member.Member.TheVariants as member
 use Rattle.fp_tree.specs.declared.member.Module.{Module as Opened, out-Module, fold_out-Module}
+use Rattle.fp_tree.specs.declared.topology.Topology.{Topology}
 use Rattle.fp_gather.specs.declared.gathering.including.Inclusion.{Inclusion}
-use Rattle.fp_gather.specs.gathering.Includes.{Inserts, Placed, in_turn, inclusions_in_part, inclusions_of_member, inclusions_of_module, inclusions_within, place_in_member, place_in_module, placed, placed_component, placed_module}
+use Rattle.fp_gather.specs.gathering.Includes.{Inserts, Placed, in_turn, inclusions_in_part, inclusions_in_topology_member, inclusions_of_member, inclusions_of_module, inclusions_within, place_in_member, place_in_module, placed, placed_component, placed_module}
 
 pub module_inclusions : (m : Opened) → inclusions_within (member.Module m) ≡ flat_map inclusions_within (out-Module m).members
 module_inclusions m =
@@ -23,6 +24,11 @@ pub component_inclusions : (c : Component) → inclusions_within (member.Compone
 component_inclusions c =
     ap inclusions_within (sym (rolls-Component c))
     ∙ fold-roll-Member (List Inclusion) (List Inclusion) inclusions_of_member inclusions_of_module (open_member.Component c)
+
+pub topology_inclusions : (t : Topology) → inclusions_within (member.Topology t) ≡ flat_map inclusions_in_topology_member t.members
+topology_inclusions t =
+    ap inclusions_within (sym (rolls-Topology t))
+    ∙ fold-roll-Member (List Inclusion) (List Inclusion) inclusions_of_member inclusions_of_module (open_member.Topology t)
 
 pub module_placed : (m : Opened) (inserts : Inserts) → placed (member.Module m) inserts ≡ placed_module m inserts
 module_placed m inserts =

@@ -9,8 +9,6 @@ use Rattle.fp_parse_parts.specs.declared.parsing.Inside.{Inside}
 use Rattle.fp_parse_parts.specs.declared.parsing.Inside.TheVariants as inside
 use Rattle.fp_parse_parts.specs.declared.parsing.Members.{Members}
 use Rattle.fp_parse_parts.specs.declared.parsing.Members.TheVariants as given
-use Rattle.fp_tree.specs.declared.component.Component.{Component}
-use Rattle.fp_tree.specs.declared.component.Part.{Part}
 use Rattle.fp_tree.specs.declared.member.Member.{Member}
 use Rattle.fp_base.specs.Least.{broken_at}
 use Rattle.fp_meaning.specs.declared.item.Item.{Item}
@@ -19,8 +17,8 @@ use Rattle.fp_meaning.specs.declared.names.Definition.{Definition}
 use Rattle.fp_meaning.specs.declared.names.Mention.{Mention}
 use Rattle.fp_base.proofs.Lists.{each_append, each_flat, each_of_any, each_weaker}
 use Rattle.fp_gather.proofs.OneWalk.{same_given, same_walked}
-use Rattle.fp_gather.proofs.PartsHold.{Hold, hold_more, in_each, nothing_holds, replaced_hold}
-use Rattle.fp_places.specs.Places.{places_in_part, places_of}
+use Rattle.fp_gather.proofs.PartsHold.{Hold, Parting, hold_more, in_each, nothing_holds, replaced_hold, unparted}
+use Rattle.fp_places.specs.Places.{places_in_part, places_in_topology_member, places_of}
 use Rattle.fp_outside.specs.declared.files.HeldFile.{HeldFile}
 use Rattle.fp_gather.specs.declared.gathering.including.Inclusion.{Inclusion}
 use Rattle.fp_gather.specs.gathering.Includes.{included_name, inclusions_in, replaced}
@@ -38,18 +36,28 @@ UsesBelow n i = AllByRecursion (λ (m : Mention). m.place.file < n) (uses_of i)
 abbrev pub PlacesBelow : ℕ → Item → Type 0
 PlacesBelow n i = AllByRecursion (λ (p : Place). p.file < n) (places_of i)
 
--- and each of a part; of a component's parts no more is said where that is not asked
-abbrev pub PartBelow : ℕ → Part → Type 0
-PartBelow n p = AllByRecursion (λ (q : Place). q.file < n) (places_in_part p)
+abbrev pub definers : (n : ℕ) → Parting (DefinesBelow n)
+definers n = unparted (DefinesBelow n) (λ scope c ps h. h) (λ scope t ts h. h)
 
-abbrev pub AnyPart : Part → Type 0
-AnyPart p = Unit {0}
+abbrev pub users : (n : ℕ) → Parting (UsesBelow n)
+users n = unparted (UsesBelow n) (λ scope c ps h. h) (λ scope t ts h. h)
+
+-- and so does each place of a part of a component, and of a member of a topology
+abbrev pub placed_parts : (n : ℕ) → Parting (PlacesBelow n)
+placed_parts n = record {
+  OfPart = λ p. AllByRecursion (λ (q : Place). q.file < n) (places_in_part p);
+  OfMember = λ t. AllByRecursion (λ (q : Place). q.file < n) (places_in_topology_member t);
+  parts = λ scope c h. in_each (λ (q : Place). q.file < n) places_in_part c.parts h.1;
+  renewed = λ scope c ps h k. (h.0, each_flat (λ (q : Place). q.file < n) places_in_part ps k);
+  listed = λ scope t h. in_each (λ (q : Place). q.file < n) places_in_topology_member t.members h.1;
+  relisted = λ scope t ts h k. (h.0, each_flat (λ (q : Place). q.file < n) places_in_topology_member ts k);
+}
 
 -- and so does all, in any scope
 pub record StandBelow (n : ℕ) (x : Members) : Type 0 where
-  pub definitions : Hold (DefinesBelow n) AnyPart x
-  pub mentions : Hold (UsesBelow n) AnyPart x
-  pub places : Hold (PlacesBelow n) (PartBelow n) x
+  pub definitions : Hold (DefinesBelow n) (definers n) x
+  pub mentions : Hold (UsesBelow n) (users n) x
+  pub places : Hold (PlacesBelow n) (placed_parts n) x
 
 -- and so does each include
 abbrev pub IncludesBelow : ℕ → Members → Type 0
@@ -68,34 +76,28 @@ KeepsNumbers {A = A} G low P =
 
 below_more : (m n : ℕ) (x : Members) → m ≤ n → StandBelow m x → StandBelow n x
 below_more m n x le h = record {
-  definitions = hold_more (DefinesBelow m) (DefinesBelow n) AnyPart AnyPart
-      (λ i. each_weaker (λ (d : Definition). d.place.file < m) (λ (d : Definition). d.place.file < n) (λ d lt. omega (arith, le, lt)) (definitions_of i)) (λ p q. q) x h.definitions;
-  mentions = hold_more (UsesBelow m) (UsesBelow n) AnyPart AnyPart
-      (λ i. each_weaker (λ (u : Mention). u.place.file < m) (λ (u : Mention). u.place.file < n) (λ u lt. omega (arith, le, lt)) (uses_of i)) (λ p q. q) x h.mentions;
-  places = hold_more (PlacesBelow m) (PlacesBelow n) (PartBelow m) (PartBelow n)
-      (λ i. each_weaker (λ (p : Place). p.file < m) (λ (p : Place). p.file < n) (λ p lt. omega (arith, le, lt)) (places_of i))
-      (λ q. each_weaker (λ (p : Place). p.file < m) (λ (p : Place). p.file < n) (λ p lt. omega (arith, le, lt)) (places_in_part q)) x h.places;
+  definitions = hold_more (DefinesBelow m) (DefinesBelow n) (definers m) (definers n)
+      (λ i. each_weaker (λ (d : Definition). d.place.file < m) (λ (d : Definition). d.place.file < n) (λ d lt. omega (arith, le, lt)) (definitions_of i)) (λ p q. q) (λ t q. q) x h.definitions;
+  mentions = hold_more (UsesBelow m) (UsesBelow n) (users m) (users n)
+      (λ i. each_weaker (λ (u : Mention). u.place.file < m) (λ (u : Mention). u.place.file < n) (λ u lt. omega (arith, le, lt)) (uses_of i)) (λ p q. q) (λ t q. q) x h.mentions;
+  places = hold_more (PlacesBelow m) (PlacesBelow n) (placed_parts m) (placed_parts n) (λ i. higher (places_of i)) (λ p. higher (places_in_part p)) (λ t. higher (places_in_topology_member t)) x h.places;
 }
-
-any_parts : (c : Component) → AllByRecursion AnyPart c.parts
-any_parts c = each_of_any AnyPart (λ p. tt) c.parts
+  where
+    higher : (ps : List Place) → AllByRecursion (λ (p : Place). p.file < m) ps → AllByRecursion (λ (p : Place). p.file < n) ps
+    higher ps = each_weaker (λ (p : Place). p.file < m) (λ (p : Place). p.file < n) (λ p lt. omega (arith, le, lt)) ps
 
 replaced_below : (n : ℕ) (own : Members) (inserts : List Members) → StandBelow n own → AllByRecursion (StandBelow n) inserts → StandBelow n (replaced own inserts)
 replaced_below n own inserts h k = record {
-  definitions = replaced_hold (DefinesBelow n) AnyPart (λ scope c q. any_parts c) (λ scope c ps q r. q) own inserts h.definitions
-      (each_weaker (StandBelow n) (Hold (DefinesBelow n) AnyPart) (λ x q. q.definitions) inserts k);
-  mentions = replaced_hold (UsesBelow n) AnyPart (λ scope c q. any_parts c) (λ scope c ps q r. q) own inserts h.mentions
-      (each_weaker (StandBelow n) (Hold (UsesBelow n) AnyPart) (λ x q. q.mentions) inserts k);
-  places = replaced_hold (PlacesBelow n) (PartBelow n) (λ scope c q. in_each (λ (p : Place). p.file < n) places_in_part c.parts q.1)
-      (λ scope c ps q r. (q.0, each_flat (λ (p : Place). p.file < n) places_in_part ps r)) own inserts h.places
-      (each_weaker (StandBelow n) (Hold (PlacesBelow n) (PartBelow n)) (λ x q. q.places) inserts k);
+  definitions = replaced_hold (DefinesBelow n) (definers n) own inserts h.definitions (each_weaker (StandBelow n) (Hold (DefinesBelow n) (definers n)) (λ x q. q.definitions) inserts k);
+  mentions = replaced_hold (UsesBelow n) (users n) own inserts h.mentions (each_weaker (StandBelow n) (Hold (UsesBelow n) (users n)) (λ x q. q.mentions) inserts k);
+  places = replaced_hold (PlacesBelow n) (placed_parts n) own inserts h.places (each_weaker (StandBelow n) (Hold (PlacesBelow n) (placed_parts n)) (λ x q. q.places) inserts k);
 }
 
 pub none_below : (n : ℕ) (i : Inside) → StandBelow n (nothing_in i)
 none_below n i = record {
-  definitions = nothing_holds (DefinesBelow n) AnyPart i;
-  mentions = nothing_holds (UsesBelow n) AnyPart i;
-  places = nothing_holds (PlacesBelow n) (PartBelow n) i;
+  definitions = nothing_holds (DefinesBelow n) (definers n) i;
+  mentions = nothing_holds (UsesBelow n) (users n) i;
+  places = nothing_holds (PlacesBelow n) (placed_parts n) i;
 }
 
 -- ---- what is kept

@@ -1,22 +1,25 @@
 -- When each status comes, from what a call writes.
-use Rattle.std.proofs.Common.{map, Ok, ◌≡◌, ◌<◌, ◌⊎◌, ℕ, List, ◌∷◌, Option, Some, codes, inl, inr, refl, sym, ◌∙◌, subst, arith, drop, take-append-drop}
-use Rattle.std.specs.String.{string_bytes}
+use Rattle.std.proofs.Common.{◌≡◌, ◌<◌, ◌⊎◌, ℕ, List, ◌∷◌, Option, Some, codes, inl, inr, refl, sym, ◌∙◌, subst, arith, drop, take-append-drop}
 use Rattle.fp_tree.specs.declared.member.Member.{Member}
 use Rattle.fp_tree.specs.declared.source.Source.{Source}
 use Rattle.fp_base.specs.Least.{IsUnbroken}
 use Rattle.fp_outside.specs.Counts.{Rose, last_count}
 use Rattle.fp_outside.specs.declared.files.HeldFile.{HeldFile}
 use Rattle.fp_gather.proofs.Absent.{gone_not_stopped}
-use Rattle.fp_main.specs.Causes.{EndsAs, Asked, Sound, SoundSink, UsageComes, ReadFaultComes, NoFileComes, WriteFaultComes, RefusedComes, DoneComes}
+use Rattle.fp_main.specs.Causes.{EndsAs, Asked, Sound, SoundSink, UsageComes, ReadFaultComes, NoFileComes, WriteFaultComes, RefusedComes, NoTopologyComes, DoneComes, IsThere}
 use Rattle.fp_main.specs.Delivery.{SinkRun, Delivered}
 use Rattle.fp_gather.specs.FilesRun.{FilesRun}
-use Rattle.fp_main.specs.Output.{IsDue, DueListing, DueRefused, DueUsage, DueReadFault, DueNoFile, IsRead, Output}
-use Rattle.fp_main.specs.Words.{AsksFor, IsForm, IsWrong, ReadsWords}
+use Rattle.fp_main.specs.Output.{IsDue, IsText, DueText, DueNoTopology, DueRefused, DueUsage, DueReadFault, DueNoFile, IsRead, Output}
+use Rattle.fp_main.specs.Topologies.{HasTopology, LacksTopology}
+use Rattle.fp_main.specs.Words.{AsksFor, IsForm, IsPorts, IsWrong, Spells}
 use Rattle.fp_gather.specs.gathering.Gathered.{source_of}
 use Rattle.fp_main.specs.Broken.{SourceBroken}
+use Rattle.fp_main.proofs.Dues.{spelled_asks}
+use Rattle.fp_main.proofs.Wording.{check_is_no_ports}
+use Rattle.fp_model.specs.Defined.{Defined}
+use Rattle.fp_tables.specs.declared.model.Model.{Model}
 use Rattle.fp_gather.specs.gathering.Walks.{NoFile as IsMissing, NoReadFault, Outcome, Stops, Walked, WalksFiles, Went, nothing_read}
-use Rattle.fp_main.specs.declared.words.Command.{Command}
-use Rattle.fp_main.specs.declared.words.Command.TheVariants.{Check}
+use Rattle.fp_main.specs.declared.words.Wanted.{Wanted}
 use Rattle.fp_main.specs.declared.status.Status.{Status}
 use Rattle.fp_main.specs.declared.status.Status.TheVariants.{Done, Refused, Usage, ReadFault, WriteFault, NoFile, Stuck, Spent, Asserted, NoMemory, NoTopology}
 
@@ -30,14 +33,33 @@ asked_not_wrong words names word asked wrong =
       | inr e ↦ e.1 (names, asked)
     ]
 
-pub read_not_wrong : (words : List (List ℕ)) (command : Command) (word : ℕ) → ReadsWords words (Ok command) → IsWrong words word → ⊥
-read_not_wrong words (Check files) word asked wrong = asked_not_wrong words (map string_bytes files.now) word asked wrong
+pub read_not_wrong : (words : List (List ℕ)) (wanted : Wanted) (names : List (List ℕ)) (word : ℕ) → Spells words wanted names → IsWrong words word → ⊥
+read_not_wrong words wanted names word spelled wrong = asked_not_wrong words names word (spelled_asks words wanted names spelled) wrong
+
+same_topology : (words a b : List (List ℕ)) (t u : List ℕ) → IsPorts words t a → IsPorts words u b → (t ≡ u) × (a ≡ b)
+same_topology words a b t u x y = (first (sym x.words_are ∙ y.words_are), rest (sym x.words_are ∙ y.words_are))
+  where
+    first : codes "ports" ∷ t ∷ a ≡ codes "ports" ∷ u ∷ b → t ≡ u
+    first h = cc
+
+    rest : codes "ports" ∷ t ∷ a ≡ codes "ports" ∷ u ∷ b → a ≡ b
+    rest h = cc
 
 same_names : (words a b : List (List ℕ)) → AsksFor words a → AsksFor words b → a ≡ b
-same_names words a b x y = names a b (sym x.words_are ∙ y.words_are)
+same_names words a b (inl x) (inl y) = names (sym x.words_are ∙ y.words_are)
   where
-    names : (xs ys : List (List ℕ)) → codes "check" ∷ xs ≡ codes "check" ∷ ys → xs ≡ ys
-    names xs ys h = cc
+    names : codes "check" ∷ a ≡ codes "check" ∷ b → a ≡ b
+    names h = cc
+same_names words a b (inl x) (inr y) = absurd (check_is_no_ports words a b y.0 x y.1)
+same_names words a b (inr x) (inl y) = absurd (check_is_no_ports words b a x.0 y x.1)
+same_names words a b (inr x) (inr y) = (same_topology words a b x.0 y.0 x.1 y.1).1
+
+-- no text is due where the topology in the words isn't there
+lacking_no_text : (words names asked : List (List ℕ)) (name : List ℕ) (model : Model) (text : List ℕ) → IsPorts words name asked → LacksTopology model name → IsText words names model text → ⊥
+lacking_no_text words names asked name model text ports lacking (inl listed) = check_is_no_ports words names asked name listed.0 ports
+lacking_no_text words names asked name model text ports lacking (inr joined) =
+    let same : joined.0 ≡ name = (same_topology words names asked joined.0 name joined.1 ports).0 in
+    lacking (subst (HasTopology model) same (joined.2.0, joined.2.1))
 
 -- a count that stayed below its last value didn't rise
 stayed : (before now : ℕ) → now ≡ before → before < last_count → Rose before now → ⊥
@@ -69,11 +91,12 @@ Holding P (Stops stopped) = ⊥
 -- ---- what is due
 
 module _ (words : List (List ℕ)) (files : FilesRun) (output line : List ℕ) (P : Status → Type 0)
-    (listing : DueListing words files output line → P Done) (refused : DueRefused words files output line → P Refused)
+    (text : DueText words files output line → P Done) (refused : DueRefused words files output line → P Refused)
+    (lacking : DueNoTopology words files output line → P NoTopology)
     (usage : DueUsage words files output line → P Usage) (fault : DueReadFault words files output line → P ReadFault)
     (absent : DueNoFile words files output line → P NoFile) (memory : P NoMemory) where
   due_cases : (due : Status) → IsDue words files due output line → P due
-  due_cases Done d = listing d
+  due_cases Done d = text d
   due_cases Refused d = refused d
   due_cases Usage d = usage d
   due_cases ReadFault d = fault d
@@ -83,7 +106,7 @@ module _ (words : List (List ℕ)) (files : FilesRun) (output line : List ℕ) (
   due_cases Stuck d = absurd d
   due_cases Spent d = absurd d
   due_cases Asserted d = absurd d
-  due_cases NoTopology d = absurd d
+  due_cases NoTopology d = lacking d
 
 -- this is due, or memory was refused
 abbrev IsEither : Status → Status → Type 0
@@ -97,16 +120,18 @@ ends_as wanted due output line out diag status (inr (inr failed)) e = inr (inl f
 
 module _ (one_way : ReadOneWay) (words : List (List ℕ)) (files : FilesRun) (out diag : SinkRun) (status : Status) (o : Output words files out diag status) where
   ends : (wanted : Status)
-      → (DueListing words files o.output o.line → IsEither wanted Done) → (DueRefused words files o.output o.line → IsEither wanted Refused)
+      → (DueText words files o.output o.line → IsEither wanted Done) → (DueRefused words files o.output o.line → IsEither wanted Refused)
+      → (DueNoTopology words files o.output o.line → IsEither wanted NoTopology)
       → (DueUsage words files o.output o.line → IsEither wanted Usage) → (DueReadFault words files o.output o.line → IsEither wanted ReadFault)
       → (DueNoFile words files o.output o.line → IsEither wanted NoFile) → EndsAs wanted status
-  ends wanted listing refused usage fault absent =
+  ends wanted text refused lacking usage fault absent =
       ends_as wanted o.due o.output o.line out diag status o.delivered
-      (due_cases words files o.output o.line (IsEither wanted) listing refused usage fault absent (inr refl) o.due o.called)
+      (due_cases words files o.output o.line (IsEither wanted) text refused lacking usage fault absent (inr refl) o.due o.called)
 
   pub usage_comes : UsageComes words status
   usage_comes word wrong =
       ends Usage
+      (λ d. absurd (asked_not_wrong words d.read.names word d.read.asked wrong))
       (λ d. absurd (asked_not_wrong words d.read.names word d.read.asked wrong))
       (λ d. absurd (asked_not_wrong words d.read.names word d.read.asked wrong))
       (λ d. inl refl)
@@ -118,6 +143,7 @@ module _ (one_way : ReadOneWay) (words : List (List ℕ)) (files : FilesRun) (ou
       ends ReadFault
       (λ d. absurd (rose_not_stayed _ _ rose d.read.read.sound))
       (λ d. absurd (rose_not_stayed _ _ rose d.read.read.sound))
+      (λ d. absurd (rose_not_stayed _ _ rose d.read.read.sound))
       (λ d. absurd (rose_not_stayed _ _ rose d.unread.0))
       (λ d. inl refl)
       (λ d. absurd (rose_not_stayed _ _ rose d.absent.sound))
@@ -125,6 +151,7 @@ module _ (one_way : ReadOneWay) (words : List (List ℕ)) (files : FilesRun) (ou
   no_file_missed : files.misses_before < files.misses_after → EndsAs NoFile status
   no_file_missed rose =
       ends NoFile
+      (λ d. absurd (rose_not_stayed _ _ rose d.read.read.found))
       (λ d. absurd (rose_not_stayed _ _ rose d.read.read.found))
       (λ d. absurd (rose_not_stayed _ _ rose d.read.read.found))
       (λ d. absurd (rose_not_stayed _ _ rose d.unread.1))
@@ -141,6 +168,7 @@ module _ (one_way : ReadOneWay) (words : List (List ℕ)) (files : FilesRun) (ou
   no_file_told : (name : List ℕ) → Asked words files (Stops (IsMissing name)) → Sound files → EndsAs NoFile status
   no_file_told name asked sound =
       ends NoFile
+      (λ d. absurd (gone_not_stopped _ _ (IsMissing name) (sym (read_as (Stops (IsMissing name)) d.walked d.source asked tt d.read))))
       (λ d. absurd (gone_not_stopped _ _ (IsMissing name) (sym (read_as (Stops (IsMissing name)) d.walked d.source asked tt d.read))))
       (λ d. absurd (gone_not_stopped _ _ (IsMissing name) (sym (read_as (Stops (IsMissing name)) d.walked d.source asked tt d.read))))
       (λ d. absurd (asked_not_wrong words asked.names d.word asked.asked d.wrong))
@@ -160,15 +188,35 @@ module _ (one_way : ReadOneWay) (words : List (List ℕ)) (files : FilesRun) (ou
       ends Refused
       (λ d. absurd (d.unbroken f (holds_as (λ w s. SourceBroken w s f) (Went walked units) d.walked d.source asked tt d.read broken)))
       (λ d. inl refl)
+      (λ d. absurd (d.unbroken f (holds_as (λ w s. SourceBroken w s f) (Went walked units) d.walked d.source asked tt d.read broken)))
       (λ d. absurd (asked_not_wrong words asked.names d.word asked.asked d.wrong))
       (λ d. absurd (stayed _ _ sound.0 sound.1 d.unread.fault))
       (λ d. absurd (not_absent walked units o.output o.line asked d))
 
-  done_ends : (walked : Walked) (units : List (List Member)) → Asked words files (Went walked units) → IsUnbroken (SourceBroken walked (source_of walked units)) → Sound files → EndsAs Done status
-  done_ends walked units asked unbroken sound =
+  -- what breaks no rule isn't refused
+  not_refused : (walked : Walked) (units : List (List Member)) (output line : List ℕ)
+      → Asked words files (Went walked units) → IsUnbroken (SourceBroken walked (source_of walked units)) → DueRefused words files output line → ⊥
+  not_refused walked units output line asked unbroken d =
+      holds_as (λ w s. IsUnbroken (SourceBroken w s)) (Went walked units) d.walked d.source asked tt d.read unbroken d.says.refusal (d.says.first.holds d.says.refusal refl)
+
+  pub no_topology_comes : NoTopologyComes words files status
+  no_topology_comes walked units name names asked unbroken ports missing sound =
+      ends NoTopology
+      (λ d. absurd (lacking_no_text words d.read.names names name d.model o.output ports
+      (holds_as (λ w s. (model : Model) → Defined s model → LacksTopology model name) (Went walked units) d.walked d.source asked tt d.read missing d.model d.defined) d.text))
+      (λ d. absurd (not_refused walked units o.output o.line asked unbroken d))
+      (λ d. inl refl)
+      (λ d. absurd (asked_not_wrong words asked.names d.word asked.asked d.wrong))
+      (λ d. absurd (stayed _ _ sound.0 sound.1 d.unread.fault))
+      (λ d. absurd (not_absent walked units o.output o.line asked d))
+
+  done_ends : (walked : Walked) (units : List (List Member)) → Asked words files (Went walked units) → IsUnbroken (SourceBroken walked (source_of walked units))
+      → IsThere words (source_of walked units) → Sound files → EndsAs Done status
+  done_ends walked units asked unbroken there sound =
       ends Done
       (λ d. inl refl)
-      (λ d. absurd (holds_as (λ w s. IsUnbroken (SourceBroken w s)) (Went walked units) d.walked d.source asked tt d.read unbroken d.says.refusal (d.says.first.holds d.says.refusal refl)))
+      (λ d. absurd (not_refused walked units o.output o.line asked unbroken d))
+      (λ d. absurd (d.lacking (holds_as (λ w s. IsThere words s) (Went walked units) d.walked d.source asked tt d.read there d.topology d.read.names d.model d.ports d.defined)))
       (λ d. absurd (asked_not_wrong words asked.names d.word asked.asked d.wrong))
       (λ d. absurd (stayed _ _ sound.0 sound.1 d.unread.fault))
       (λ d. absurd (not_absent walked units o.output o.line asked d))
@@ -192,8 +240,8 @@ module _ (one_way : ReadOneWay) (words : List (List ℕ)) (files : FilesRun) (ou
   not_due d = d
 
   pub done_comes : DoneComes words files out diag status
-  done_comes walked units asked unbroken sound out_sound diag_sound =
-      elim (done_ends walked units asked unbroken sound) [
+  done_comes walked units asked unbroken there sound out_sound diag_sound =
+      elim (done_ends walked units asked unbroken there sound) [
         | inl e ↦ inl e
         | inr f ↦ without f
       ]

@@ -1,6 +1,6 @@
 -- What stands written at each status, from what a call writes.
 use Rattle.std.proofs.Common.{◌≡◌, ◌⊎◌, ℕ, List, [], length, inl, inr, sym, ◌∙◌, ap, subst, arith}
-use Rattle.fp_main.specs.Causes.{UsageMeans, ReadFaultMeans, NoFileMeans, RefusedMeans, DoneMeans, WriteFaultMeans, NoMemoryMeans, IsNoRun}
+use Rattle.fp_main.specs.Causes.{UsageMeans, ReadFaultMeans, NoFileMeans, RefusedMeans, NoTopologyMeans, DoneMeans, WriteFaultMeans, NoMemoryMeans, IsNoRun}
 use Rattle.fp_main.specs.Delivery.{SinkRun, Adds, IsWhole, OutFailed, DiagFailed, Delivered}
 use Rattle.fp_gather.specs.FilesRun.{FilesRun}
 use Rattle.fp_main.specs.Output.{IsDue, Output}
@@ -8,7 +8,7 @@ use Rattle.fp_gather.proofs.Absent.{missing}
 use Rattle.fp_main.specs.declared.status.Status.{Status}
 use Rattle.fp_main.specs.declared.status.Status.TheVariants.{Done, Refused, Usage, ReadFault, WriteFault, NoFile, Stuck, Spent, Asserted, NoMemory, NoTopology}
 
--- no output is due but a listing
+-- no output is due but a text that was asked for
 silent_due : (words : List (List ℕ)) (files : FilesRun) (due : Status) (output line : List ℕ) → IsDue words files due output line → (line ≡ []) ⊎ (output ≡ [])
 silent_due words files Done output line d = inl d.silent
 silent_due words files Refused output line d = inr d.says.silent
@@ -20,7 +20,7 @@ silent_due words files WriteFault output line d = absurd d
 silent_due words files Stuck output line d = absurd d
 silent_due words files Spent output line d = absurd d
 silent_due words files Asserted output line d = absurd d
-silent_due words files NoTopology output line d = absurd d
+silent_due words files NoTopology output line d = inr d.silent
 
 -- a write fault is never due
 no_due : (words : List (List ℕ)) (files : FilesRun) (output line : List ℕ) → IsDue words files WriteFault output line → ⊥
@@ -68,7 +68,12 @@ module _ (words : List (List ℕ)) (files : FilesRun) (out diag : SinkRun) (stat
   pub done_means : DoneMeans words files out diag status
   done_means e =
       let c = called_as Done (λ f. cc) e in
-      (c.0.walked, c.0.source, c.0.read, c.0.check, c.0.unbroken, (c.0.model, c.0.defined, adds_as _ _ out c.1.written c.0.listed), adds_as _ _ diag c.1.said c.0.silent)
+      (c.0.walked, c.0.source, c.0.read, c.0.unbroken, (c.0.model, c.0.defined, (o.output, c.0.text, c.1.written)), adds_as _ _ diag c.1.said c.0.silent)
+
+  pub no_topology_means : NoTopologyMeans words files out diag status
+  no_topology_means e =
+      let c = called_as NoTopology (λ f. cc) e in
+      (c.0.walked, c.0.source, c.0.read, c.0.topology, c.0.ports, c.0.unbroken, (c.0.model, c.0.defined, c.0.lacking), (adds_as _ _ out c.1.written c.0.silent, adds_as _ _ diag c.1.said c.0.said))
 
   pub no_memory_means : NoMemoryMeans out diag status
   no_memory_means e =
@@ -99,7 +104,7 @@ module _ (words : List (List ℕ)) (files : FilesRun) (out diag : SinkRun) (stat
   no_run_due Stuck d = d
   no_run_due Spent d = d
   no_run_due Asserted d = d
-  no_run_due NoTopology d = d
+  no_run_due NoTopology d = tt
 
   no_run_of : Delivered o.due o.output o.line out diag status → IsNoRun status
   no_run_of (inl whole) = subst IsNoRun (sym whole.ends) (no_run_due o.due o.called)

@@ -1,13 +1,15 @@
--- What is due for `check`, from what gathering answers.
-use Rattle.std.proofs.Common.{◌≡◌, ℕ, List, [], Option, Some, None, Ok, Err, inl, inr, refl, sym, ap, ◌∙◌, subst}
+-- What is due for words with a form, from what gathering and resolving answer.
+use Rattle.std.proofs.Common.{◌≡◌, ℕ, List, [], ◌∷◌, Option, Some, None, Ok, Err, inl, inr, refl, sym, ap, ◌∙◌, subst}
 use Rattle.fp_base.specs.declared.refusal.Refusal.{Refusal}
 use Rattle.fp_base.specs.Least.{IsLeast, IsUnbroken}
 use Rattle.fp_base.proofs.Calculus.{least_none, none_broken}
 use Rattle.fp_tree.specs.declared.source.Source.{Source}
 use Rattle.fp_tables.specs.declared.model.Model.{Model}
 use Rattle.fp_source_components.specs.Broken.{PartsBroken}
+use Rattle.fp_source_topologies.specs.Broken.{SourceInstancesBroken, SourceNumbersBroken, SourceTopologiesBroken}
 use Rattle.fp_model.specs.Broken.{ModelBroken, StatesBroken, ValuesBroken, phases}
 use Rattle.fp_model.specs.Defined.{Defined}
+use Rattle.fp_model.specs.Phases.{InPhases}
 use Rattle.fp_fault_places.specs.Standing.{IsPlaceOf}
 use Rattle.fp_gather.proofs.AmongRead.{InFilesRead, PlacesInFiles}
 use Rattle.fp_gather.specs.FilesRun.{FilesRun}
@@ -17,10 +19,13 @@ use Rattle.fp_gather.specs.declared.gathering.Halt.{Halt}
 use Rattle.fp_gather.specs.declared.gathering.Halt.TheVariants as halt
 use Rattle.fp_main.proofs.SourcePhases.{behind_least, first_least}
 use Rattle.fp_main.specs.Broken.{SourceBroken}
-use Rattle.fp_main.specs.Lines.{refusal_line}
-use Rattle.fp_listing.specs.Listing.{Listing}
-use Rattle.fp_main.specs.Output.{DueRefused, IsDue, IsDueFor}
-use Rattle.fp_main.specs.Words.{IsCheck}
+use Rattle.fp_main.specs.Lines.{no_topology_line, refusal_line}
+use Rattle.fp_listing.specs.Listing.{Listing, PortLines}
+use Rattle.fp_main.specs.Output.{DueRefused, IsDue, IsDueFor, IsDueOf}
+use Rattle.fp_main.specs.Topologies.{IsTopology, LacksTopology}
+use Rattle.fp_main.specs.Words.{AsksFor, IsCheck, IsPorts, Spells}
+use Rattle.fp_main.specs.declared.words.Wanted.{Wanted}
+use Rattle.fp_main.specs.declared.words.Wanted.TheVariants.{Connections, Listing as Listed}
 use Rattle.fp_main.specs.declared.answer.Due.{Due}
 use Rattle.fp_main.specs.declared.status.Status.{Status}
 use Rattle.fp_main.specs.declared.status.Status.TheVariants.{Done, Refused, Usage, ReadFault, WriteFault, NoFile, Stuck, Spent, Asserted, NoMemory, NoTopology}
@@ -33,22 +38,55 @@ pub record FaultsStand : Type 0 where
   pub values : AtPlaces ValuesBroken
   pub parts : AtPlaces PartsBroken
   pub states : AtPlaces StatesBroken
+  pub instances : AtPlaces SourceInstancesBroken
+  pub topologies : AtPlaces SourceTopologiesBroken
+  pub numbers : (source : Source) (f : Refusal) → IsUnbroken (SourceTopologiesBroken source) → SourceNumbersBroken source f → IsPlaceOf source f.place
 
 -- the least of what is broken behind the files
 source_least : (walked : Walked) (source : Source) (o : Option Refusal) → IsUnbroken (FilesBroken walked) → IsLeast (ModelBroken source) o → IsLeast (SourceBroken walked source) o
 source_least walked source o clean l = behind_least walked source (phases source) clean o l
 
--- what is due for a source that breaks no rule, and for one that does
-pub due_listed : (source : Source) (model : Model) (due : Due) → due ≡ record { status = Done; output = Listing model; line = [] }
-    → IsUnbroken (ModelBroken source) → Defined source model → IsDueFor source due.status due.output due.line
-due_listed source model due is unbroken defined =
-    subst (λ (d : Due). IsDueFor source d.status d.output d.line) (sym is) (unbroken, (model, defined, refl), refl)
+-- words that spell what is wanted ask for their files
+pub spelled_asks : (words : List (List ℕ)) (wanted : Wanted) (names : List (List ℕ)) → Spells words wanted names → AsksFor words names
+spelled_asks words Listed names check = inl check
+spelled_asks words (Connections topology) names ports = inr (topology.now, ports)
 
-pub due_refused : (source : Source) (refusal : Refusal) (due : Due)
-    → due ≡ record { status = Refused; output = []; line = refusal_line (name_of source.names refusal.place.file) refusal.place refusal.rule }
-    → IsLeast (ModelBroken source) (Some refusal) → IsDueFor source due.status due.output due.line
-due_refused source refusal due is first =
-    subst (λ (d : Due). IsDueFor source d.status d.output d.line) (sym is) (record { refusal = refusal; first = first; silent = refl; said = refl })
+module _ (words names : List (List ℕ)) where
+  -- what is due of a model
+  pub due_listing : (model : Model) (due : Due) (text : List ℕ) → due ≡ record { status = Done; output = text; line = [] } → text ≡ Listing model → IsCheck words names
+      → IsDueOf words names model due.status due.output due.line
+  due_listing model due text is listed check = subst (λ (d : Due). IsDueOf words names model d.status d.output d.line) (sym is) (inl (check, listed), refl)
+
+  pub due_connections : (model : Model) (due : Due) (text topology : List ℕ) (at : ℕ) → due ≡ record { status = Done; output = text; line = [] } → text ≡ PortLines model at
+      → IsTopology model topology at → IsPorts words topology names → IsDueOf words names model due.status due.output due.line
+  due_connections model due text topology at is listed there ports =
+      subst (λ (d : Due). IsDueOf words names model d.status d.output d.line) (sym is) (inr (topology, ports, (at, there, listed)), refl)
+
+  pub due_no_topology : (model : Model) (due : Due) (line topology : List ℕ) → due ≡ record { status = NoTopology; output = []; line = line } → line ≡ no_topology_line topology
+      → LacksTopology model topology → IsPorts words topology names → IsDueOf words names model due.status due.output due.line
+  due_no_topology model due line topology is said lacking ports =
+      subst (λ (d : Due). IsDueOf words names model d.status d.output d.line) (sym is) ((topology, ports, lacking, said), refl)
+
+  -- what is due for a source that breaks no rule, and for one that does
+  pub due_resolved : (source : Source) (model : Model) (status : Status) (output line : List ℕ) → IsUnbroken (ModelBroken source) → Defined source model
+      → IsDueOf words names model status output line → IsDueFor words names source status output line
+  due_resolved source model Done output line unbroken defined d = (unbroken, (model, defined, d))
+  due_resolved source model NoTopology output line unbroken defined d = (unbroken, (model, defined, d))
+  due_resolved source model Refused output line unbroken defined d = absurd d
+  due_resolved source model Usage output line unbroken defined d = absurd d
+  due_resolved source model ReadFault output line unbroken defined d = absurd d
+  due_resolved source model WriteFault output line unbroken defined d = absurd d
+  due_resolved source model NoFile output line unbroken defined d = absurd d
+  due_resolved source model Stuck output line unbroken defined d = absurd d
+  due_resolved source model Spent output line unbroken defined d = absurd d
+  due_resolved source model Asserted output line unbroken defined d = absurd d
+  due_resolved source model NoMemory output line unbroken defined d = absurd d
+
+  pub due_refused : (source : Source) (refusal : Refusal) (due : Due)
+      → due ≡ record { status = Refused; output = []; line = refusal_line (name_of source.names refusal.place.file) refusal.place refusal.rule }
+      → IsLeast (ModelBroken source) (Some refusal) → IsDueFor words names source due.status due.output due.line
+  due_refused source refusal due is first =
+      subst (λ (d : Due). IsDueFor words names source d.status d.output d.line) (sym is) (record { refusal = refusal; first = first; silent = refl; said = refl })
 
 -- a rule that is broken in the source stands in one of the files that were read
 model_among : InFilesRead → PlacesInFiles → FaultsStand
@@ -60,32 +98,52 @@ model_among among places placed names files walked source f read broken =
     at_place : IsPlaceOf (source_of walked read.units) f.place → StandsAmong (names_read walked) f
     at_place p = places files.told names walked read.units p.0 f.place read.read p.1 p.2
 
+    behind : InPhases (SourceInstancesBroken (source_of walked read.units) ∷ SourceTopologiesBroken (source_of walked read.units) ∷ SourceNumbersBroken (source_of walked read.units) ∷ []) f → StandsAmong (names_read walked) f
+    behind (inl b) = at_place (placed.instances (source_of walked read.units) f b)
+    behind (inr (inl b, still)) = at_place (placed.topologies (source_of walked read.units) f b)
+    behind (inr (inr (inl b, calm), still)) = at_place (placed.numbers (source_of walked read.units) f calm b)
+    behind (inr (inr (inr (b, last), calm), still)) = absurd b
+
     go : ModelBroken (source_of walked read.units) f → StandsAmong (names_read walked) f
     go (inl b) = among files.told names walked read.units f read.read (inr b)
     go (inr (inl b, quiet)) = at_place (placed.values (source_of walked read.units) f b)
     go (inr (inr (inl b, still), quiet)) = at_place (placed.parts (source_of walked read.units) f b)
     go (inr (inr (inr (inl b, calm), still), quiet)) = at_place (placed.states (source_of walked read.units) f b)
-    go (inr (inr (inr (inr (b, last), calm), still), quiet)) = absurd b
+    go (inr (inr (inr (inr (b, last), calm), still), quiet)) = behind b
 
-module _ (words names : List (List ℕ)) (files : FilesRun) (check : IsCheck words names) where
+module _ (words names : List (List ℕ)) (files : FilesRun) (asked : AsksFor words names) where
   -- files that break no rule of tokens, of the grammar or of includes
   pub due_source : InFilesRead → PlacesInFiles → FaultsStand
-      → (source : Source) (status : Status) (output line : List ℕ) → Gathers names files (Ok source) → IsDueFor source status output line → IsDue words files status output line
+      → (source : Source) (status : Status) (output line : List ℕ) → Gathers names files (Ok source) → IsDueFor words names source status output line → IsDue words files status output line
   due_source among places placed source Done output line g d = record {
     walked = g.0;
     source = source;
-    read = record { names = names; asked = check; read = g.1 };
-    check = check;
+    read = record { names = names; asked = asked; read = g.1 };
     unbroken = none_broken (source_least g.0 source None g.2 (least_none d.0));
     model = d.1.0;
     defined = d.1.1;
-    listed = d.1.2;
-    silent = d.2;
+    text = d.1.2.0;
+    silent = d.1.2.1;
   }
+  due_source among places placed source NoTopology output line g d =
+      let lacks = d.1.2.0 in
+      record {
+        walked = g.0;
+        source = source;
+        read = record { names = names; asked = asked; read = g.1 };
+        topology = lacks.0;
+        ports = lacks.1;
+        unbroken = none_broken (source_least g.0 source None g.2 (least_none d.0));
+        model = d.1.0;
+        defined = d.1.1;
+        lacking = lacks.2;
+        silent = d.1.2.1;
+        said = lacks.3;
+      }
   due_source among places placed source Refused output line g d = record {
     walked = g.0;
     source = source;
-    read = record { names = names; asked = check; read = g.1 };
+    read = record { names = names; asked = asked; read = g.1 };
     says = record {
       refusal = d.refusal;
       first = source_least g.0 source (Some d.refusal) g.2 d.first;
@@ -94,15 +152,14 @@ module _ (words names : List (List ℕ)) (files : FilesRun) (check : IsCheck wor
     };
     among = model_among among places placed names files g.0 source d.refusal g.1 (d.first.holds d.refusal refl);
   }
-  due_source among places placed source Usage output line g d = absurd d
-  due_source among places placed source ReadFault output line g d = absurd d
-  due_source among places placed source WriteFault output line g d = absurd d
-  due_source among places placed source NoFile output line g d = absurd d
-  due_source among places placed source Stuck output line g d = absurd d
-  due_source among places placed source Spent output line g d = absurd d
-  due_source among places placed source Asserted output line g d = absurd d
-  due_source among places placed source NoMemory output line g d = absurd d
-  due_source among places placed source NoTopology output line g d = absurd d
+  due_source among places placed source Usage output line g d = absurd d.1.2
+  due_source among places placed source ReadFault output line g d = absurd d.1.2
+  due_source among places placed source WriteFault output line g d = absurd d.1.2
+  due_source among places placed source NoFile output line g d = absurd d.1.2
+  due_source among places placed source Stuck output line g d = absurd d.1.2
+  due_source among places placed source Spent output line g d = absurd d.1.2
+  due_source among places placed source Asserted output line g d = absurd d.1.2
+  due_source among places placed source NoMemory output line g d = absurd d.1.2
 
   -- files that break one
   pub due_broken : (h : Halt) (refusal : Refusal) (file output line : List ℕ) → h ≡ halt.Broken refusal file → Gathers names files (Err h)
@@ -112,7 +169,7 @@ module _ (words names : List (List ℕ)) (files : FilesRun) (check : IsCheck wor
       record {
         walked = b.walked;
         source = b.source;
-        read = record { names = names; asked = check; read = b.read };
+        read = record { names = names; asked = asked; read = b.read };
         says = record {
           refusal = refusal;
           first = first_least b.walked b.source (phases b.source) b.some.0 b.some.1 refusal b.first;

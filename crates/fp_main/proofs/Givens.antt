@@ -92,12 +92,12 @@ pub enumerations_listed : MembersGive IsListed → PartsGive IsListed
 enumerations_listed law part_law listed names files source gathered =
     let read = gathered.1 in
     let all : AllByRecursion IsListed (items (source_of gathered.0 read.units)) =
-    items_have IsListed (λ scope d. tt) law part_law files.told names gathered.0 read.units read.read in
+    items_have IsListed (λ scope d. tt) (λ scope t. tt) (λ since n. tt) (λ since p. tt) law part_law files.told names gathered.0 read.units read.read in
     listed source (λ i there. of_contained IsListed (items source) i (subst (λ (s : Source). AllByRecursion IsListed (items s)) (sym read.made) all) there)
 
 pub machines_ordered : MembersGive IsOrdered → PartsGive IsOrdered → (names : List (List ℕ)) (files : FilesRun) (source : Source) → Gathers names files (Ok source) → MachinesAreOrdered source
 machines_ordered law part_law names files source gathered =
     let read = gathered.1 in
     let all : AllByRecursion IsOrdered (items (source_of gathered.0 read.units)) =
-    items_have IsOrdered (λ scope c. tt) law part_law files.told names gathered.0 read.units read.read in
+    items_have IsOrdered (λ scope c. tt) (λ scope t. tt) (λ since n. tt) (λ since p. tt) law part_law files.told names gathered.0 read.units read.read in
     λ k i at. of_item IsOrdered (items source) k i (subst (λ (s : Source). AllByRecursion IsOrdered (items s)) (sym read.made) all) at

@@ -12,10 +12,10 @@ use Rattle.fp_main.specs.Delivery.{SinkRun, Adds, OutFailed, DiagFailed}
 use Rattle.fp_main.specs.Delivery as delivery
 use Rattle.fp_gather.specs.FilesRun.{FilesRun, NoFault, NoMiss, Holds}
 use Rattle.fp_main.specs.Broken.{SourceBroken}
-use Rattle.fp_main.specs.Lines.{usage_line, refusal_line, read_fault_line, no_file_line, no_memory_line}
-use Rattle.fp_listing.specs.Listing.{Listing}
-use Rattle.fp_main.specs.Output.{IsRead, IsDue}
-use Rattle.fp_main.specs.Words.{AsksFor, IsCheck, IsWrong}
+use Rattle.fp_main.specs.Lines.{usage_line, refusal_line, read_fault_line, no_file_line, no_topology_line, no_memory_line}
+use Rattle.fp_main.specs.Output.{IsRead, IsDue, IsText}
+use Rattle.fp_main.specs.Topologies.{HasTopology, LacksTopology}
+use Rattle.fp_main.specs.Words.{AsksFor, IsPorts, IsWrong}
 use Rattle.fp_gather.specs.gathering.Gathered.{IsAbsent, IsUnread, StandsAmong, name_of, names_read, source_of}
 use Rattle.fp_gather.specs.gathering.Walks.{NoFile as IsMissing, Outcome, Stops, Walked, WalksFiles, Went, nothing_read}
 use Rattle.fp_main.specs.declared.status.Status.{Status}
@@ -67,8 +67,13 @@ RefusedMeans words files out diag status =
 
 abbrev pub DoneMeans : List (List ℕ) → FilesRun → SinkRun → SinkRun → Status → Type 0
 DoneMeans words files out diag status =
-    status ≡ Done → (walked : Walked) × (source : Source) × (read : IsRead words files walked source) × IsCheck words read.names × IsUnbroken (SourceBroken walked source)
-    × ((model : Model) × Defined source model × Adds (Listing model) out) × Adds [] diag
+    status ≡ Done → (walked : Walked) × (source : Source) × (read : IsRead words files walked source) × IsUnbroken (SourceBroken walked source)
+    × ((model : Model) × Defined source model × ((text : List ℕ) × IsText words read.names model text × Adds text out)) × Adds [] diag
+
+abbrev pub NoTopologyMeans : List (List ℕ) → FilesRun → SinkRun → SinkRun → Status → Type 0
+NoTopologyMeans words files out diag status =
+    status ≡ NoTopology → (walked : Walked) × (source : Source) × (read : IsRead words files walked source) × (name : List ℕ) × IsPorts words name read.names
+    × IsUnbroken (SourceBroken walked source) × ((model : Model) × Defined source model × LacksTopology model name) × Says (no_topology_line name) out diag
 
 -- out has a proper front of the output that was due, and diag the line that says so, or a proper front of it; or out has nothing,
 -- and diag a proper front of the line that was due
@@ -85,7 +90,6 @@ abbrev pub IsNoRun : Status → Type 0
 IsNoRun Stuck = ⊥
 IsNoRun Spent = ⊥
 IsNoRun Asserted = ⊥
-IsNoRun NoTopology = ⊥
 IsNoRun _ = Unit {0}
 
 -- ---- when each comes
@@ -109,9 +113,20 @@ RefusedComes words files status =
     (walked : Walked) (units : List (List Member)) (f : Refusal)
     → Asked words files (Went walked units) → SourceBroken walked (source_of walked units) f → Sound files → EndsAs Refused status
 
--- nothing is broken and nothing failed
+-- the topology that words name, where they name one, is in the model that a source defines
+abbrev pub IsThere : List (List ℕ) → Source → Type 0
+IsThere words source = (name : List ℕ) (names : List (List ℕ)) (model : Model) → IsPorts words name names → Defined source model → HasTopology model name
+
+-- nothing is broken, no topology is missing, and nothing failed
 abbrev pub DoneComes : List (List ℕ) → FilesRun → SinkRun → SinkRun → Status → Type 0
 DoneComes words files out diag status =
     (walked : Walked) (units : List (List Member))
-    → Asked words files (Went walked units) → IsUnbroken (SourceBroken walked (source_of walked units)) → Sound files → SoundSink out → SoundSink diag
-    → (status ≡ Done) ⊎ (status ≡ NoMemory)
+    → Asked words files (Went walked units) → IsUnbroken (SourceBroken walked (source_of walked units)) → IsThere words (source_of walked units)
+    → Sound files → SoundSink out → SoundSink diag → (status ≡ Done) ⊎ (status ≡ NoMemory)
+
+-- nothing is broken, and the model that the source defines has no topology of the name in the words
+abbrev pub NoTopologyComes : List (List ℕ) → FilesRun → Status → Type 0
+NoTopologyComes words files status =
+    (walked : Walked) (units : List (List Member)) (name : List ℕ) (names : List (List ℕ))
+    → Asked words files (Went walked units) → IsUnbroken (SourceBroken walked (source_of walked units)) → IsPorts words name names
+    → ((model : Model) → Defined (source_of walked units) model → LacksTopology model name) → Sound files → EndsAs NoTopology status

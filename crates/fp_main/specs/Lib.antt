@@ -4,4 +4,5 @@ pub mod Delivery
 pub mod Lines
 pub mod Output
 pub mod Statuses
+pub mod Topologies
 pub mod Words

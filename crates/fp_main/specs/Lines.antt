@@ -16,6 +16,9 @@ read_fault_line name = codes "fpp: read fault " ++ name ++ newline
 abbrev pub no_file_line : List ℕ → List ℕ
 no_file_line name = codes "fpp: no file " ++ name ++ newline
 
+abbrev pub no_topology_line : List ℕ → List ℕ
+no_topology_line name = codes "fpp: no topology " ++ name ++ newline
+
 abbrev pub write_fault_line : List ℕ
 write_fault_line = codes "fpp: write fault\n"
 

@@ -1,5 +1,5 @@
 -- What a call has to write, and its status where every write succeeds.
-use Rattle.std.specs.Prelude.{ℕ, ◌≡◌, List, [], Some}
+use Rattle.std.specs.Prelude.{ℕ, ◌≡◌, ◌⊎◌, List, [], Some}
 use Rattle.fp_base.specs.declared.refusal.Refusal.{Refusal}
 use Rattle.fp_tree.specs.declared.source.Source.{Source}
 use Rattle.fp_base.specs.Least.{IsLeast, IsUnbroken}
@@ -11,11 +11,12 @@ use Rattle.fp_gather.specs.FilesRun.{FilesRun, NoFault, NoMiss}
 use Rattle.fp_gather.specs.gathering.Gathered.{AreRead, IsAbsent, IsUnread, StandsAmong, name_of, names_read}
 use Rattle.fp_gather.specs.gathering.Walks.{Walked}
 use Rattle.fp_main.specs.Broken.{SourceBroken}
-use Rattle.fp_main.specs.Lines.{usage_line, refusal_line, read_fault_line, no_file_line, no_memory_line}
-use Rattle.fp_listing.specs.Listing.{Listing}
-use Rattle.fp_main.specs.Words.{AsksFor, IsCheck, IsWrong}
+use Rattle.fp_main.specs.Lines.{usage_line, refusal_line, read_fault_line, no_file_line, no_topology_line, no_memory_line}
+use Rattle.fp_listing.specs.Listing.{Listing, PortLines}
+use Rattle.fp_main.specs.Topologies.{IsTopology, LacksTopology}
+use Rattle.fp_main.specs.Words.{AsksFor, IsCheck, IsPorts, IsWrong}
 use Rattle.fp_main.specs.declared.status.Status.{Status}
-use Rattle.fp_main.specs.declared.status.Status.TheVariants.{Done, Refused, Usage, ReadFault, NoFile, NoMemory}
+use Rattle.fp_main.specs.declared.status.Status.TheVariants.{Done, Refused, Usage, ReadFault, NoFile, NoMemory, NoTopology}
 
 -- the words have no form, and the line names the first that doesn't fit or is missing; no file is read
 pub record DueUsage (words : List (List ℕ)) (files : FilesRun) (output line : List ℕ) : Type 0 where
@@ -64,31 +65,57 @@ pub record DueRefused (words : List (List ℕ)) (files : FilesRun) (output line 
   pub says : SaysBroken (SourceBroken walked source) (names_read walked) output line
   pub among : StandsAmong (names_read walked) says.refusal
 
--- the listing of the model that the source defines
-pub record DueListing (words : List (List ℕ)) (files : FilesRun) (output line : List ℕ) : Type 0 where
+-- the words ask for this text of a model: its listing, or the connections of the topology that they name
+abbrev pub IsText : List (List ℕ) → List (List ℕ) → Model → List ℕ → Type 0
+IsText words names model text =
+    (IsCheck words names × (text ≡ Listing model))
+    ⊎ ((topology : List ℕ) × IsPorts words topology names × ((at : ℕ) × IsTopology model topology at × (text ≡ PortLines model at)))
+
+-- the text that the words ask for, of the model that the source defines
+pub record DueText (words : List (List ℕ)) (files : FilesRun) (output line : List ℕ) : Type 0 where
   pub walked : Walked
   pub source : Source
   pub read : IsRead words files walked source
-  pub check : IsCheck words read.names
   pub unbroken : IsUnbroken (SourceBroken walked source)
   pub model : Model
   pub defined : Defined source model
-  pub listed : output ≡ Listing model
+  pub text : IsText words read.names model output
   pub silent : line ≡ []
 
--- what `check` has to write for a source whose files and includes break no rule
-abbrev pub IsDueFor : Source → Status → List ℕ → List ℕ → Type 0
-IsDueFor source Done output line = IsUnbroken (ModelBroken source) × ((model : Model) × Defined source model × (output ≡ Listing model)) × (line ≡ [])
-IsDueFor source Refused output line = SaysBroken (ModelBroken source) source.names output line
-IsDueFor source _ output line = ⊥
+-- no rule is broken, and the model that the source defines has no topology of the name in the words
+pub record DueNoTopology (words : List (List ℕ)) (files : FilesRun) (output line : List ℕ) : Type 0 where
+  pub walked : Walked
+  pub source : Source
+  pub read : IsRead words files walked source
+  pub topology : List ℕ
+  pub ports : IsPorts words topology read.names
+  pub unbroken : IsUnbroken (SourceBroken walked source)
+  pub model : Model
+  pub defined : Defined source model
+  pub lacking : LacksTopology model topology
+  pub silent : output ≡ []
+  pub said : line ≡ no_topology_line topology
+
+-- what words that ask for these files have to write of a model
+abbrev pub IsDueOf : List (List ℕ) → List (List ℕ) → Model → Status → List ℕ → List ℕ → Type 0
+IsDueOf words names model Done output line = IsText words names model output × (line ≡ [])
+IsDueOf words names model NoTopology output line =
+    ((topology : List ℕ) × IsPorts words topology names × LacksTopology model topology × (line ≡ no_topology_line topology)) × (output ≡ [])
+IsDueOf words names model _ output line = ⊥
+
+-- what they have to write for a source whose files and includes break no rule
+abbrev pub IsDueFor : List (List ℕ) → List (List ℕ) → Source → Status → List ℕ → List ℕ → Type 0
+IsDueFor words names source Refused output line = SaysBroken (ModelBroken source) source.names output line
+IsDueFor words names source status output line = IsUnbroken (ModelBroken source) × ((model : Model) × Defined source model × IsDueOf words names model status output line)
 
 -- what has to be written for each status, where every write succeeds
 abbrev pub IsDue : List (List ℕ) → FilesRun → Status → List ℕ → List ℕ → Type 0
-IsDue words files Done output line = DueListing words files output line
+IsDue words files Done output line = DueText words files output line
 IsDue words files Refused output line = DueRefused words files output line
 IsDue words files Usage output line = DueUsage words files output line
 IsDue words files ReadFault output line = DueReadFault words files output line
 IsDue words files NoFile output line = DueNoFile words files output line
+IsDue words files NoTopology output line = DueNoTopology words files output line
 IsDue words files NoMemory output line = (output ≡ []) × (line ≡ no_memory_line)
 IsDue words files _ output line = ⊥
 

@@ -2,16 +2,22 @@
 use Rattle.std.specs.Prelude.{ℕ, ◌≡◌, ◌+◌, ◌-◌, ◌<◌, ◌≤◌, ◌⊎◌, List, ◌∷◌, ◌++◌, length, map, take, codes, Result, Ok, Err}
 use Rattle.std.specs.String.{string_bytes}
 use Rattle.fp_main.specs.declared.words.Command.{Command}
-use Rattle.fp_main.specs.declared.words.Command.TheVariants.{Check}
+use Rattle.fp_main.specs.declared.words.Wanted.{Wanted}
+use Rattle.fp_main.specs.declared.words.Wanted.TheVariants.{Connections, Listing}
 
 -- the words `check FILE..` with these files, at least one
 pub record IsCheck (words files : List (List ℕ)) : Type 0 where
   pub words_are : words ≡ codes "check" ∷ files
   pub some : 0 < length files
 
+-- the words `ports TOPOLOGY FILE..` with this topology, any word, and these files, at least one
+pub record IsPorts (words : List (List ℕ)) (topology : List ℕ) (files : List (List ℕ)) : Type 0 where
+  pub words_are : words ≡ codes "ports" ∷ topology ∷ files
+  pub some : 0 < length files
+
 -- the words are of some form, and ask for these files
 abbrev pub AsksFor : List (List ℕ) → List (List ℕ) → Type 0
-AsksFor words files = IsCheck words files
+AsksFor words files = IsCheck words files ⊎ ((topology : List ℕ) × IsPorts words topology files)
 
 -- the words are of some form
 abbrev pub IsForm : List (List ℕ) → Type 0
@@ -27,7 +33,12 @@ pub record IsWrong (words : List (List ℕ)) (number : ℕ) : Type 0 where
   pub begun : BeginsForm (take (number - 1) words)
   pub ends : ((number ≤ length words) × (BeginsForm (take number words) → ⊥)) ⊎ ((number ≡ length words + 1) × (IsForm words → ⊥))
 
+-- the words are of the form that asks for this, with these files
+abbrev pub Spells : List (List ℕ) → Wanted → List (List ℕ) → Type 0
+Spells words Listing files = IsCheck words files
+Spells words (Connections topology) files = IsPorts words topology.now files
+
 -- what is made of the words
 abbrev pub ReadsWords : List (List ℕ) → Result Command ℕ → Type 0
-ReadsWords words (Ok (Check files)) = IsCheck words (map string_bytes files.now)
+ReadsWords words (Ok command) = Spells words command.wanted (map string_bytes command.files.now)
 ReadsWords words (Err number) = IsWrong words number

@@ -1,4 +1,4 @@
-ghost use Rattle.std.specs.Prelude.{◌≡◌, [], map, List, ℕ, IfOk};
+ghost use Rattle.std.specs.Prelude.{◌≡◌, [], map, true, List, ℕ, IfOk};
 ghost use Rattle.std.specs.String.{string_bytes};
 ghost use Rattle.fp_names.specs.Named.{PartsAreNamed};
 ghost use Rattle.fp_source_machines.specs.Ordered.{MachinesAreOrdered};
@@ -6,20 +6,24 @@ ghost use Rattle.fp_source_types.specs.Listed.{EnumsHaveConstants};
 ghost use Rattle.fp_source_types.specs.Named.{DefinitionsAreNamed, FieldsAreNamed};
 ghost use Rattle.fp_gather.specs.FilesRun.{files_run};
 ghost use Rattle.fp_gather.specs.gathering.Gathered.{name_of as name_in};
-ghost use Rattle.fp_listing.specs.Listing.{Listing};
+ghost use Rattle.fp_tables.specs.Positions.{lists_are_short};
 ghost use Rattle.fp_main.specs.Lines.{refusal_line as line_of};
-ghost use Rattle.fp_main.specs.Output.{IsDue, IsDueFor};
+ghost use Rattle.fp_main.specs.Output.{IsDue, IsDueFor, IsDueOf};
 ghost use Rattle.fp_main.specs.declared.status.Status.TheVariants.{Done, Refused};
-ghost use Rattle.fp_main.specs.Words.{IsCheck, IsWrong};
+ghost use Rattle.fp_main.specs.Words.{IsPorts, IsWrong, Spells};
 
-use crate::lines::{no_file_line, read_fault_line, refusal_line, usage_line};
+use crate::lines::{no_file_line, no_topology_line, read_fault_line, refusal_line, usage_line};
 use crate::status::Status;
-use crate::words::{Command, read_words};
+use crate::topologies::topology_named;
+use crate::words::{Wanted, read_words};
 use fp_base::{NoMemory, Refusal, Row, Stop};
 use fp_enum_sites::{enumerations_have_constants, part_enumerations_have_constants};
-use fp_fault_places::{parts_break_at_places, states_break_at_places, values_break_at_places};
+use fp_fault_places::{
+    instances_break_at_places, numbers_break_at_places, parts_break_at_places,
+    states_break_at_places, topologies_break_at_places, values_break_at_places,
+};
 use fp_gather::{Halt, gather, in_files_read, name_of, names_are_names, places_in_files};
-use fp_listing::listing;
+use fp_listing::{listing, port_lines};
 use fp_machine_sites::{machines_are_ordered, part_machines_are_ordered};
 use fp_model::resolve;
 use fp_outside::Files;
@@ -47,16 +51,46 @@ fn said(alloc: Global, status: Status, line: Row<u8>) -> Due
     }
 }
 
-/// What is due for a source that breaks no rule.
-fn listed(alloc: Global, model: &Model) -> Result<Due, NoMemory>
-    ensures { IfOk result (λ due. due ≡ record { status = Done; output = Listing model.now; line = [] }) }
+/// A text that was asked for.
+fn done(alloc: Global, output: Row<u8>) -> Due
+    ensures { result ≡ record { status = Done; output = output; line = [] } }
 {
-    let output = listing(alloc, model)?;
-    Ok(Due {
+    Due {
         status: Status::Done,
         output,
         line: Row::new(alloc),
-    })
+    }
+}
+
+/// What is due of the model of a source that breaks no rule: what is wanted of it, or that it has no such topology.
+fn answer_model(alloc: Global, model: &Model, wanted: Wanted) -> Result<Due, NoMemory>
+    requires { lists_are_short model.now ≡ true }
+    ensures { (words names : List (List ℕ)) → Spells words wanted.entry names → IfOk result (λ due. IsDueOf words names model.now due.status due.output due.line) }
+{
+    match wanted {
+        Wanted::Listing => {
+            let output = listing(alloc, model)?;
+            Ok(done(alloc, output))
+        }
+        Wanted::Connections(name) => answer_connections(alloc, model, name),
+    }
+}
+
+/// What is due for the connections of the topology of a name.
+fn answer_connections(alloc: Global, model: &Model, name: &str) -> Result<Due, NoMemory>
+    requires { lists_are_short model.now ≡ true }
+    ensures { (words names : List (List ℕ)) → IsPorts words name.now names → IfOk result (λ due. IsDueOf words names model.now due.status due.output due.line) }
+{
+    match topology_named(model, name) {
+        Some(topology) => {
+            let output = port_lines(alloc, model, topology)?;
+            Ok(done(alloc, output))
+        }
+        None => {
+            let line = no_topology_line(alloc, name)?;
+            Ok(said(alloc, Status::NoTopology, line))
+        }
+    }
 }
 
 /// What is due for a source that breaks a rule: in the file of the rule.
@@ -68,25 +102,30 @@ fn refused(alloc: Global, source: &Source, refusal: Refusal) -> Result<Due, NoMe
     Ok(said(alloc, Status::Refused, line))
 }
 
-/// What `check` has to write for a source whose files and includes break no rule: its listing, or the rule that is broken first.
-fn check(alloc: Global, source: &Source) -> Result<Due, NoMemory>
+/// What is due for a source whose files and includes break no rule: what its model gives, or the rule that is broken first.
+fn answer_source(alloc: Global, source: &Source, wanted: Wanted) -> Result<Due, NoMemory>
     requires names { DefinitionsAreNamed source.now }
     requires fields { FieldsAreNamed source.now }
     requires parts { PartsAreNamed source.now }
     requires enumerations { EnumsHaveConstants source.now }
     requires machines { MachinesAreOrdered source.now }
-    ensures { IfOk result (λ due. IsDueFor source.now due.status due.output due.line) }
+    ensures { (words names : List (List ℕ)) → Spells words wanted.entry names → IfOk result (λ due. IsDueFor words names source.now due.status due.output due.line) }
 {
     match resolve(alloc, source) {
-        Ok(model) => listed(alloc, &model),
+        Ok(model) => answer_model(alloc, &model, wanted),
         Err(Stop::Broken(refusal)) => refused(alloc, source, refusal),
         Err(Stop::NoMemory) => Err(NoMemory),
     }
 }
 
-/// What is due for `check` with the files of these names.
-fn answer_check<F: Files>(alloc: Global, names: &[String], files: &mut F) -> Result<Due, NoMemory>
-    ensures { (words : List (List ℕ)) → IsCheck words (map string_bytes names.now) → IfOk result (λ due. IsDue words (files_run F.told F.faults F.misses files.old files.new) due.status due.output due.line) }
+/// What is due for words that ask for this, with the files of these names.
+fn answer_files<F: Files>(
+    alloc: Global,
+    wanted: Wanted,
+    names: &[String],
+    files: &mut F,
+) -> Result<Due, NoMemory>
+    ensures { (words : List (List ℕ)) → Spells words wanted.entry (map string_bytes names.now) → IfOk result (λ due. IsDue words (files_run F.told F.faults F.misses files.old files.new) due.status due.output due.line) }
 {
     // for the file in which a rule is broken
     in_files_read();
@@ -94,6 +133,9 @@ fn answer_check<F: Files>(alloc: Global, names: &[String], files: &mut F) -> Res
     values_break_at_places();
     parts_break_at_places();
     states_break_at_places();
+    instances_break_at_places();
+    topologies_break_at_places();
+    numbers_break_at_places();
     // for what a source is asked to have
     names_are_names();
     enumerations_have_constants();
@@ -102,7 +144,7 @@ fn answer_check<F: Files>(alloc: Global, names: &[String], files: &mut F) -> Res
     machines_are_ordered();
     part_machines_are_ordered();
     match gather(alloc, names, files) {
-        Ok(source) => check(alloc, &source),
+        Ok(source) => answer_source(alloc, &source, wanted),
         Err(Halt::Broken { refusal, file }) => {
             let line = refusal_line(alloc, file.as_str(), refusal)?;
             Ok(said(alloc, Status::Refused, line))
@@ -125,7 +167,7 @@ pub fn answer<F: Files>(alloc: Global, words: &[String], files: &mut F) -> Resul
     ensures due { IfOk result (λ due. IsDue (map string_bytes words.now) (files_run F.told F.faults F.misses files.old files.new) due.status due.output due.line) }
 {
     match read_words(words) {
-        Ok(Command::Check(names)) => answer_check(alloc, names, files),
+        Ok(command) => answer_files(alloc, command.wanted, command.files, files),
         Err(word) => {
             let line = usage_line(alloc, word)?;
             Ok(said(alloc, Status::Usage, line))

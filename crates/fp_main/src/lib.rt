@@ -7,6 +7,7 @@ mod laws;
 mod lines;
 mod serving;
 mod status;
+mod topologies;
 mod words;
 
 pub use laws::worked_lines;

@@ -1,6 +1,6 @@
 ghost use Rattle.std.specs.Prelude.{◌≡◌, ◌++◌, codes, IfOk, OnOk};
 ghost use Rattle.std.specs.Prelude.{decimal};
-ghost use Rattle.fp_main.specs.Lines.{usage_line, refusal_line, read_fault_line, no_file_line};
+ghost use Rattle.fp_main.specs.Lines.{usage_line, refusal_line, read_fault_line, no_file_line, no_topology_line};
 
 use fp_base::{NoMemory, Refusal, Row};
 use itoa::{Buffer, Integer};
@@ -46,6 +46,16 @@ pub fn no_file_line(alloc: Global, name: &str) -> Result<Row<u8>, NoMemory>
 {
     let mut line = Row::new(alloc);
     push_text(&mut line, "fpp: no file ")?;
+    push_text(&mut line, name)?;
+    push_text(&mut line, "\n")?;
+    Ok(line)
+}
+
+pub fn no_topology_line(alloc: Global, name: &str) -> Result<Row<u8>, NoMemory>
+    ensures { IfOk result (λ line. line ≡ no_topology_line name.now) }
+{
+    let mut line = Row::new(alloc);
+    push_text(&mut line, "fpp: no topology ")?;
     push_text(&mut line, name)?;
     push_text(&mut line, "\n")?;
     Ok(line)

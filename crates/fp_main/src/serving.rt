@@ -4,8 +4,8 @@ ghost use Rattle.fp_main.specs.Delivery.{sink_run};
 ghost use Rattle.fp_gather.specs.FilesRun.{files_run};
 ghost use Rattle.fp_main.specs.Output.{Output};
 ghost use Rattle.fp_main.specs.Words.{IsWrong};
-ghost use Rattle.fp_main.specs.Causes.{UsageMeans, ReadFaultMeans, NoFileMeans, RefusedMeans, DoneMeans, WriteFaultMeans, NoMemoryMeans, IsNoRun};
-ghost use Rattle.fp_main.specs.Causes.{UsageComes, ReadFaultComes, NoFileComes, RefusedComes, DoneComes, WriteFaultComes};
+ghost use Rattle.fp_main.specs.Causes.{UsageMeans, ReadFaultMeans, NoFileMeans, RefusedMeans, NoTopologyMeans, DoneMeans, WriteFaultMeans, NoMemoryMeans, IsNoRun};
+ghost use Rattle.fp_main.specs.Causes.{UsageComes, ReadFaultComes, NoFileComes, RefusedComes, NoTopologyComes, DoneComes, WriteFaultComes};
 
 use crate::answer::answer;
 use crate::deliver::deliver;
@@ -88,6 +88,10 @@ where
         (map string_bytes words.now) (files_run F.told F.faults F.misses files.old files.new)
         (sink_run O.told O.faults out.old out.new) (sink_run E.told E.faults diag.old diag.new)
         result }
+    ensures no_topology { NoTopologyMeans
+        (map string_bytes words.now) (files_run F.told F.faults F.misses files.old files.new)
+        (sink_run O.told O.faults out.old out.new) (sink_run E.told E.faults diag.old diag.new)
+        result }
     ensures done { DoneMeans
         (map string_bytes words.now) (files_run F.told F.faults F.misses files.old files.new)
         (sink_run O.told O.faults out.old out.new) (sink_run E.told E.faults diag.old diag.new)
@@ -109,6 +113,9 @@ where
         (map string_bytes words.now) (files_run F.told F.faults F.misses files.old files.new)
         result }
     ensures refused_comes { RefusedComes
+        (map string_bytes words.now) (files_run F.told F.faults F.misses files.old files.new)
+        result }
+    ensures no_topology_comes { NoTopologyComes
         (map string_bytes words.now) (files_run F.told F.faults F.misses files.old files.new)
         result }
     ensures done_comes { DoneComes

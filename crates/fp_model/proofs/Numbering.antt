@@ -17,6 +17,7 @@ use Rattle.fp_meaning.specs.Sites.{ModelDef, Path, component, declaration, insta
 use Rattle.fp_type_forms.specs.Written.{types_in, types_of}
 use Rattle.fp_component_forms.specs.Written.{component_in, component_of, port_in, port_of}
 use Rattle.fp_source_components.specs.Machines.{machine_in, machine_of}
+use Rattle.fp_topology_forms.specs.Written.{instance_in, instance_of, topology_in, topology_of}
 use Rattle.fp_model.specs.declared.ordering.Counts.{Counts}
 use Rattle.fp_model.specs.Counted.{counted, counted_model, counted_with, none_before, order_by, order_by_model, order_from, order_with}
 use Rattle.fp_model.specs.Definitions.{constants_in, constants_of, order_behind, order_declared, order_in, order_of}
@@ -35,41 +36,46 @@ module _ {A : Type 0} (f : Item → List A) where
       let rest = length-append (f i) (flat_map f is) in
       omega (arith, whole, long, rest, e, one)
 
-abbrev pub so_many : ℕ → ℕ → ℕ → ℕ → ℕ → Counts
-so_many a b c d e = record { constants = a; kinds = b; ports = c; components = d; machines = e }
+abbrev pub so_many : ℕ → ℕ → ℕ → ℕ → ℕ → ℕ → ℕ → Counts
+so_many a b c d e f g = record { constants = a; kinds = b; ports = c; components = d; machines = e; instances = f; topologies = g }
 
 abbrev pub counts_of : List Item → Counts
-counts_of before = so_many (length (flat_map constants_of before)) (length (flat_map types_of before)) (length (flat_map port_of before)) (length (flat_map component_of before)) (length (flat_map machine_of before))
+counts_of before =
+    so_many (length (flat_map constants_of before)) (length (flat_map types_of before)) (length (flat_map port_of before)) (length (flat_map component_of before)) (length (flat_map machine_of before))
+    (length (flat_map instance_of before)) (length (flat_map topology_of before))
 
-same_counts : {a b c d e f g h x y : ℕ} → a ≡ b → c ≡ d → e ≡ f → g ≡ h → x ≡ y → so_many a c e g x ≡ so_many b d f h y
-same_counts {b = b} {c = c} {d = d} {e = e} {f = f} {g = g} {h = h} {x = x} i j k l m =
-    ap (λ (n : ℕ). so_many n c e g x) i ∙ ap (λ (n : ℕ). so_many b n e g x) j ∙ ap (λ (n : ℕ). so_many b d n g x) k ∙ ap (λ (n : ℕ). so_many b d f n x) l
-    ∙ ap (λ (n : ℕ). so_many b d f h n) m
+same_counts : {a b c d e f g h x y u v s t : ℕ} → a ≡ b → c ≡ d → e ≡ f → g ≡ h → x ≡ y → u ≡ v → s ≡ t → so_many a c e g x u s ≡ so_many b d f h y v t
+same_counts {b = b} {c = c} {d = d} {e = e} {f = f} {g = g} {h = h} {x = x} {y = y} {u = u} {v = v} {s = s} i j k l m n o =
+    ap (λ (n : ℕ). so_many n c e g x u s) i ∙ ap (λ (n : ℕ). so_many b n e g x u s) j ∙ ap (λ (n : ℕ). so_many b d n g x u s) k ∙ ap (λ (n : ℕ). so_many b d f n x u s) l
+    ∙ ap (λ (n : ℕ). so_many b d f h n u s) m ∙ ap (λ (w : ℕ). so_many b d f h y w s) n ∙ ap (λ (w : ℕ). so_many b d f h y v w) o
 
 no_more : (n : ℕ) → n + 0 ≡ n
 no_more n = omega arith
 
-module _ (a b c e x : ℕ) where
-  none_more : so_many (a + 0) (b + 0) (c + 0) (e + 0) (x + 0) ≡ so_many a b c e x
-  none_more = same_counts (no_more a) (no_more b) (no_more c) (no_more e) (no_more x)
+module _ (a b c e x u v : ℕ) where
+  none_more : so_many (a + 0) (b + 0) (c + 0) (e + 0) (x + 0) (u + 0) (v + 0) ≡ so_many a b c e x u v
+  none_more = same_counts (no_more a) (no_more b) (no_more c) (no_more e) (no_more x) (no_more u) (no_more v)
 
-  counted_definition : (s : Path) (d : Def) → so_many (a + length (constants_in s d)) (b + length (types_in s d)) (c + length (port_in s d)) (e + 0) (x + 0) ≡ counted (so_many a b c e x) d
-  counted_definition s (def.Constant d) = same_counts refl (no_more b) (no_more c) (no_more e) (no_more x)
-  counted_definition s (def.Abstract d) = same_counts (no_more a) refl (no_more c) (no_more e) (no_more x)
-  counted_definition s (def.Alias d) = same_counts (no_more a) refl (no_more c) (no_more e) (no_more x)
-  counted_definition s (def.Array d) = same_counts (no_more a) refl (no_more c) (no_more e) (no_more x)
-  counted_definition s (def.Struct d) = same_counts (no_more a) refl (no_more c) (no_more e) (no_more x)
-  counted_definition s (def.Enum d) = same_counts (no_more a) refl (no_more c) (no_more e) (no_more x)
-  counted_definition s (def.Port d) = same_counts (no_more a) (no_more b) refl (no_more e) (no_more x)
+  counted_definition : (s : Path) (d : Def) → so_many (a + length (constants_in s d)) (b + length (types_in s d)) (c + length (port_in s d)) (e + 0) (x + 0) (u + 0) (v + 0) ≡ counted (so_many a b c e x u v) d
+  counted_definition s (def.Constant d) = same_counts refl (no_more b) (no_more c) (no_more e) (no_more x) (no_more u) (no_more v)
+  counted_definition s (def.Abstract d) = same_counts (no_more a) refl (no_more c) (no_more e) (no_more x) (no_more u) (no_more v)
+  counted_definition s (def.Alias d) = same_counts (no_more a) refl (no_more c) (no_more e) (no_more x) (no_more u) (no_more v)
+  counted_definition s (def.Array d) = same_counts (no_more a) refl (no_more c) (no_more e) (no_more x) (no_more u) (no_more v)
+  counted_definition s (def.Struct d) = same_counts (no_more a) refl (no_more c) (no_more e) (no_more x) (no_more u) (no_more v)
+  counted_definition s (def.Enum d) = same_counts (no_more a) refl (no_more c) (no_more e) (no_more x) (no_more u) (no_more v)
+  counted_definition s (def.Port d) = same_counts (no_more a) (no_more b) refl (no_more e) (no_more x) (no_more u) (no_more v)
 
-  counted_declared : (s : Path) (d : ModelDef) → so_many (a + 0) (b + 0) (c + 0) (e + length (component_in s d)) (x + length (machine_in s d)) ≡ counted_model (so_many a b c e x) d
-  counted_declared s (component d) = same_counts (no_more a) (no_more b) (no_more c) refl (no_more x)
-  counted_declared s (machine d) = same_counts (no_more a) (no_more b) (no_more c) (no_more e) refl
+  counted_declared : (s : Path) (d : ModelDef)
+      → so_many (a + 0) (b + 0) (c + 0) (e + length (component_in s d)) (x + length (machine_in s d)) (u + length (instance_in s d)) (v + length (topology_in s d)) ≡ counted_model (so_many a b c e x u v) d
+  counted_declared s (component d) = same_counts (no_more a) (no_more b) (no_more c) refl (no_more x) (no_more u) (no_more v)
+  counted_declared s (machine d) = same_counts (no_more a) (no_more b) (no_more c) (no_more e) refl (no_more u) (no_more v)
   counted_declared s (interface d) = none_more
-  counted_declared s (instance d) = none_more
-  counted_declared s (topology d) = none_more
+  counted_declared s (instance d) = same_counts (no_more a) (no_more b) (no_more c) (no_more e) (no_more x) refl (no_more v)
+  counted_declared s (topology d) = same_counts (no_more a) (no_more b) (no_more c) (no_more e) (no_more x) (no_more u) refl
 
-  counted_item : (i : Item) → so_many (a + length (constants_of i)) (b + length (types_of i)) (c + length (port_of i)) (e + length (component_of i)) (x + length (machine_of i)) ≡ counted_with (so_many a b c e x) i
+  counted_item : (i : Item)
+      → so_many (a + length (constants_of i)) (b + length (types_of i)) (c + length (port_of i)) (e + length (component_of i)) (x + length (machine_of i)) (u + length (instance_of i)) (v + length (topology_of i))
+      ≡ counted_with (so_many a b c e x u v) i
   counted_item (item.Defined s) = counted_definition s.scope s.definition
   counted_item (item.Enumerated n) = none_more
   counted_item (item.Declared d) = counted_declared d.scope d.definition
@@ -79,7 +85,9 @@ module _ (a b c e x : ℕ) where
 one_counted : (before : List Item) (i : Item) → counts_of (before ++ i ∷ []) ≡ counted_with (counts_of before) i
 one_counted before i =
     same_counts (with_one constants_of before i) (with_one types_of before i) (with_one port_of before i) (with_one component_of before i) (with_one machine_of before i)
-    ∙ counted_item (length (flat_map constants_of before)) (length (flat_map types_of before)) (length (flat_map port_of before)) (length (flat_map component_of before)) (length (flat_map machine_of before)) i
+    (with_one instance_of before i) (with_one topology_of before i)
+    ∙ counted_item (length (flat_map constants_of before)) (length (flat_map types_of before)) (length (flat_map port_of before)) (length (flat_map component_of before)) (length (flat_map machine_of before))
+    (length (flat_map instance_of before)) (length (flat_map topology_of before)) i
 
 one_order : (before : List Item) (i : Item) → order_with (counts_of before) i ≡ order_of before i
 one_order before (item.Defined s) = of_definition s.definition
@@ -121,7 +129,8 @@ all_of_both p (x ∷ xs) ys h k = let b = both (p x) (list_all p xs) h in join (
 
 module _ (m : Model) (all : List Item) (constants : length (flat_map constants_of all) ≡ length m.constants) (types : length (flat_map types_of all) ≡ length m.types)
     (ports : length (flat_map port_of all) ≡ length m.ports) (components : length (flat_map component_of all) ≡ length m.components)
-    (machines : length (flat_map machine_of all) ≡ length m.machines) where
+    (machines : length (flat_map machine_of all) ≡ length m.machines) (instances : length (flat_map instance_of all) ≡ length m.instances)
+    (topologies : length (flat_map topology_of all) ≡ length m.topologies) where
   below : (a b : ℕ) → a < b → (nat_lt a b && true) ≡ true
   below a b h = join (nat_lt a b) true (grind (arith, nat_tests)) refl
 
@@ -143,8 +152,8 @@ module _ (m : Model) (all : List Item) (constants : length (flat_map constants_o
       of_declared s (component d) e = below _ _ (within component_of before is _ _ (ap (λ (xs : List Item). length (flat_map component_of xs)) e ∙ components) refl)
       of_declared s (machine d) e = below _ _ (within machine_of before is _ _ (ap (λ (xs : List Item). length (flat_map machine_of xs)) e ∙ machines) refl)
       of_declared s (interface d) e = refl
-      of_declared s (instance d) e = refl
-      of_declared s (topology d) e = refl
+      of_declared s (instance d) e = below _ _ (within instance_of before is _ _ (ap (λ (xs : List Item). length (flat_map instance_of xs)) e ∙ instances) refl)
+      of_declared s (topology d) e = below _ _ (within topology_of before is _ _ (ap (λ (xs : List Item). length (flat_map topology_of xs)) e ∙ topologies) refl)
   one_lies before is (item.Used since n) e = refl
   one_lies before is (item.Written since p) e = refl
 

@@ -1,5 +1,6 @@
 -- What a source breaks, phase by phase: the rules of names; then those of values, which are those of constants, of types, of formats and of what
--- belongs to components; then those of ports, dictionaries and components; and then those of state machines and their instances.
+-- belongs to components; then those of ports, dictionaries and components; those of state machines and their instances; those of instances of
+-- components; those of topologies; and then those of numbering, over all topologies.
 use Rattle.std.specs.Prelude.{List, [], ◌∷◌}
 use Rattle.fp_base.specs.declared.refusal.Refusal.{Refusal}
 use Rattle.fp_base.specs.Least.{Either}
@@ -15,6 +16,7 @@ use Rattle.fp_part_values.specs.Broken.{PartValuesBroken}
 use Rattle.fp_source_components.specs.Broken.{PartsBroken}
 use Rattle.fp_source_components.specs.Machines.{InstancesBroken}
 use Rattle.fp_source_machines.specs.Broken.{MachinesBroken}
+use Rattle.fp_source_topologies.specs.Broken.{SourceInstancesBroken, SourceNumbersBroken, SourceTopologiesBroken}
 use Rattle.fp_model.specs.Phases.{InPhases}
 
 -- what is written of the types is one list
@@ -32,7 +34,9 @@ StatesBroken source = Either (MachinesBroken source) (InstancesBroken source)
 
 -- the earliest first
 abbrev pub phases : Source → List (Refusal → Type 0)
-phases source = NamesBroken source ∷ ValuesBroken source ∷ PartsBroken source ∷ StatesBroken source ∷ []
+phases source =
+    NamesBroken source ∷ ValuesBroken source ∷ PartsBroken source ∷ StatesBroken source ∷ SourceInstancesBroken source ∷ SourceTopologiesBroken source
+    ∷ SourceNumbersBroken source ∷ []
 
 -- broken in the earliest phase in which something is
 abbrev pub ModelBroken : Source → Refusal → Type 0

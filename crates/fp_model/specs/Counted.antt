@@ -6,11 +6,11 @@ use Rattle.fp_tables.specs.declared.model.Item.{Item as Ordered}
 use Rattle.fp_tables.specs.declared.model.Item.TheVariants as ordered
 use Rattle.fp_meaning.specs.declared.item.Item.{Item}
 use Rattle.fp_meaning.specs.declared.item.Item.TheVariants as item
-use Rattle.fp_meaning.specs.Sites.{ModelDef, component, machine}
+use Rattle.fp_meaning.specs.Sites.{ModelDef, component, instance, machine, topology}
 use Rattle.fp_model.specs.declared.ordering.Counts.{Counts}
 
 abbrev pub none_before : Counts
-none_before = record { constants = 0; kinds = 0; ports = 0; components = 0; machines = 0 }
+none_before = record { constants = 0; kinds = 0; ports = 0; components = 0; machines = 0; instances = 0; topologies = 0 }
 
 abbrev pub order_by : Counts → Def → Ordered
 order_by n (def.Constant d) = ordered.Constant n.constants
@@ -19,18 +19,22 @@ order_by n _ = ordered.Kind n.kinds
 
 -- with one of that sort more
 abbrev pub counted : Counts → Def → Counts
-counted n (def.Constant d) = record { constants = n.constants + 1; kinds = n.kinds; ports = n.ports; components = n.components; machines = n.machines }
-counted n (def.Port p) = record { constants = n.constants; kinds = n.kinds; ports = n.ports + 1; components = n.components; machines = n.machines }
-counted n _ = record { constants = n.constants; kinds = n.kinds + 1; ports = n.ports; components = n.components; machines = n.machines }
+counted n (def.Constant d) = record n { constants = n.constants + 1 }
+counted n (def.Port p) = record n { ports = n.ports + 1 }
+counted n _ = record n { kinds = n.kinds + 1 }
 
 abbrev pub order_by_model : Counts → ModelDef → List Ordered
 order_by_model n (component c) = ordered.Component n.components ∷ []
 order_by_model n (machine d) = ordered.Machine n.machines ∷ []
+order_by_model n (instance d) = ordered.Instance n.instances ∷ []
+order_by_model n (topology d) = ordered.Topology n.topologies ∷ []
 order_by_model n _ = []
 
 abbrev pub counted_model : Counts → ModelDef → Counts
-counted_model n (component c) = record { constants = n.constants; kinds = n.kinds; ports = n.ports; components = n.components + 1; machines = n.machines }
-counted_model n (machine d) = record { constants = n.constants; kinds = n.kinds; ports = n.ports; components = n.components; machines = n.machines + 1 }
+counted_model n (component c) = record n { components = n.components + 1 }
+counted_model n (machine d) = record n { machines = n.machines + 1 }
+counted_model n (instance d) = record n { instances = n.instances + 1 }
+counted_model n (topology d) = record n { topologies = n.topologies + 1 }
 counted_model n _ = n
 
 abbrev pub order_with : Counts → Item → List Ordered

@@ -1,6 +1,6 @@
--- The constants of a source, and the order of its definitions of constants, types, ports, components and state machines. FPP Language Specification,
--- "Constant Definitions", "Component Definitions", "State Machine Definitions", "Names of Definitions".
--- This profile: instances and topologies aren't listed yet, so that they have no place in the order; interfaces are never listed.
+-- The constants of a source, and the order of its definitions. FPP Language Specification, "Constant Definitions", "Component Definitions",
+-- "State Machine Definitions", "Component Instance Definitions", "Topology Definitions", "Names of Definitions".
+-- This profile: interfaces are never listed, so that they have no place in the order.
 use Rattle.std.specs.Prelude.{ℕ, List, [], ◌∷◌, ◌++◌, length, flat_map}
 use Rattle.fp_tree.specs.declared.source.Source.{Source}
 use Rattle.fp_tree.specs.declared.definition.Def.{Def}
@@ -13,11 +13,12 @@ use Rattle.fp_meaning.specs.declared.item.Item.{Item}
 use Rattle.fp_meaning.specs.declared.item.Item.TheVariants as item
 use Rattle.fp_meaning.specs.Layout.{items}
 use Rattle.fp_meaning.specs.Names.{Path}
-use Rattle.fp_meaning.specs.Sites.{ModelDef, component, machine}
+use Rattle.fp_meaning.specs.Sites.{ModelDef, component, instance, machine, topology}
 use Rattle.fp_meaning.specs.Values.{dotted}
 use Rattle.fp_type_forms.specs.Written.{types_of}
 use Rattle.fp_component_forms.specs.Written.{component_of, port_of}
 use Rattle.fp_source_components.specs.Machines.{machine_of}
+use Rattle.fp_topology_forms.specs.Written.{instance_of, topology_of}
 
 -- the name behind those of the modules round it, with a dot between each two
 abbrev pub qualified : Path → Name → List ℕ
@@ -52,6 +53,8 @@ order_in before _ = ordered.Kind (length (flat_map types_of before))
 abbrev pub order_declared : List Item → ModelDef → List Ordered
 order_declared before (component c) = ordered.Component (length (flat_map component_of before)) ∷ []
 order_declared before (machine d) = ordered.Machine (length (flat_map machine_of before)) ∷ []
+order_declared before (instance d) = ordered.Instance (length (flat_map instance_of before)) ∷ []
+order_declared before (topology d) = ordered.Topology (length (flat_map topology_of before)) ∷ []
 order_declared before _ = []
 
 abbrev pub order_of : List Item → Item → List Ordered
@@ -63,6 +66,6 @@ abbrev pub order_behind : List Item → List Item → List Ordered
 order_behind before [] = []
 order_behind before (i ∷ is) = order_of before i ++ order_behind (before ++ i ∷ []) is
 
--- all definitions of constants, types, ports, components and state machines in the order of the source
+-- all definitions in the order of the source
 abbrev pub order : Source → List Ordered
 order source = order_behind [] (items source)

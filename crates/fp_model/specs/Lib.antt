@@ -4,3 +4,4 @@ pub mod Definitions
 pub mod Defined
 pub mod Given
 pub mod Counted
+pub mod Joined

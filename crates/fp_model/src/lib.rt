@@ -3,11 +3,13 @@
 
 mod assembling;
 mod constants;
+mod joining;
 mod laws;
 mod naming;
 mod ordering;
 mod qualifying;
 mod resolving;
+mod settling;
 mod valuing;
 
 pub use laws::defined_is_sound;

@@ -1,7 +1,7 @@
 ghost use Rattle.std.specs.Prelude.{◌≡◌, ◌+◌, ◌++◌, ◌∷◌, [], IfOk, List};
 ghost use Rattle.fp_meaning.specs.declared.item.Item.{Item as Laid};
 ghost use Rattle.fp_meaning.specs.Read.{read};
-ghost use Rattle.fp_tables.specs.declared.model.Item.TheVariants.{Component, Machine};
+ghost use Rattle.fp_tables.specs.declared.model.Item.TheVariants.{Component, Instance, Machine, Topology};
 ghost use Rattle.fp_model.specs.Counted.{counted, counted_model, none_before, order_by, order_by_model, order_from};
 ghost use Rattle.fp_model.specs.Definitions.{order_behind};
 
@@ -11,7 +11,7 @@ use fp_tables::Item as Ordered;
 use fp_tree::Def;
 use std::alloc::Global;
 
-/// How many constants, types, ports, components and state machines stand before an item.
+/// How many definitions of each sort stand before an item.
 #[derive(Clone, Copy)]
 pub struct Counts {
     pub constants: u32,
@@ -19,6 +19,8 @@ pub struct Counts {
     pub ports: u32,
     pub components: u32,
     pub machines: u32,
+    pub instances: u32,
+    pub topologies: u32,
 }
 
 /// The definitions among items, in their order. Want of memory where so many of one sort have no number.
@@ -48,6 +50,8 @@ fn none_before() -> Counts
         ports: 0,
         components: 0,
         machines: 0,
+        instances: 0,
+        topologies: 0,
     }
 }
 
@@ -75,7 +79,7 @@ fn add_definition(
     counted(definition, before)
 }
 
-/// A component and a state machine are listed; what else is declared has no place in the order.
+/// What is declared is listed, but for interfaces.
 fn add_declared(
     definition: ModelDef,
     before: Counts,
@@ -88,38 +92,53 @@ fn add_declared(
         ModelDef::Machine(_) => add_machine(before, found),
         ModelDef::Component(_) => add_component(before, found),
         ModelDef::Interface(_) => Ok(before),
-        ModelDef::Instance(_) => Ok(before),
-        ModelDef::Topology(_) => Ok(before),
+        ModelDef::Instance(_) => add_instance(before, found),
+        ModelDef::Topology(_) => add_topology(before, found),
     }
 }
 
 fn add_component(before: Counts, found: &mut Row<Ordered>) -> Result<Counts, NoMemory>
     ensures found { IfOk result (λ after. found.new ≡ found.old ++ Component before.components ∷ []) }
-    ensures counts { IfOk result (λ after. after ≡ record { constants = before.constants; kinds = before.kinds; ports = before.ports; components = before.components + 1; machines = before.machines }) }
+    ensures counts { IfOk result (λ after. after ≡ record before { components = before.components + 1 }) }
 {
     found.push(Ordered::Component(before.components))?;
     let components = one_more(before.components)?;
     Ok(Counts {
-        constants: before.constants,
-        kinds: before.kinds,
-        ports: before.ports,
         components,
-        machines: before.machines,
+        ..before
     })
 }
 
 fn add_machine(before: Counts, found: &mut Row<Ordered>) -> Result<Counts, NoMemory>
     ensures found { IfOk result (λ after. found.new ≡ found.old ++ Machine before.machines ∷ []) }
-    ensures counts { IfOk result (λ after. after ≡ record { constants = before.constants; kinds = before.kinds; ports = before.ports; components = before.components; machines = before.machines + 1 }) }
+    ensures counts { IfOk result (λ after. after ≡ record before { machines = before.machines + 1 }) }
 {
     found.push(Ordered::Machine(before.machines))?;
     let machines = one_more(before.machines)?;
+    Ok(Counts { machines, ..before })
+}
+
+fn add_instance(before: Counts, found: &mut Row<Ordered>) -> Result<Counts, NoMemory>
+    ensures found { IfOk result (λ after. found.new ≡ found.old ++ Instance before.instances ∷ []) }
+    ensures counts { IfOk result (λ after. after ≡ record before { instances = before.instances + 1 }) }
+{
+    found.push(Ordered::Instance(before.instances))?;
+    let instances = one_more(before.instances)?;
     Ok(Counts {
-        constants: before.constants,
-        kinds: before.kinds,
-        ports: before.ports,
-        components: before.components,
-        machines,
+        instances,
+        ..before
+    })
+}
+
+fn add_topology(before: Counts, found: &mut Row<Ordered>) -> Result<Counts, NoMemory>
+    ensures found { IfOk result (λ after. found.new ≡ found.old ++ Topology before.topologies ∷ []) }
+    ensures counts { IfOk result (λ after. after ≡ record before { topologies = before.topologies + 1 }) }
+{
+    found.push(Ordered::Topology(before.topologies))?;
+    let topologies = one_more(before.topologies)?;
+    Ok(Counts {
+        topologies,
+        ..before
     })
 }
 
@@ -152,42 +171,27 @@ fn counted(definition: &Def, before: Counts) -> Result<Counts, NoMemory>
 }
 
 fn with_constant(before: Counts) -> Result<Counts, NoMemory>
-    ensures { IfOk result (λ after. after ≡ record { constants = before.constants + 1; kinds = before.kinds; ports = before.ports; components = before.components; machines = before.machines }) }
+    ensures { IfOk result (λ after. after ≡ record before { constants = before.constants + 1 }) }
 {
     let constants = one_more(before.constants)?;
     Ok(Counts {
         constants,
-        kinds: before.kinds,
-        ports: before.ports,
-        components: before.components,
-        machines: before.machines,
+        ..before
     })
 }
 
 fn with_kind(before: Counts) -> Result<Counts, NoMemory>
-    ensures { IfOk result (λ after. after ≡ record { constants = before.constants; kinds = before.kinds + 1; ports = before.ports; components = before.components; machines = before.machines }) }
+    ensures { IfOk result (λ after. after ≡ record before { kinds = before.kinds + 1 }) }
 {
     let kinds = one_more(before.kinds)?;
-    Ok(Counts {
-        constants: before.constants,
-        kinds,
-        ports: before.ports,
-        components: before.components,
-        machines: before.machines,
-    })
+    Ok(Counts { kinds, ..before })
 }
 
 fn with_port(before: Counts) -> Result<Counts, NoMemory>
-    ensures { IfOk result (λ after. after ≡ record { constants = before.constants; kinds = before.kinds; ports = before.ports + 1; components = before.components; machines = before.machines }) }
+    ensures { IfOk result (λ after. after ≡ record before { ports = before.ports + 1 }) }
 {
     let ports = one_more(before.ports)?;
-    Ok(Counts {
-        constants: before.constants,
-        kinds: before.kinds,
-        ports,
-        components: before.components,
-        machines: before.machines,
-    })
+    Ok(Counts { ports, ..before })
 }
 
 fn one_more(count: u32) -> Result<u32, NoMemory>

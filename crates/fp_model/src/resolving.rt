@@ -1,34 +1,24 @@
-ghost use Rattle.std.specs.Prelude.{◌≡◌, IfErr, IfOk, OnOk, map, Some, true};
-ghost use Rattle.std.specs.List.{list_all};
-ghost use Rattle.fp_base.specs.Least.{IsLeast, IsUnbroken};
+ghost use Rattle.std.specs.Prelude.{◌≡◌, ℕ, IfErr, IfOk, OnOk, Some, slice_get};
+ghost use Rattle.fp_base.specs.Least.{IsUnbroken};
 ghost use Rattle.fp_consts.specs.Answered.{IsStop};
-ghost use Rattle.fp_meaning.specs.Layout as layout;
 ghost use Rattle.fp_names.specs.Named.{PartsAreNamed};
-ghost use Rattle.fp_source_components.specs.Machines.{InstancesBroken};
-ghost use Rattle.fp_source_machines.specs.Built.{AreMachinesOf};
 ghost use Rattle.fp_source_machines.specs.Ordered.{MachinesAreOrdered};
 ghost use Rattle.fp_source_types.specs.Listed.{EnumsHaveConstants};
 ghost use Rattle.fp_source_types.specs.Named.{DefinitionsAreNamed, FieldsAreNamed};
-ghost use Rattle.fp_source_types.specs.Typed.{AreTypesOf};
-ghost use Rattle.fp_tables.specs.Positions.{machine_is_short};
-ghost use Rattle.fp_tables.specs.Sound.{IsSound};
-ghost use Rattle.fp_tables.specs.declared.kind.TypeDef.{TypeDef as Given};
-ghost use Rattle.fp_type_forms.specs.Resolved.{AreResolved};
-ghost use Rattle.fp_model.specs.Broken.{ModelBroken, StatesBroken};
+ghost use Rattle.fp_tables.specs.Sound.{IsSound, IsSoundWith};
+ghost use Rattle.fp_tables.specs.declared.topology.Topology.{Topology};
+ghost use Rattle.fp_model.specs.Broken.{ModelBroken};
 ghost use Rattle.fp_model.specs.Defined.{Defined};
 
 use crate::assembling::model_of;
-use crate::laws::defined_is_sound;
-use crate::naming::{names_of, uses_of};
-use crate::valuing::{Valued, values_of};
-use fp_base::{Refusal, Row, Stop, Value, lesser};
+use crate::joining::{deployed_in, numbered};
+use crate::laws::{defined_is_sound, joined_lies};
+use crate::settling::{Settled, settled_in};
+use fp_base::Stop;
 use fp_layout::lay_out;
-use fp_meaning::Item;
-use fp_source_components::{Found, parts_of};
-use fp_source_machines::{machine_faults, machines_built};
-use fp_tables::{Machine, Model, TypeDef};
+use fp_sound_deployments::numbering_keeps_topologies;
+use fp_tables::Model;
 use fp_tree::Source;
-use fp_type_forms::Resolution;
 use std::alloc::Global;
 
 /// The model that a source defines, or the rule that it breaks first: of the earliest phase that is broken the least by file, line, column
@@ -41,64 +31,27 @@ pub fn resolve(alloc: Global, source: &Source) -> Result<Model, Stop>
     requires machines { MachinesAreOrdered source.now }
     ensures defined { IfOk result (Defined source.now) }
     ensures sound { IfOk result IsSound }
+    ensures sound_with { IfOk result (λ model. (t : ℕ) (o : Topology) → slice_get model.topologies t ≡ Some o → IsSoundWith model o) }
     ensures unbroken { OnOk result (IsUnbroken (ModelBroken source.now)) }
     ensures stop { IfErr result (IsStop (ModelBroken source.now)) }
 {
     defined_is_sound();
+    joined_lies();
+    numbering_keeps_topologies();
     let layout = lay_out(alloc, source)?;
     let items = layout.items();
-    let names = names_of(alloc, source)?;
-    let uses = uses_of(alloc, source, &names)?;
-    let valued = values_of(alloc, source, items, &names, &uses)?;
-    let Valued {
+    let settled = settled_in(alloc, source, items)?;
+    let Settled {
         values,
         measured,
         types,
-    } = valued;
+        parts,
+        machines,
+    } = settled;
     let at = values.as_slice();
-    let found = parts_of(alloc, source, items, at, &measured, types.as_slice())?;
-    let Found { parts, running } = found;
     let resolutions = measured.resolutions.as_slice();
-    let machines = machines_of(
-        alloc,
-        source,
-        items,
-        resolutions,
-        at,
-        types.as_slice(),
-        running,
-    )?;
-    let model = model_of(alloc, items, at, types, parts, machines)?;
+    let deployed = deployed_in(alloc, source, items, resolutions, at, &parts)?;
+    let joined = model_of(alloc, items, at, types, parts, machines, deployed)?;
+    let model = numbered(alloc, source, joined)?;
     Ok(model)
-}
-
-/// The state machines of a source, or the least rule that they or, by `running`, instances of them break.
-fn machines_of(
-    alloc: Global,
-    source: &Source,
-    items: &[Item],
-    resolutions: &[Resolution],
-    values: &[Option<Value>],
-    types: &[TypeDef],
-    running: Option<Refusal>,
-) -> Result<Row<Machine>, Stop>
-    requires laid { items.now ≡ layout.items source.now }
-    requires resolved { AreResolved source.now values.now resolutions.now items.now 0 }
-    requires given { AreTypesOf source.now (map (λ (d : Given). Some d) types.now) }
-    requires ordered { MachinesAreOrdered source.now }
-    requires running { IsLeast (InstancesBroken source.now) running }
-    ensures machines { IfOk result (AreMachinesOf source.now) }
-    ensures short { IfOk result (λ machines. list_all machine_is_short machines ≡ true) }
-    ensures unbroken { OnOk result (IsUnbroken (StatesBroken source.now)) }
-    ensures stop { IfErr result (IsStop (StatesBroken source.now)) }
-{
-    let of_machines = machine_faults(alloc, items, resolutions, values, types)?;
-    let first = lesser(of_machines, running);
-    match first {
-        Some(refusal) => Err(Stop::Broken(refusal)),
-        None => {
-            let machines = machines_built(alloc, items, resolutions, values)?;
-            Ok(machines)
-        }
-    }
 }

@@ -8,7 +8,7 @@ use Rattle.fp_grammar.specs.Promises.{Fits}
 use Rattle.fp_grammar.proofs.Fits.{good_of}
 use Rattle.fp_parse_pieces.specs.Kinds.{kind}
 use Rattle.fp_parse_defs.specs.Reading.{limit}
-use Rattle.fp_parse_parts.specs.Units.{unit, unit_probe, component_parts, component_probe, topology_members, topology_probe, SpellsInside, BreaksInside}
+use Rattle.fp_parse_parts.specs.Units.{unit, component_parts, component_probe, topology_members, topology_probe, SpellsInside, BreaksInside}
 use Rattle.fp_parse_parts.specs.declared.parsing.Inside.{Inside}
 use Rattle.fp_parse_parts.specs.declared.parsing.Inside.TheVariants as inside
 use Rattle.fp_parse_parts.specs.declared.parsing.Members.{Members}
@@ -37,12 +37,12 @@ one_list tokens inside.Topology (found.Unit xs) ys s t = absurd s
 one_list tokens inside.Topology (found.Component xs) ys s t = absurd s
 
 pub one_break : (tokens : List Token) (i : Inside) (rule other : Rule) (place elsewhere : Place) → BreaksInside tokens i rule place → BreaksInside tokens i other elsewhere → (rule ≡ other) × (place ≡ elsewhere)
-one_break tokens inside.Unit = breaking.one_break unit unit_probe tokens
+one_break tokens inside.Unit = breaking.one_break unit topology_probe tokens
 one_break tokens inside.Component = breaking.one_break component_parts component_probe tokens
 one_break tokens inside.Topology = breaking.one_break topology_members topology_probe tokens
 
 pub broken_no_list : (tokens : List Token) (i : Inside) (rule : Rule) (place : Place) (xs : Members) → BreaksInside tokens i rule place → SpellsInside tokens i xs → ⊥
-broken_no_list tokens inside.Unit rule place (found.Unit xs) b s = breaking.broken_no_file unit unit_probe tokens rule place xs b s
+broken_no_list tokens inside.Unit rule place (found.Unit xs) b s = breaking.broken_no_file unit topology_probe tokens rule place xs b s
 broken_no_list tokens inside.Unit rule place (found.Component xs) b s = s
 broken_no_list tokens inside.Unit rule place (found.Topology xs) b s = s
 broken_no_list tokens inside.Component rule place (found.Component xs) b s = breaking.broken_no_file component_parts component_probe tokens rule place xs b s

@@ -1,5 +1,5 @@
 mod WordsBelow
-mod Omitting
+mod AmongWords
 mod MembersFit
 mod Semicolons
 mod Reaching

@@ -1,4 +1,4 @@
-pub mod Omitted
+pub mod FirstWords
 pub mod Models
 pub mod Members
 pub mod Files

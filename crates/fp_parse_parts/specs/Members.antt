@@ -1,5 +1,5 @@
 -- The grammar of the members of files and modules. FPP Language Specification, "Translation Units and Models", "Module Definitions",
--- "Include Specifiers" and "Location Specifiers". Members of a model that begin with words of a list aren't in it.
+-- "Include Specifiers" and "Location Specifiers".
 use Rattle.std.specs.Prelude.{ℕ, zero, suc, ltb, Bool, false, List, [], ◌∷◌, ◌++◌, length}
 use Rattle.fp_base.specs.declared.place.Span.{Span}
 use Rattle.fp_lexer.specs.Words.{words, reserved, mark}
@@ -24,7 +24,6 @@ use Rattle.fp_parse_pieces.specs.Lists.{joined, some_of, or_none}
 use Rattle.fp_parse_pieces.specs.Words.{literal_string}
 pub use Rattle.fp_parse_defs.specs.Definitions.{noted_definition}
 use Rattle.fp_parse_parts.specs.Models.{any_model, model_begins, model_goes_on}
-use Rattle.fp_parse_parts.specs.Omitted.{without}
 use Rattle.fp_parse_defs.specs.Definitions.{definition, expr_goes_on, k_array, k_arrow, k_constant, k_default, k_enum, k_format, k_port, k_size, k_struct, k_type}
 
 abbrev pub k_semicolon : ℕ
@@ -96,9 +95,9 @@ made_locate (at, (of, (before_file, file))) = bare.Locate of file (between at fi
 abbrev pub locate : Grammar Token BareMember
 locate = map made_locate (seq locate_words (seq qual (seq (at k_at) literal_string)))
 
--- the members that say what a model is put together from, but those that begin with one of the words left out
-abbrev pub model_member : List ℕ → ℕ → Grammar Token BareMember
-model_member omitted expressions = map bare.Model (without omitted (any_model expressions) model_begins model_goes_on)
+-- the members that say what a model is put together from
+abbrev pub model_member : ℕ → Grammar Token BareMember
+model_member expressions = map bare.Model (seal kind (any_model expressions) model_begins model_goes_on)
 
 -- a member of a model with this annotation
 abbrev pub noted_model : ModelMember → List ℕ → Member
@@ -124,50 +123,50 @@ abbrev pub module_from : Language Token BareMember → Grammar Token BareMember
 module_from modules = ref (record { spells = modules; productive = false; first = k_module ∷ []; extends = [] })
 
 -- Def | Machine | Component | Interface | Instance | Topology
-abbrev pub definition_or_model : List ℕ → ℕ → Grammar Token BareMember
-definition_or_model omitted expressions = alt (definition_member expressions) (model_member omitted expressions)
+abbrev pub definition_or_model : ℕ → Grammar Token BareMember
+definition_or_model expressions = alt (definition_member expressions) (model_member expressions)
 
 -- Include | Locate | Def | Machine | Component | Interface | Instance | Topology
-abbrev pub other_member : List ℕ → ℕ → Grammar Token BareMember
-other_member omitted expressions = alt include (alt locate (definition_or_model omitted expressions))
+abbrev pub other_member : ℕ → Grammar Token BareMember
+other_member expressions = alt include (alt locate (definition_or_model expressions))
 
 -- Member = Module | Include | Locate | Def | Machine | Component | Interface | Instance | Topology
-abbrev pub member_of : List ℕ → ℕ → Language Token BareMember → Grammar Token BareMember
-member_of omitted expressions modules = alt (module_from modules) (other_member omitted expressions)
+abbrev pub member_of : ℕ → Language Token BareMember → Grammar Token BareMember
+member_of expressions modules = alt (module_from modules) (other_member expressions)
 
 -- Member+;
-abbrev pub some_members_of : List ℕ → ℕ → Language Token BareMember → Grammar Token (List Member)
-some_members_of omitted expressions modules = some_of semicolons with_member [] (member_of omitted expressions modules)
+abbrev pub some_members_of : ℕ → Language Token BareMember → Grammar Token (List Member)
+some_members_of expressions modules = some_of semicolons with_member [] (member_of expressions modules)
 
 -- Member*;
-abbrev pub members_of : List ℕ → ℕ → Language Token BareMember → Grammar Token (List Member)
-members_of omitted expressions modules = map or_none (optional (some_members_of omitted expressions modules))
+abbrev pub members_of : ℕ → Language Token BareMember → Grammar Token (List Member)
+members_of expressions modules = map or_none (optional (some_members_of expressions modules))
 
 abbrev pub made_module : Span × (Name × (List Member × Span)) → BareMember
 made_module (at, (name, (members, closing))) = bare.Module name members (between at closing)
 
 -- Module = 'module' name '{' Member*; '}'
-abbrev pub module_of : List ℕ → ℕ → Language Token BareMember → Grammar Token BareMember
-module_of omitted expressions modules = map made_module (seq (at k_module) (seq name (after k_open_brace (seq (members_of omitted expressions modules) (at k_close_brace)))))
+abbrev pub module_of : ℕ → Language Token BareMember → Grammar Token BareMember
+module_of expressions modules = map made_module (seq (at k_module) (seq name (after k_open_brace (seq (members_of expressions modules) (at k_close_brace)))))
 
 -- modules, of which at most so many nest: with no depth left there are none; else what stands in one has one depth less
-abbrev pub modules : List ℕ → ℕ → ℕ → Language Token BareMember
-modules omitted expressions zero = λ w x. ⊥
-modules omitted expressions (suc depth) = Spells kind (module_of omitted expressions (modules omitted expressions depth))
+abbrev pub modules : ℕ → ℕ → Language Token BareMember
+modules expressions zero = λ w x. ⊥
+modules expressions (suc depth) = Spells kind (module_of expressions (modules expressions depth))
 
 -- these, where expressions and modules nest at most so deep
-abbrev pub nested_module : List ℕ → ℕ → ℕ → Grammar Token BareMember
-nested_module omitted expressions depth = module_from (modules omitted expressions depth)
+abbrev pub nested_module : ℕ → ℕ → Grammar Token BareMember
+nested_module expressions depth = module_from (modules expressions depth)
 
-abbrev pub member : List ℕ → ℕ → ℕ → Grammar Token BareMember
-member omitted expressions depth = member_of omitted expressions (modules omitted expressions depth)
+abbrev pub member : ℕ → ℕ → Grammar Token BareMember
+member expressions depth = member_of expressions (modules expressions depth)
 
-abbrev pub some_members : List ℕ → ℕ → ℕ → Grammar Token (List Member)
-some_members omitted expressions depth = some_members_of omitted expressions (modules omitted expressions depth)
+abbrev pub some_members : ℕ → ℕ → Grammar Token (List Member)
+some_members expressions depth = some_members_of expressions (modules expressions depth)
 
-abbrev pub members : List ℕ → ℕ → ℕ → Grammar Token (List Member)
-members omitted expressions depth = members_of omitted expressions (modules omitted expressions depth)
+abbrev pub members : ℕ → ℕ → Grammar Token (List Member)
+members expressions depth = members_of expressions (modules expressions depth)
 
 -- a module with this much depth left inside it
-abbrev pub opened_module : List ℕ → ℕ → ℕ → Grammar Token BareMember
-opened_module omitted expressions depth = module_of omitted expressions (modules omitted expressions depth)
+abbrev pub opened_module : ℕ → ℕ → Grammar Token BareMember
+opened_module expressions depth = module_of expressions (modules expressions depth)

@@ -13,7 +13,7 @@ use Rattle.fp_parse_topologies.specs.Instances.{component_instance, k_at, k_cpu,
 use Rattle.fp_parse_topologies.specs.Topologies.{topology}
 use Rattle.fp_parse_parts.specs.declared.bare.ModelMember.{ModelMember}
 use Rattle.fp_parse_parts.specs.declared.bare.ModelMember.TheVariants as model
-use Rattle.fp_parse_parts.specs.Omitted.{kinds_of}
+use Rattle.fp_parse_parts.specs.FirstWords.{kinds_of}
 
 abbrev pub machine_member : ℕ → Grammar Token ModelMember
 machine_member depth = map model.Machine (machine depth)

@@ -15,7 +15,6 @@ use Rattle.fp_grammar.specs.Grammar.{Grammar}
 use Rattle.fp_parse_components.specs.Parts as components
 use Rattle.fp_parse_topologies.specs.Topologies as topologies
 use Rattle.fp_parse_parts.specs.Members.{members}
-use Rattle.fp_parse_parts.specs.Omitted.{is_one_of, unbuilt}
 use Rattle.fp_parse_parts.specs.Files.{Probe, SpellsFile, BreaksFile, StopsFile}
 use Rattle.fp_parse_parts.specs.declared.parsing.Inside.{Inside}
 use Rattle.fp_parse_parts.specs.declared.parsing.Inside.TheVariants as inside
@@ -24,7 +23,7 @@ use Rattle.fp_parse_parts.specs.declared.parsing.Members.TheVariants as found
 
 -- Unit = Member*; where modules nest at most so deep, and expressions too, each counted apart
 abbrev pub unit : ℕ → Grammar Token (List Member)
-unit depth = members unbuilt depth depth
+unit depth = members depth depth
 
 -- Part*; an import of an interface is one of them
 abbrev pub component_parts : ℕ → Grammar Token (List Part)
@@ -43,10 +42,6 @@ is_port _ = false
 abbrev pub topology_probe : Probe
 topology_probe what = cond (is_port what) (Some (reserved "private")) None
 
--- a `locate` may stand wherever a member of files and modules may begin, and nowhere else
-abbrev pub unit_probe : Probe
-unit_probe what = cond (is_one_of unbuilt what) (Some (reserved "locate")) (topology_probe what)
-
 -- no part of a component is left out
 abbrev pub component_probe : Probe
 component_probe what = None
@@ -57,11 +52,11 @@ SpellsUnit tokens xs = SpellsFile unit tokens xs
 
 -- this rule is broken at this place
 abbrev pub BreaksUnit : List Token → Rule → Place → Type 0
-BreaksUnit tokens rule place = BreaksFile unit unit_probe tokens rule place
+BreaksUnit tokens rule place = BreaksFile unit topology_probe tokens rule place
 
 -- why a parse of all the tokens stops
 abbrev pub StopsUnit : List Token → Stop → Type 0
-StopsUnit tokens stop = StopsFile unit unit_probe tokens stop
+StopsUnit tokens stop = StopsFile unit topology_probe tokens stop
 
 -- all the tokens spell these members of what they stand in
 abbrev pub SpellsInside : List Token → Inside → Members → Type 0

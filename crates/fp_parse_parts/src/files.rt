@@ -4,12 +4,11 @@ ghost use Rattle.fp_grammar.specs.Grammar.{Grammar};
 ghost use Rattle.fp_grammar.specs.Parses.{Parses};
 ghost use Rattle.fp_parse_pieces.specs.Kinds.{kind};
 ghost use Rattle.fp_parse_parts.specs.Files.{Probe};
-ghost use Rattle.fp_parse_parts.specs.Units.{component_parts, component_probe, is_port, topology_members, topology_probe, unit, unit_probe};
+ghost use Rattle.fp_parse_parts.specs.Units.{component_parts, component_probe, is_port, topology_members, topology_probe, unit};
 
 use crate::members::members;
-use crate::words::is_unbuilt;
 use fp_base::Row;
-use fp_lexer::reserved::{LOCATE, PORT, PRIVATE};
+use fp_lexer::reserved::{PORT, PRIVATE};
 use fp_lexer::{Token, Word};
 use fp_parse_components::PartList;
 use fp_parse_pieces::{Parsed, Piece};
@@ -42,18 +41,14 @@ impl FileKind for UnitFile {
 
     ghost grammar = { unit };
 
-    ghost probe = { unit_probe };
+    ghost probe = { topology_probe };
 
     fn read(alloc: Global, tokens: &[Token], depth: u32) -> Parsed<Row<Member>> {
         members(alloc, tokens, 0, depth, depth)
     }
 
     fn tried(word: &Word) -> Option<u8> {
-        if is_unbuilt(word) {
-            Some(LOCATE)
-        } else {
-            private_tried(word)
-        }
+        private_tried(word)
     }
 }
 

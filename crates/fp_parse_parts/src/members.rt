@@ -4,12 +4,11 @@ ghost use Rattle.fp_grammar.specs.Parses.{Parses};
 ghost use Rattle.fp_parse_pieces.specs.Kinds.{kind};
 ghost use Rattle.fp_parse_pieces.specs.Lists as L;
 ghost use Rattle.fp_parse_parts.specs.Members as M;
-ghost use Rattle.fp_parse_parts.specs.Omitted.{unbuilt};
 
 use crate::bare::BareMember;
 use crate::build::{include_of, locate_of, module_of, with_member};
 use crate::models::any_model;
-use crate::words::{locate_words, model_word_at, semicolon_at, unbuilt_at};
+use crate::words::{locate_words, model_word_at, semicolon_at};
 use fp_base::{Row, Text};
 use fp_grammar::Halt;
 use fp_lexer::Token;
@@ -53,18 +52,14 @@ fn definition_member(
     Ok((BareMember::Def(found), to))
 }
 
-// Reads a member of a model, if its meaning is built.
 fn model_member(
     alloc: Global,
     tokens: &[Token],
     from: usize,
     expressions: u32,
 ) -> Result<(BareMember, usize), Halt>
-    ensures { Parses kind (M.model_member unbuilt expressions) tokens.now from result }
+    ensures { Parses kind (M.model_member expressions) tokens.now from result }
 {
-    if unbuilt_at(tokens, from) {
-        return Err(Halt::Unexpected(from));
-    }
     let (found, to) = any_model(alloc, tokens, from, expressions)?;
     Ok((BareMember::Model(found), to))
 }
@@ -75,7 +70,7 @@ fn definition_or_model(
     from: usize,
     expressions: u32,
 ) -> Result<(BareMember, usize), Halt>
-    ensures { Parses kind (M.definition_or_model unbuilt expressions) tokens.now from result }
+    ensures { Parses kind (M.definition_or_model expressions) tokens.now from result }
 {
     if model_word_at(tokens, from) {
         return model_member(alloc, tokens, from, expressions);
@@ -90,7 +85,7 @@ fn other_member(
     from: usize,
     expressions: u32,
 ) -> Result<(BareMember, usize), Halt>
-    ensures { Parses kind (M.other_member unbuilt expressions) tokens.now from result }
+    ensures { Parses kind (M.other_member expressions) tokens.now from result }
 {
     if word_at(tokens, from, INCLUDE) {
         return include(alloc, tokens, from);
@@ -138,7 +133,7 @@ fn nested_module(
     expressions: u32,
     depth: u32,
 ) -> Result<(BareMember, usize), Halt>
-    ensures { Parses kind (M.nested_module unbuilt expressions depth) tokens.now from result }
+    ensures { Parses kind (M.nested_module expressions depth) tokens.now from result }
 {
     if depth == 0 {
         return Err(Halt::Unexpected(from));
@@ -154,7 +149,7 @@ fn opened_module(
     expressions: u32,
     depth: u32,
 ) -> Result<(BareMember, usize), Halt>
-    ensures { Parses kind (M.opened_module unbuilt expressions depth) tokens.now from result }
+    ensures { Parses kind (M.opened_module expressions depth) tokens.now from result }
 {
     let (word, at) = expect_word(tokens, from, MODULE)?;
     let (name, at) = expect_name(alloc, tokens, at)?;
@@ -172,7 +167,7 @@ fn member(
     expressions: u32,
     depth: u32,
 ) -> Result<(BareMember, usize), Halt>
-    ensures { Parses kind (M.member unbuilt expressions depth) tokens.now from result }
+    ensures { Parses kind (M.member expressions depth) tokens.now from result }
 {
     if word_at(tokens, from, MODULE) {
         return nested_module(alloc, tokens, from, expressions, depth);
@@ -188,7 +183,7 @@ fn annotated_member(
     expressions: u32,
     depth: u32,
 ) -> Result<((BareMember, Row<Text>), usize), Halt>
-    ensures { Parses kind (L.noted (M.member unbuilt expressions depth)) tokens.now from result }
+    ensures { Parses kind (L.noted (M.member expressions depth)) tokens.now from result }
 {
     let (lines, at) = before_lines(alloc, tokens, from)?;
     let (node, at) = member(alloc, tokens, at, expressions, depth)?;
@@ -204,7 +199,7 @@ fn some_members(
     expressions: u32,
     depth: u32,
 ) -> Result<(Row<Member>, usize), Halt>
-    ensures { Parses kind (M.some_members unbuilt expressions depth) tokens.now from result }
+    ensures { Parses kind (M.some_members expressions depth) tokens.now from result }
 {
     let ((first, first_lines), start) = annotated_member(alloc, tokens, from, expressions, depth)?;
     let mut all_members = Row::new(alloc);
@@ -244,7 +239,7 @@ pub fn members(
     expressions: u32,
     depth: u32,
 ) -> Result<(Row<Member>, usize), Halt>
-    ensures { Parses kind (M.members unbuilt expressions depth) tokens.now from result }
+    ensures { Parses kind (M.members expressions depth) tokens.now from result }
 {
     match some_members(alloc, tokens, from, expressions, depth) {
         Err(halt) => {

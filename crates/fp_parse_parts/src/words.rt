@@ -5,7 +5,7 @@ ghost use Rattle.fp_parse_pieces.specs.Kinds.{kind};
 ghost use Rattle.fp_parse_parts.specs.Members as M;
 ghost use Rattle.fp_parse_parts.specs.Members.{word_count, words_below};
 ghost use Rattle.fp_parse_parts.specs.Models.{model_begins};
-ghost use Rattle.fp_parse_parts.specs.Omitted.{is_one_of, kinds_of, unbuilt};
+ghost use Rattle.fp_parse_parts.specs.FirstWords.{is_one_of, kinds_of};
 
 use fp_base::Span;
 use fp_grammar::Halt;
@@ -15,9 +15,6 @@ use fp_lexer::reserved::{
 };
 use fp_lexer::{Token, Word};
 use fp_parse_pieces::expect_word;
-
-/// The first words of members whose meaning isn't built.
-const UNBUILT: [u8; 2] = [INSTANCE, TOPOLOGY];
 
 /// The first words of members that say what a model is put together from.
 const MODEL: [u8; 7] = [
@@ -39,13 +36,6 @@ fn is_one_of(words: &[u8], word: &Word) -> bool
     }
 }
 
-/// Whether a word begins members whose meaning isn't built.
-pub fn is_unbuilt(word: &Word) -> bool
-    ensures { result ≡ is_one_of unbuilt word.now }
-{
-    is_one_of(&UNBUILT, word)
-}
-
 fn one_of_at(words: &[u8], tokens: &[Token], at: usize) -> bool
     ensures { MatchBool result (NextAmong kind (kinds_of words.now) tokens.now at) (NextAmong kind (kinds_of words.now) tokens.now at → ⊥) }
 {
@@ -53,13 +43,6 @@ fn one_of_at(words: &[u8], tokens: &[Token], at: usize) -> bool
         Some(token) => is_one_of(words, &token.what),
         None => false,
     }
-}
-
-/// Whether a word that begins members whose meaning isn't built is at a position.
-pub fn unbuilt_at(tokens: &[Token], at: usize) -> bool
-    ensures { MatchBool result (NextAmong kind (kinds_of unbuilt) tokens.now at) (NextAmong kind (kinds_of unbuilt) tokens.now at → ⊥) }
-{
-    one_of_at(&UNBUILT, tokens, at)
 }
 
 /// Whether a word that begins a member of a model is at a position.

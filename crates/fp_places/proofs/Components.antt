@@ -292,10 +292,10 @@ module _ (G : Place → Type 0) (depth : ℕ) where
   port_yields = gives_alt (gives_map PartNoted made_general_part (λ p h note. h) general_yields)
       (gives_alt (gives_map PartNoted made_special_part (λ p h note. h) special_yields) internal_yields)
 
-  import_yields : Yields G imported (λ (i : Import). G i.at.first)
+  pub import_yields : Yields G imported (λ (i : Import). G i.at.first)
   import_yields = gives_map (λ (i : Import). G i.at.first) made_import (λ p h. h.0) (gives_seq (at_yields G k_import) gives_anything)
 
-  include_yields : Yields G included (λ (i : Include). G i.at.first)
+  pub include_yields : Yields G included (λ (i : Include). G i.at.first)
   include_yields = gives_map (λ (i : Include). G i.at.first) made_include (λ p h. h.0) (gives_seq (at_yields G k_include) gives_anything)
 
   other_yields : Yields G other_part PartNoted

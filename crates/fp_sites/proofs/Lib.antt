@@ -9,7 +9,7 @@ mod Definitions
 pub mod Held
 pub mod Known
 mod Machines
-mod Topologies
+pub mod Topologies
 pub mod Components
 pub mod Models
 mod Telling

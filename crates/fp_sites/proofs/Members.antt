@@ -150,10 +150,9 @@ module _ (G : Place → Type 0) (N : Name → Type 0) (expressions : ℕ) where
     modules = no_modules _ depth (model_depth m note);
   }
 
-  -- whatever words are left out
-  model_member_yields : (depth : ℕ) (omitted : List ℕ) → Yields G N (model_member omitted expressions) (SitedBare depth)
+  model_member_yields : (depth : ℕ) → Yields G N (model_member expressions) (SitedBare depth)
   unfolding told
-  model_member_yields depth omitted = gives_map (SitedBare depth) bare.Model (model_sited depth) (models_yield (told G N expressions) omitted)
+  model_member_yields depth = gives_map (SitedBare depth) bare.Model (model_sited depth) (models_yield (told G N expressions))
 
   included_sited : (depth : ℕ) (p : Span × Str) → G p.0.first × Unit {0} → SitedBare depth (made_include p)
   included_sited depth (at, file) h note = include_sited depth _ h.0
@@ -174,19 +173,19 @@ module _ (G : Place → Type 0) (N : Name → Type 0) (expressions : ℕ) where
   abbrev StandsAll : ℕ → Language Token BareMember → Type 0
   StandsAll depth language = LanguageGives (IsTold G N) language (SitedBare depth)
 
-  member_yields : (depth : ℕ) (omitted : List ℕ) (inner : Language Token BareMember) → StandsAll depth inner → Yields G N (member_of omitted expressions inner) (SitedBare depth)
-  member_yields depth omitted inner given =
-      gives_alt (gives_ref _ given) (gives_alt (include_yields depth) (gives_alt (locate_yields depth) (gives_alt (definition_member_yields depth) (model_member_yields depth omitted))))
+  member_yields : (depth : ℕ) (inner : Language Token BareMember) → StandsAll depth inner → Yields G N (member_of expressions inner) (SitedBare depth)
+  member_yields depth inner given =
+      gives_alt (gives_ref _ given) (gives_alt (include_yields depth) (gives_alt (locate_yields depth) (gives_alt (definition_member_yields depth) (model_member_yields depth))))
 
-  members_yield : (depth : ℕ) (omitted : List ℕ) (inner : Language Token BareMember) → StandsAll depth inner → Yields G N (members_of omitted expressions inner) (Each (SitedMember depth))
-  members_yield depth omitted inner given = gives_map (Each (SitedMember depth)) or_none (each_or_none (SitedMember depth))
-      (gives_optional (gives_some_of (SitedBare depth) (Each (SitedMember depth)) with_member (λ ms m lines h k. each_push (SitedMember depth) ms (noted_member m (joined lines)) h (k (joined lines))) semicolons [] tt (member_yields depth omitted inner given)))
+  members_yield : (depth : ℕ) (inner : Language Token BareMember) → StandsAll depth inner → Yields G N (members_of expressions inner) (Each (SitedMember depth))
+  members_yield depth inner given = gives_map (Each (SitedMember depth)) or_none (each_or_none (SitedMember depth))
+      (gives_optional (gives_some_of (SitedBare depth) (Each (SitedMember depth)) with_member (λ ms m lines h k. each_push (SitedMember depth) ms (noted_member m (joined lines)) h (k (joined lines))) semicolons [] tt (member_yields depth inner given)))
 
-  modules_stand : (omitted : List ℕ) (depth : ℕ) → StandsAll depth (modules omitted expressions depth)
-  modules_stand omitted zero = λ w m s h. absurd s
-  modules_stand omitted (suc depth) =
+  modules_stand : (depth : ℕ) → StandsAll depth (modules expressions depth)
+  modules_stand zero = λ w m s h. absurd s
+  modules_stand (suc depth) =
       (gives_map (SitedBare (suc depth)) made_module (moduled_sited depth)
-      (gives_seq (at_yields G N k_module) (gives_seq (name_yields G N) (gives_after k_open_brace (gives_seq (members_yield depth omitted (modules omitted expressions depth) (modules_stand omitted depth)) (at_yields G N k_close_brace)))))).given
+      (gives_seq (at_yields G N k_module) (gives_seq (name_yields G N) (gives_after k_open_brace (gives_seq (members_yield depth (modules expressions depth) (modules_stand depth)) (at_yields G N k_close_brace)))))).given
 
-  pub all_yield : (omitted : List ℕ) (depth : ℕ) → Yields G N (members omitted expressions depth) (Each (SitedMember depth))
-  all_yield omitted depth = members_yield depth omitted (modules omitted expressions depth) (modules_stand omitted depth)
+  pub all_yield : (depth : ℕ) → Yields G N (members expressions depth) (Each (SitedMember depth))
+  all_yield depth = members_yield depth (modules expressions depth) (modules_stand depth)

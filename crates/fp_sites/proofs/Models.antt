@@ -4,11 +4,12 @@ use Rattle.fp_parse_parts.specs.declared.bare.ModelMember.{ModelMember}
 use Rattle.fp_parse_parts.specs.declared.bare.ModelMember.TheVariants as model
 use Rattle.fp_parse_parts.specs.Members.{noted_model}
 use Rattle.fp_parse_parts.specs.Models.{any_model, model_begins, model_goes_on}
-use Rattle.fp_parse_parts.specs.Omitted.{without}
+use Rattle.fp_grammar.specs.Seal.{seal}
+use Rattle.fp_parse_pieces.specs.Kinds.{kind}
 use Rattle.fp_meaning.specs.Layout.{in_member}
 use Rattle.fp_meaning.proofs.Walks.{machine_gives, component_gives, interface_gives, instance_gives, topology_gives}
 use Rattle.fp_sites.specs.Names.{names_within}
-use Rattle.fp_sites.proofs.Preserving.{gives_alt, gives_map, gives_ref}
+use Rattle.fp_sites.proofs.Preserving.{gives_alt, gives_map, gives_seal}
 use Rattle.fp_sites.proofs.Held.{held_same}
 use Rattle.fp_sites.proofs.Known.{Known, Yields, Says}
 use Rattle.fp_sites.proofs.Machines.{machine_yields}
@@ -28,6 +29,5 @@ module _ {depth : ℕ} (law : Known depth) where
       (gives_map ModelSaid model.Instance (λ x h note. held_same (λ scope. instance_gives scope _) (instance_names _) (h note)) (instance_yields law))
       (gives_map ModelSaid model.Topology (λ x h note. held_same (λ scope. topology_gives scope _) (topology_names _) (h note)) (topology_yields law)))))
 
-  -- whatever words are left out
-  pub models_yield : (omitted : List ℕ) → Yields law (without omitted (any_model depth) model_begins model_goes_on) ModelSaid
-  models_yield omitted = gives_ref _ (λ w m s h. any_yields.given w m s.1 h)
+  pub models_yield : Yields law (seal kind (any_model depth) model_begins model_goes_on) ModelSaid
+  models_yield = gives_seal {a = any_model depth} model_begins model_goes_on any_yields

@@ -7,7 +7,6 @@ use Rattle.fp_tree.specs.declared.name.Name.{Name}
 use Rattle.fp_tree.specs.declared.member.Member.{Member}
 use Rattle.fp_meaning.specs.Origins.{Placed}
 use Rattle.fp_parse_defs.specs.Reading.{limit}
-use Rattle.fp_parse_parts.specs.Omitted.{unbuilt}
 use Rattle.fp_parse_parts.specs.Units.{SpellsUnit}
 use Rattle.fp_sites.specs.Depths.{depth_of}
 use Rattle.fp_sites.specs.Nesting.{KeepsLimit}
@@ -24,7 +23,7 @@ AnyName n = Unit {0}
 pub keeping : (tokens : List Token) (ms : List Member) → SpellsUnit tokens ms → KeepsLimit ms
 keeping tokens ms spelled =
     let told = each_of_any (IsTold AnyPlace AnyName) (λ t. record { begins = tt; named = λ text e. tt }) tokens in
-    let all = (all_yield AnyPlace AnyName limit unbuilt limit).given tokens ms spelled told in
+    let all = (all_yield AnyPlace AnyName limit limit).given tokens ms spelled told in
     record {
       expressions = λ scope p there. of_contained (λ (x : Placed). depth_of x.expression ≤ limit) _ p (kept_of_all AnyPlace AnyName limit limit ms all scope) there;
       modules = modules_of_all AnyPlace AnyName limit limit ms all;

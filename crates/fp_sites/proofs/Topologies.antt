@@ -30,8 +30,9 @@ use Rattle.fp_meaning.specs.Sites.{instance as instance_def, topology as topolog
 use Rattle.fp_meaning.specs.Layout.{port_use_items, connection_items, target_items, targets_items, topology_member_items, topology_items, instance_items}
 use Rattle.fp_base.proofs.Lists.{InOption, each_append}
 use Rattle.fp_sites.specs.Parts.{names_in_expression}
+use Rattle.fp_sites.specs.Sites.{in_topology}
 use Rattle.fp_sites.specs.Topologies.{names_in_phase, names_in_instance, names_in_port_use, names_in_connection, names_in_targets, names_in_topology_member, names_in_topology}
-use Rattle.fp_sites.proofs.Preserving.{gives_anything, gives_map, gives_seq, gives_alt, gives_optional, gives_after}
+use Rattle.fp_sites.proofs.Preserving.{gives_anything, gives_both, gives_less, gives_map, gives_seq, gives_alt, gives_optional, gives_after}
 use Rattle.fp_sites.proofs.Lists.{gives_any_noted, list_named}
 use Rattle.fp_sites.proofs.Held.{held_names, held_both, held_named, held_before, held_list}
 use Rattle.fp_sites.proofs.Known.{Known, Yields, Says, ValueSaid, MaybeSaid, declares, uses, maybe_given, value_given}
@@ -168,15 +169,31 @@ module _ {depth : ℕ} (law : Known depth) where
   members_yield : Yields law (members depth) (Each MemberSaid)
   members_yield = gives_any_noted MemberSaid (mark ";") member_with_note kept member_yields
 
+  -- what is said of members, in the scope of their topology
+  abbrev pub MembersGiven : List TMember → Type 0
+  MembersGiven ts = Says law (λ scope. in_topology scope ts) (flat_map names_in_topology_member ts)
+
+  members_held : (ts : List TMember) → Each MemberSaid ts → MembersGiven ts
+  members_held ts h = held_list topology_member_items names_in_topology_member ts h
+
+  pub members_given : Yields law (members depth) MembersGiven
+  members_given = gives_less MembersGiven members_held members_yield
+
   -- in any annotation
   abbrev pub TopologySaid : Topology → Type 0
   TopologySaid t = (note : List ℕ) → Says law (λ scope. topology_items scope (record t { note = note })) (names_in_topology (record t { note = note }))
 
-  topology_said : (p : Span × (Name × (List TMember × Span))) → Unit {0} × (law.Naming p.1.0 × (Each MemberSaid p.1.1.0 × Unit {0})) → TopologySaid (made_topology p)
-  topology_said (word, (n, (found, closing))) h note =
-      let t : Topology = made_topology (word, (n, (found, closing))) in
-      declares law (topology_def (record t { note = note })) h.1.0 tt (held_list topology_member_items names_in_topology_member found h.1.1.0)
+  -- its name, and its members
+  abbrev MembersSaid : Topology → Type 0
+  MembersSaid t = law.Naming t.name × Each MemberSaid t.members
+
+  members_of_topology : (p : Span × (Name × (List TMember × Span))) → Unit {0} × (law.Naming p.1.0 × (Each MemberSaid p.1.1.0 × Unit {0})) → MembersSaid (made_topology p)
+  members_of_topology (word, (n, (found, closing))) h = (h.1.0, h.1.1.0)
+
+  topology_said : (t : Topology) → MembersSaid t × ((note : List ℕ) → law.OfTopology (record t { note = note })) → TopologySaid t
+  topology_said t h note = declares law (topology_def (record t { note = note })) h.0.0 (h.1 note) (members_held t.members h.0.1)
 
   pub topology_yields : Yields law (topology depth) TopologySaid
-  topology_yields = gives_map TopologySaid made_topology topology_said
-      (gives_seq gives_anything (gives_seq law.naming_given (gives_after k_open_brace (gives_seq members_yield gives_anything))))
+  topology_yields = gives_less TopologySaid topology_said (gives_both (gives_map MembersSaid made_topology members_of_topology
+      (gives_seq gives_anything (gives_seq law.naming_given (gives_after k_open_brace (gives_seq members_yield gives_anything)))))
+      law.topologies_given)

@@ -12,13 +12,15 @@ use Rattle.fp_lexer.specs.Newlines.{Ground, ignores, ignored, after, after_newli
 use Rattle.fp_lexer.specs.Tokens.{Spells, Spelled, Lexeme, Cuts, Lexed, tokens_of, with_token, span_at, IsLexeme}
 use Rattle.fp_tree.specs.declared.component.Part.{Part}
 use Rattle.fp_tree.specs.declared.member.Member.{Member}
+use Rattle.fp_tree.specs.declared.topology.TMember.{TMember}
 use Rattle.fp_parse_defs.specs.Reading.{limit}
-use Rattle.fp_parse_parts.specs.Omitted.{unbuilt}
 use Rattle.fp_parse_parts.specs.Files.{SpellsFile}
-use Rattle.fp_parse_parts.specs.Units.{SpellsUnit, component_parts}
+use Rattle.fp_parse_parts.specs.Units.{SpellsUnit, component_parts, topology_members}
 use Rattle.fp_sites.specs.Components.{names_in_part}
-use Rattle.fp_sites.specs.Written.{IsWritten, NamesAreWritten, PartNamesAreWritten}
+use Rattle.fp_sites.specs.Topologies.{names_in_topology_member}
+use Rattle.fp_sites.specs.Written.{IsWritten, NamesAreWritten, PartNamesAreWritten, TopologyNamesAreWritten}
 use Rattle.fp_sites.proofs.Components.{parts_given}
+use Rattle.fp_sites.proofs.Topologies.{members_given}
 use Rattle.fp_sites.proofs.Telling.{told}
 use Rattle.fp_sites.proofs.Words.{IsTold}
 use Rattle.fp_sites.proofs.Members.{names_of_all, all_yield}
@@ -75,7 +77,7 @@ told_tokens file text tokens (ps, c, e) =
 
 pub written : (file : ℕ) (text : List ℕ) (tokens : List Token) (ms : List Member) → Lexed file text tokens → SpellsUnit tokens ms → NamesAreWritten file text ms
 written file text tokens ms lexed spelled name there =
-    let all = (all_yield Anywhere (IsWritten file text) limit unbuilt limit).given tokens ms spelled (told_tokens file text tokens lexed) in
+    let all = (all_yield Anywhere (IsWritten file text) limit limit).given tokens ms spelled (told_tokens file text tokens lexed) in
     of_contained (IsWritten file text) _ name (names_of_all Anywhere (IsWritten file text) limit limit ms all) there
 
 part_names : (file : ℕ) (text : List ℕ) (tokens : List Token) (ps : List Part) → Lexed file text tokens → SpellsFile component_parts tokens ps → Each (IsWritten file text) (flat_map names_in_part ps)
@@ -86,3 +88,12 @@ part_names file text tokens ps lexed spelled =
 pub parts_written : (file : ℕ) (text : List ℕ) (tokens : List Token) (ps : List Part) → Lexed file text tokens → SpellsFile component_parts tokens ps → PartNamesAreWritten file text ps
 parts_written file text tokens ps lexed spelled name there =
     of_contained (IsWritten file text) (flat_map names_in_part ps) name (part_names file text tokens ps lexed spelled) there
+
+topology_names : (file : ℕ) (text : List ℕ) (tokens : List Token) (ts : List TMember) → Lexed file text tokens → SpellsFile topology_members tokens ts → Each (IsWritten file text) (flat_map names_in_topology_member ts)
+unfolding told
+topology_names file text tokens ts lexed spelled =
+    ((members_given (told Anywhere (IsWritten file text) limit)).given tokens ts spelled (told_tokens file text tokens lexed)).names
+
+pub topology_written : (file : ℕ) (text : List ℕ) (tokens : List Token) (ts : List TMember) → Lexed file text tokens → SpellsFile topology_members tokens ts → TopologyNamesAreWritten file text ts
+topology_written file text tokens ts lexed spelled name there =
+    of_contained (IsWritten file text) (flat_map names_in_topology_member ts) name (topology_names file text tokens ts lexed spelled) there

@@ -3,10 +3,11 @@ ghost use Rattle.fp_lexer.specs.Tokens.{Lexed};
 ghost use Rattle.fp_lexer.specs.declared.token.Token.{Token};
 ghost use Rattle.fp_tree.specs.declared.component.Part.{Part};
 ghost use Rattle.fp_tree.specs.declared.member.Member.{Member};
+ghost use Rattle.fp_tree.specs.declared.topology.TMember.{TMember};
 ghost use Rattle.fp_parse_parts.specs.Files.{SpellsFile};
-ghost use Rattle.fp_parse_parts.specs.Units.{SpellsUnit, component_parts};
-ghost use Rattle.fp_sites.specs.Sites.{PartsStandAtTokens, StandAtTokens};
-ghost use Rattle.fp_sites.specs.Written.{NamesAreWritten, PartNamesAreWritten};
+ghost use Rattle.fp_parse_parts.specs.Units.{SpellsUnit, component_parts, topology_members};
+ghost use Rattle.fp_sites.specs.Sites.{PartsStandAtTokens, StandAtTokens, TopologyStandsAtTokens};
+ghost use Rattle.fp_sites.specs.Written.{NamesAreWritten, PartNamesAreWritten, TopologyNamesAreWritten};
 ghost use Rattle.fp_sites.specs.Nesting.{KeepsLimit};
 
 /// Where the tokens of a file spell members, each definition, use and include in these stands where one of the tokens begins.
@@ -29,6 +30,17 @@ pub fn parts_stand_at_tokens()
 /// no reserved word, or stands behind a `$`.
 pub fn part_names_are_written()
     ensures { (file : ℕ) (text : List ℕ) (tokens : List Token) (ps : List Part) → Lexed file text tokens → SpellsFile component_parts tokens ps → PartNamesAreWritten file text ps }
+{}
+
+/// Where the tokens of a file spell members of a topology, each use in these stands where one of the tokens begins.
+pub fn topology_stands_at_tokens()
+    ensures { (tokens : List Token) (ts : List TMember) → SpellsFile topology_members tokens ts → TopologyStandsAtTokens tokens ts }
+{}
+
+/// Where the tokens of a text spell members of a topology, each name in these is a name of the language that the text has at its place, and
+/// no reserved word, or stands behind a `$`.
+pub fn topology_names_are_written()
+    ensures { (file : ℕ) (text : List ℕ) (tokens : List Token) (ts : List TMember) → Lexed file text tokens → SpellsFile topology_members tokens ts → TopologyNamesAreWritten file text ts }
 {}
 
 /// Where the tokens of a file spell members, no expression in these nests deeper than is allowed, nor do modules.

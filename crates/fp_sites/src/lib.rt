@@ -6,5 +6,5 @@ mod laws;
 
 pub use laws::{
     names_are_written, nesting_is_limited, part_names_are_written, parts_stand_at_tokens,
-    stand_at_tokens,
+    stand_at_tokens, topology_names_are_written, topology_stands_at_tokens,
 };

@@ -1,5 +1,5 @@
 -- The files that includes stand for, and what stands in their places. FPP Language Specification, "Include Specifiers". An include stands for
--- members of what it stands in: of a file or a module, or of a component, whose parts these are.
+-- members of what it stands in: of a file or a module, of a component, whose parts these are, or of a topology.
 use Rattle.std.specs.Prelude.{ℕ, ◌-◌, ◌==◌, not, List, [], ◌∷◌, ◌++◌, length, take, map, flat_map}
 use Rattle.std.specs.List.{suffix_len}
 use Rattle.fp_parse_parts.specs.declared.parsing.Inside.TheVariants as inside
@@ -13,6 +13,9 @@ use Rattle.fp_tree.specs.declared.member.Member.{Member, Member-F, fold-Member}
 use Rattle.fp_tree.specs.declared.member.Member.TheOpen as open_member
 use Rattle.fp_tree.specs.declared.member.Member.TheVariants as member
 use Rattle.fp_tree.specs.declared.member.Module.{Module, Module-F, fold-Module}
+use Rattle.fp_tree.specs.declared.topology.TMember.{TMember}
+use Rattle.fp_tree.specs.declared.topology.TMember.TheVariants as topology_member
+use Rattle.fp_tree.specs.declared.topology.Topology.{Topology}
 use Rattle.fp_gather.specs.declared.gathering.including.Inclusion.{Inclusion}
 
 -- the directory part of a file's name: through its last `/`
@@ -34,9 +37,14 @@ abbrev pub inclusions_in_part : Part → List Inclusion
 inclusions_in_part (part.Include i) = record { inside = inside.Component; include = i } ∷ []
 inclusions_in_part _ = []
 
+abbrev pub inclusions_in_topology_member : TMember → List Inclusion
+inclusions_in_topology_member (topology_member.Include i) = record { inside = inside.Topology; include = i } ∷ []
+inclusions_in_topology_member _ = []
+
 abbrev pub inclusions_of_member : Member-F (List Inclusion) (List Inclusion) → List Inclusion
 inclusions_of_member (open_member.Module inner) = inner
 inclusions_of_member (open_member.Component c) = flat_map inclusions_in_part c.parts
+inclusions_of_member (open_member.Topology t) = flat_map inclusions_in_topology_member t.members
 inclusions_of_member (open_member.Include i) = record { inside = inside.Unit; include = i } ∷ []
 inclusions_of_member _ = []
 
@@ -46,11 +54,10 @@ inclusions_of_module m = flat_map (λ is. is) m.members
 abbrev pub inclusions_within : Member → List Inclusion
 inclusions_within m = fold-Member (List Inclusion) (List Inclusion) inclusions_of_member inclusions_of_module m
 
--- this profile: an include in a topology isn't read, and stays
 abbrev pub inclusions_in : Members → List Inclusion
 inclusions_in (given.Unit ms) = flat_map inclusions_within ms
 inclusions_in (given.Component ps) = flat_map inclusions_in_part ps
-inclusions_in (given.Topology ms) = []
+inclusions_in (given.Topology ts) = flat_map inclusions_in_topology_member ts
 
 -- ---- what stands in their places
 
@@ -79,6 +86,10 @@ abbrev pub parts_of : Members → List Part
 parts_of (given.Component ps) = ps
 parts_of _ = []
 
+abbrev pub topology_members_of : Members → List TMember
+topology_members_of (given.Topology ts) = ts
+topology_members_of _ = []
+
 -- in place of an include stands the next insert
 abbrev pub next_insert : {A : Type 0} → (Members → List A) → Inserts → Placed A
 next_insert of [] = record { items = []; left = [] }
@@ -91,10 +102,19 @@ abbrev pub placed_part : Part → Inserts → Placed Part
 placed_part (part.Include i) inserts = next_insert parts_of inserts
 placed_part p inserts = itself p inserts
 
+abbrev pub placed_topology_member : TMember → Inserts → Placed TMember
+placed_topology_member (topology_member.Include i) inserts = next_insert topology_members_of inserts
+placed_topology_member m inserts = itself m inserts
+
 abbrev pub placed_component : Component → Inserts → Placed Member
 placed_component c inserts =
     let inner = in_turn (map placed_part c.parts) inserts in
     record { items = member.Component (record { kind = c.kind; name = c.name; parts = inner.items; at = c.at; note = c.note }) ∷ []; left = inner.left }
+
+abbrev pub placed_topology : Topology → Inserts → Placed Member
+placed_topology t inserts =
+    let inner = in_turn (map placed_topology_member t.members) inserts in
+    record { items = member.Topology (record { name = t.name; members = inner.items; at = t.at; note = t.note }) ∷ []; left = inner.left }
 
 abbrev pub place_in_member : Member-F (Inserts → Placed Member) (Inserts → Placed Member) → Inserts → Placed Member
 place_in_member (open_member.Module m) inserts = m inserts
@@ -103,7 +123,7 @@ place_in_member (open_member.Machine m) inserts = itself (member.Machine m) inse
 place_in_member (open_member.Component c) inserts = placed_component c inserts
 place_in_member (open_member.Interface f) inserts = itself (member.Interface f) inserts
 place_in_member (open_member.Instance n) inserts = itself (member.Instance n) inserts
-place_in_member (open_member.Topology t) inserts = itself (member.Topology t) inserts
+place_in_member (open_member.Topology t) inserts = placed_topology t inserts
 place_in_member (open_member.Include i) inserts = next_insert members_of inserts
 place_in_member (open_member.Locate l) inserts = itself (member.Locate l) inserts
 
@@ -118,8 +138,8 @@ placed m = fold-Member (Inserts → Placed Member) (Inserts → Placed Member) p
 abbrev pub placed_module : Module → Inserts → Placed Member
 placed_module m = fold-Module (Inserts → Placed Member) (Inserts → Placed Member) place_in_member place_in_module m
 
--- what a file gives, with an insert in place of each include, also of those in modules and components
+-- what a file gives, with an insert in place of each include, also of those in modules, components and topologies
 abbrev pub replaced : Members → Inserts → Members
 replaced (given.Unit ms) inserts = given.Unit (in_turn (map placed ms) inserts).items
 replaced (given.Component ps) inserts = given.Component (in_turn (map placed_part ps) inserts).items
-replaced (given.Topology ms) inserts = given.Topology ms
+replaced (given.Topology ts) inserts = given.Topology (in_turn (map placed_topology_member ts) inserts).items

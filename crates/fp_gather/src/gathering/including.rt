@@ -1,12 +1,12 @@
 ghost use Rattle.std.specs.Prelude.{◌≡◌, ◌++◌, ◌∷◌, [], ◌↔◌, flat_map, Contains, IfOk, IsTrue, OnOk};
-ghost use Rattle.fp_gather.specs.gathering.Includes.{directory as directory_of, included_name, inclusions_in, inclusions_in_part, inclusions_within, nearest_directory as nearest_directory_of};
+ghost use Rattle.fp_gather.specs.gathering.Includes.{directory as directory_of, included_name, inclusions_in, inclusions_in_part, inclusions_in_topology_member, inclusions_within, nearest_directory as nearest_directory_of};
 
 use fp_base::{NoMemory, Row, Text};
 use fp_parse_parts::{Inside, Members};
-use fp_tree::{Include, Member, Module, Part};
+use fp_tree::{Include, Member, Module, Part, TMember};
 use std::alloc::Global;
 
-/// An include, and what it stands in: a file or a module, or a component.
+/// An include, and what it stands in: a file or a module, a component, or a topology.
 #[derive(Drop)]
 pub struct Inclusion {
     pub inside: Inside,
@@ -77,7 +77,7 @@ pub fn inclusions_of(alloc: Global, given: &Members) -> Result<Row<Inclusion>, N
     match given {
         Members::Unit(members) => of_members(alloc, members.as_slice(), &mut found)?,
         Members::Component(parts) => of_parts(alloc, parts.as_slice(), &mut found)?,
-        Members::Topology(_) => {}
+        Members::Topology(members) => of_topology(alloc, members.as_slice(), &mut found)?,
     }
     Ok(found)
 }
@@ -99,12 +99,12 @@ fn of_member(alloc: Global, member: &Member, found: &mut Row<Inclusion>) -> Resu
     match member {
         Member::Module(module) => of_module(alloc, module, found),
         Member::Component(component) => of_parts(alloc, component.parts.as_slice(), found),
+        Member::Topology(topology) => of_topology(alloc, topology.members.as_slice(), found),
         Member::Include(include) => add(alloc, Inside::Unit, include, found),
         Member::Def(_)
         | Member::Machine(_)
         | Member::Interface(_)
         | Member::Instance(_)
-        | Member::Topology(_)
         | Member::Locate(_) => Ok(()),
     }
 }
@@ -142,6 +142,33 @@ fn of_part(alloc: Global, part: &Part, found: &mut Row<Inclusion>) -> Result<(),
         | Part::Match(_)
         | Part::Running(_)
         | Part::Import(_) => Ok(()),
+    }
+}
+
+fn of_topology(
+    alloc: Global,
+    members: &[TMember],
+    found: &mut Row<Inclusion>,
+) -> Result<(), NoMemory>
+    ensures { OnOk result (found.new ≡ found.old ++ flat_map inclusions_in_topology_member members.now) }
+{
+    for member in members {
+        of_topology_member(alloc, member, found)?;
+    }
+    Ok(())
+}
+
+fn of_topology_member(
+    alloc: Global,
+    member: &TMember,
+    found: &mut Row<Inclusion>,
+) -> Result<(), NoMemory>
+    ensures { OnOk result (found.new ≡ found.old ++ inclusions_in_topology_member member.now) }
+{
+    match member {
+        TMember::Include(include) => add(alloc, Inside::Topology, include, found),
+        TMember::Instance(_) | TMember::Import(_) | TMember::Connections(_) | TMember::Pattern(_) =>
+            Ok(()),
     }
 }
 

@@ -11,8 +11,11 @@ ghost use Rattle.fp_gather.specs.gathering.Names.{IsNamed};
 ghost use Rattle.fp_gather.specs.gathering.Walks.{Walked, Outcome, NoReadFault, WalksFiles, Went, nothing_read};
 
 use fp_parse_parts::{one_break, one_list};
-use fp_places::{part_places_begin_tokens, places_begin_tokens};
-use fp_sites::{names_are_written, part_names_are_written, parts_stand_at_tokens, stand_at_tokens};
+use fp_places::{part_places_begin_tokens, places_begin_tokens, topology_places_begin_tokens};
+use fp_sites::{
+    names_are_written, part_names_are_written, parts_stand_at_tokens, stand_at_tokens,
+    topology_names_are_written, topology_stands_at_tokens,
+};
 
 /// Files that tell what they hold are read in one way, where no read fails.
 pub fn one_reading()
@@ -28,8 +31,10 @@ pub fn in_files_read()
 {
     stand_at_tokens();
     parts_stand_at_tokens();
+    topology_stands_at_tokens();
     places_begin_tokens();
     part_places_begin_tokens();
+    topology_places_begin_tokens();
 }
 
 /// Each place of what files give that were read is one in one of these files.
@@ -38,8 +43,10 @@ pub fn places_in_files()
 {
     stand_at_tokens();
     parts_stand_at_tokens();
+    topology_stands_at_tokens();
     places_begin_tokens();
     part_places_begin_tokens();
+    topology_places_begin_tokens();
 }
 
 /// What files define that were read has names of the language, and so have the members of structs.
@@ -48,4 +55,5 @@ pub fn names_are_names()
 {
     names_are_written();
     part_names_are_written();
+    topology_names_are_written();
 }

@@ -1,10 +1,10 @@
 ghost use Rattle.std.specs.Prelude.{◌≡◌, ◌++◌, ◌∷◌, [], IfOk, OnOk, map};
 ghost use Rattle.std.specs.Vec.Iter.{into_iter_items};
-ghost use Rattle.fp_gather.specs.gathering.Includes.{in_turn, members_of as members_in, next_insert, parts_of as parts_in, placed, placed_component, placed_module, placed_part, replaced};
+ghost use Rattle.fp_gather.specs.gathering.Includes.{in_turn, members_of as members_in, next_insert, parts_of as parts_in, placed, placed_component, placed_module, placed_part, placed_topology, placed_topology_member, replaced, topology_members_of as topology_members_in};
 
 use fp_base::{NoMemory, Row};
 use fp_parse_parts::Members;
-use fp_tree::{Component, Member, Module, Part};
+use fp_tree::{Component, Member, Module, Part, TMember, Topology};
 use std::alloc::Global;
 use std::vec::IntoIter;
 
@@ -28,7 +28,17 @@ fn parts_of(alloc: Global, given: Members) -> Row<Part>
     }
 }
 
-/// What a file gives, with an insert in place of each include, also of those in modules and components.
+/// The members of a topology that a file gives, if it gives some.
+fn topology_members_of(alloc: Global, given: Members) -> Row<TMember>
+    ensures { result ≡ topology_members_in given }
+{
+    match given {
+        Members::Topology(members) => members,
+        Members::Unit(_) | Members::Component(_) => Row::new(alloc),
+    }
+}
+
+/// What a file gives, with an insert in place of each include, also of those in modules, components and topologies.
 pub fn replace(alloc: Global, given: Members, inserts: Row<Members>) -> Result<Members, NoMemory>
     ensures { IfOk result (λ whole. whole ≡ replaced given inserts) }
 {
@@ -42,7 +52,10 @@ pub fn replace(alloc: Global, given: Members, inserts: Row<Members>) -> Result<M
             let parts = in_parts(alloc, parts, &mut left)?;
             Ok(Members::Component(parts))
         }
-        Members::Topology(members) => Ok(Members::Topology(members)),
+        Members::Topology(members) => {
+            let members = in_topology_members(alloc, members, &mut left)?;
+            Ok(Members::Topology(members))
+        }
     }
 }
 
@@ -79,12 +92,15 @@ fn in_member(
             let component = in_component(alloc, component, inserts)?;
             out.push(Member::Component(component))
         }
+        Member::Topology(topology) => {
+            let topology = in_topology(alloc, topology, inserts)?;
+            out.push(Member::Topology(topology))
+        }
         Member::Include(_) => add_members(alloc, inserts, out),
         Member::Def(definition) => out.push(Member::Def(definition)),
         Member::Machine(machine) => out.push(Member::Machine(machine)),
         Member::Interface(interface) => out.push(Member::Interface(interface)),
         Member::Instance(instance) => out.push(Member::Instance(instance)),
-        Member::Topology(topology) => out.push(Member::Topology(topology)),
         Member::Locate(locate) => out.push(Member::Locate(locate)),
     }
 }
@@ -175,6 +191,59 @@ fn in_part(
     }
 }
 
+fn in_topology(
+    alloc: Global,
+    topology: Topology,
+    inserts: &mut IntoIter<Members>,
+) -> Result<Topology, NoMemory>
+    ensures { IfOk result (λ made. placed_topology topology (into_iter_items inserts.old) ≡ record { items = Member.Topology made ∷ []; left = into_iter_items inserts.new }) }
+{
+    let Topology {
+        name,
+        members,
+        at,
+        note,
+    } = topology;
+    let members = in_topology_members(alloc, members, inserts)?;
+    Ok(Topology {
+        name,
+        members,
+        at,
+        note,
+    })
+}
+
+fn in_topology_members(
+    alloc: Global,
+    members: Row<TMember>,
+    inserts: &mut IntoIter<Members>,
+) -> Result<Row<TMember>, NoMemory>
+    ensures { IfOk result (λ out. in_turn (map placed_topology_member members) (into_iter_items inserts.old) ≡ record { items = out; left = into_iter_items inserts.new }) }
+{
+    let mut out = Row::new(alloc);
+    for member in members.into_vec() {
+        in_topology_member(alloc, member, inserts, &mut out)?;
+    }
+    Ok(out)
+}
+
+fn in_topology_member(
+    alloc: Global,
+    member: TMember,
+    inserts: &mut IntoIter<Members>,
+    out: &mut Row<TMember>,
+) -> Result<(), NoMemory>
+    ensures { OnOk result ((out.new ≡ out.old ++ (placed_topology_member member (into_iter_items inserts.old)).items) × (into_iter_items inserts.new ≡ (placed_topology_member member (into_iter_items inserts.old)).left)) }
+{
+    match member {
+        TMember::Include(_) => add_topology_members(alloc, inserts, out),
+        TMember::Instance(instance) => out.push(TMember::Instance(instance)),
+        TMember::Import(import) => out.push(TMember::Import(import)),
+        TMember::Connections(connections) => out.push(TMember::Connections(connections)),
+        TMember::Pattern(pattern) => out.push(TMember::Pattern(pattern)),
+    }
+}
+
 /// Adds the members of the next insert.
 fn add_members(
     alloc: Global,
@@ -199,6 +268,20 @@ fn add_parts(
 {
     match inserts.next() {
         Some(given) => out.append(parts_of(alloc, given)),
+        None => Ok(()),
+    }
+}
+
+/// Adds the members of a topology of the next insert.
+fn add_topology_members(
+    alloc: Global,
+    inserts: &mut IntoIter<Members>,
+    out: &mut Row<TMember>,
+) -> Result<(), NoMemory>
+    ensures { OnOk result ((out.new ≡ out.old ++ (next_insert topology_members_in (into_iter_items inserts.old)).items) × (into_iter_items inserts.new ≡ (next_insert topology_members_in (into_iter_items inserts.old)).left)) }
+{
+    match inserts.next() {
+        Some(given) => out.append(topology_members_of(alloc, given)),
         None => Ok(()),
     }
 }

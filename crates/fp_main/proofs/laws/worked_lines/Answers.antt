@@ -9,6 +9,9 @@ pub returns-clause-refusal : goal.returns-clause-refusal
 unfolding digits
 returns-clause-refusal c = refl
 
+pub returns-clause-topology : goal.returns-clause-topology
+returns-clause-topology c = refl
+
 pub returns-clause-usage : goal.returns-clause-usage
 unfolding digits
 returns-clause-usage c = refl

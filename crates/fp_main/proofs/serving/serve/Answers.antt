@@ -1,6 +1,6 @@
 -- each clause from what is written
-use Rattle.fp_main.proofs.CausesMeant.{usage_means, read_fault_means, no_file_means, refused_means, done_means, write_fault_means, no_memory_means, no_run}
-use Rattle.fp_main.proofs.CausesComing.{usage_comes, read_fault_comes, no_file_comes, refused_comes, done_comes, write_fault_comes}
+use Rattle.fp_main.proofs.CausesMeant.{usage_means, read_fault_means, no_file_means, refused_means, no_topology_means, done_means, write_fault_means, no_memory_means, no_run}
+use Rattle.fp_main.proofs.CausesComing.{usage_comes, read_fault_comes, no_file_comes, refused_comes, no_topology_comes, done_comes, write_fault_comes}
 use Rattle.fp_main.proofs.serving.serve.Goals as goal
 
 pub returns-clause-usage : goal.returns-clause-usage
@@ -14,6 +14,9 @@ returns-clause-no_file g c = no_file_means _ _ _ _ _ c.write_answer.ensures.outp
 
 pub returns-clause-refused : goal.returns-clause-refused
 returns-clause-refused g c = refused_means _ _ _ _ _ c.write_answer.ensures.output
+
+pub returns-clause-no_topology : goal.returns-clause-no_topology
+returns-clause-no_topology g c = no_topology_means _ _ _ _ _ c.write_answer.ensures.output
 
 pub returns-clause-done : goal.returns-clause-done
 returns-clause-done g c = done_means _ _ _ _ _ c.write_answer.ensures.output
@@ -38,6 +41,9 @@ returns-clause-no_file_comes g c = no_file_comes c.one_reading.ensures _ _ _ _ _
 
 pub returns-clause-refused_comes : goal.returns-clause-refused_comes
 returns-clause-refused_comes g c = refused_comes c.one_reading.ensures _ _ _ _ _ c.write_answer.ensures.output
+
+pub returns-clause-no_topology_comes : goal.returns-clause-no_topology_comes
+returns-clause-no_topology_comes g c = no_topology_comes c.one_reading.ensures _ _ _ _ _ c.write_answer.ensures.output
 
 pub returns-clause-done_comes : goal.returns-clause-done_comes
 returns-clause-done_comes g c = done_comes c.one_reading.ensures _ _ _ _ _ c.write_answer.ensures.output

@@ -5,5 +5,7 @@ use Rattle.fp_main.proofs.words.read_words.Goals as goal
 pub returns-in-None : goal.returns-in-None
 returns-in-None c = missing_command_of string_bytes c.args.words.now c.in-None.ensures.cases
 
-pub returns-else-eq : goal.returns-else-eq
-returns-else-eq c = other_command_of string_bytes c.args.words.now _ _ _ _ c.in-Some.ensures.cases.0 c.as_str.ensures.value c.eq.ensures c.if-eq.false
+pub returns-else-eq-2 : goal.returns-else-eq-2
+returns-else-eq-2 c =
+    other_command_of string_bytes c.args.words.now _ _ _ _ _ _ c.in-Some.ensures.cases.0 c.as_str.ensures.value c.eq.ensures c.if-eq.false
+    c.as_str-else-eq.ensures.value c.eq-else-eq.ensures c.if-eq-2.false

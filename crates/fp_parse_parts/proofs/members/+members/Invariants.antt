@@ -6,7 +6,6 @@ use Rattle.fp_parse_pieces.specs.Lists.{gathered, annotated, separated_by}
 use Rattle.fp_parse_pieces.specs.Lists.ListPiece.{element}
 use Rattle.fp_parse_parts.specs.Members as M
 use Rattle.fp_parse_parts.specs.Members.{semicolons, with_member}
-use Rattle.fp_parse_parts.specs.Omitted.{unbuilt}
 use Rattle.fp_parse_parts.proofs.members.+members.Given as goal
 
 abbrev pub decreases-nested_module : goal.decreases-nested_module
@@ -29,7 +28,7 @@ decreases-opened_module l = 10 * l.depth + 5
 
 -- what was read are the members so far and one more, and a separator may follow
 abbrev pub invariant-some_members-separators : goal.invariant-some_members-separators
-invariant-some_members-separators l = Reached kind (M.some_members unbuilt l.expressions l.depth) (alternating (separated_by semicolons) (annotated (M.member unbuilt l.expressions l.depth))) (λ rest. gathered with_member l.all_members (element l.item l.lines ∷ rest)) l.tokens l.from l.at
+invariant-some_members-separators l = Reached kind (M.some_members l.expressions l.depth) (alternating (separated_by semicolons) (annotated (M.member l.expressions l.depth))) (λ rest. gathered with_member l.all_members (element l.item l.lines ∷ rest)) l.tokens l.from l.at
 
 abbrev pub decreases-some_members-separators : goal.decreases-some_members-separators
 decreases-some_members-separators l = length (drop l.at l.tokens)

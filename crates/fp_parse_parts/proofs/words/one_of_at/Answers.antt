@@ -1,5 +1,5 @@
-use Rattle.fp_parse_parts.specs.Omitted.{kinds_of}
-use Rattle.fp_parse_parts.proofs.Omitting.{word_told}
+use Rattle.fp_parse_parts.specs.FirstWords.{kinds_of}
+use Rattle.fp_parse_parts.proofs.AmongWords.{word_told}
 use Rattle.fp_parse_parts.proofs.WordsBelow.{found_told}
 use Rattle.fp_parse_parts.proofs.words.one_of_at.Goals as goal
 
