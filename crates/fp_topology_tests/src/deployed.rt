@@ -90,7 +90,7 @@ fn ranges(rt: HostRuntime) -> Result<(), Fail> {
         ("2 I3 ranges overlap 1", &[256, 241]),
         ("none", &[256, 240]),
         ("3 I3 ranges overlap 1", &[0, 100, 10]),
-        ("2 I3 ranges overlap 1", &[MOST, MOST]),
+        ("1 I4 number out of range", &[MOST, MOST]),
         ("1 I4 number out of range", &[-16, 0]),
     ];
     for (expected, bases) in rows.iter() {
