@@ -11,11 +11,11 @@ use Rattle.fp_main.specs.Delivery.{SinkRun, Delivered}
 use Rattle.fp_gather.specs.FilesRun.{FilesRun}
 use Rattle.fp_main.specs.Output.{IsDue, IsText, DueText, DueNoTopology, DueRefused, DueUsage, DueReadFault, DueNoFile, IsRead, Output}
 use Rattle.fp_main.specs.Topologies.{HasTopology, LacksTopology}
-use Rattle.fp_main.specs.Words.{AsksFor, IsForm, IsPorts, IsWrong, Spells}
+use Rattle.fp_main.specs.Words.{AsksFor, IsForm, IsWrong, Names, NamesTopology, Spells, word_of}
 use Rattle.fp_gather.specs.gathering.Gathered.{source_of}
 use Rattle.fp_main.specs.Broken.{SourceBroken}
 use Rattle.fp_main.proofs.Dues.{spelled_asks}
-use Rattle.fp_main.proofs.Wording.{check_is_no_ports}
+use Rattle.fp_main.proofs.Wording.{check_names_nothing}
 use Rattle.fp_model.specs.Defined.{Defined}
 use Rattle.fp_tables.specs.declared.model.Model.{Model}
 use Rattle.fp_gather.specs.gathering.Walks.{NoFile as IsMissing, NoReadFault, Outcome, Stops, Walked, WalksFiles, Went, nothing_read}
@@ -36,13 +36,13 @@ asked_not_wrong words names word asked wrong =
 pub read_not_wrong : (words : List (List ℕ)) (wanted : Wanted) (names : List (List ℕ)) (word : ℕ) → Spells words wanted names → IsWrong words word → ⊥
 read_not_wrong words wanted names word spelled wrong = asked_not_wrong words names word (spelled_asks words wanted names spelled) wrong
 
-same_topology : (words a b : List (List ℕ)) (t u : List ℕ) → IsPorts words t a → IsPorts words u b → (t ≡ u) × (a ≡ b)
-same_topology words a b t u x y = (first (sym x.words_are ∙ y.words_are), rest (sym x.words_are ∙ y.words_are))
+same_topology : (words a b : List (List ℕ)) (t u : List ℕ) → NamesTopology words t a → NamesTopology words u b → (t ≡ u) × (a ≡ b)
+same_topology words a b t u x y = (second (sym x.1.words_are ∙ y.1.words_are), rest (sym x.1.words_are ∙ y.1.words_are))
   where
-    first : codes "ports" ∷ t ∷ a ≡ codes "ports" ∷ u ∷ b → t ≡ u
-    first h = cc
+    second : word_of x.0 ∷ t ∷ a ≡ word_of y.0 ∷ u ∷ b → t ≡ u
+    second h = cc
 
-    rest : codes "ports" ∷ t ∷ a ≡ codes "ports" ∷ u ∷ b → a ≡ b
+    rest : word_of x.0 ∷ t ∷ a ≡ word_of y.0 ∷ u ∷ b → a ≡ b
     rest h = cc
 
 same_names : (words a b : List (List ℕ)) → AsksFor words a → AsksFor words b → a ≡ b
@@ -50,16 +50,16 @@ same_names words a b (inl x) (inl y) = names (sym x.words_are ∙ y.words_are)
   where
     names : codes "check" ∷ a ≡ codes "check" ∷ b → a ≡ b
     names h = cc
-same_names words a b (inl x) (inr y) = absurd (check_is_no_ports words a b y.0 x y.1)
-same_names words a b (inr x) (inl y) = absurd (check_is_no_ports words b a x.0 y x.1)
+same_names words a b (inl x) (inr y) = absurd (check_names_nothing words a b y.0 x y.1)
+same_names words a b (inr x) (inl y) = absurd (check_names_nothing words b a x.0 y x.1)
 same_names words a b (inr x) (inr y) = (same_topology words a b x.0 y.0 x.1 y.1).1
 
 -- no text is due where the topology in the words isn't there
-lacking_no_text : (words names asked : List (List ℕ)) (name : List ℕ) (model : Model) (text : List ℕ) → IsPorts words name asked → LacksTopology model name → IsText words names model text → ⊥
-lacking_no_text words names asked name model text ports lacking (inl listed) = check_is_no_ports words names asked name listed.0 ports
-lacking_no_text words names asked name model text ports lacking (inr joined) =
-    let same : joined.0 ≡ name = (same_topology words names asked joined.0 name joined.1 ports).0 in
-    lacking (subst (HasTopology model) same (joined.2.0, joined.2.1))
+lacking_no_text : (words names asked : List (List ℕ)) (name : List ℕ) (model : Model) (text : List ℕ) → NamesTopology words name asked → LacksTopology model name → IsText words names model text → ⊥
+lacking_no_text words names asked name model text named lacking (inl listed) = check_names_nothing words names asked name listed.0 named
+lacking_no_text words names asked name model text named lacking (inr said) =
+    let same : said.0 ≡ name = (same_topology words names asked said.0 name (said.1, said.2) named).0 in
+    lacking (subst (HasTopology model) same (said.3.0, said.3.1))
 
 -- a count that stayed below its last value didn't rise
 stayed : (before now : ℕ) → now ≡ before → before < last_count → Rose before now → ⊥
@@ -200,9 +200,9 @@ module _ (one_way : ReadOneWay) (words : List (List ℕ)) (files : FilesRun) (ou
       holds_as (λ w s. IsUnbroken (SourceBroken w s)) (Went walked units) d.walked d.source asked tt d.read unbroken d.says.refusal (d.says.first.holds d.says.refusal refl)
 
   pub no_topology_comes : NoTopologyComes words files status
-  no_topology_comes walked units name names asked unbroken ports missing sound =
+  no_topology_comes walked units name names asked unbroken named missing sound =
       ends NoTopology
-      (λ d. absurd (lacking_no_text words d.read.names names name d.model o.output ports
+      (λ d. absurd (lacking_no_text words d.read.names names name d.model o.output named
       (holds_as (λ w s. (model : Model) → Defined s model → LacksTopology model name) (Went walked units) d.walked d.source asked tt d.read missing d.model d.defined) d.text))
       (λ d. absurd (not_refused walked units o.output o.line asked unbroken d))
       (λ d. inl refl)
@@ -216,7 +216,7 @@ module _ (one_way : ReadOneWay) (words : List (List ℕ)) (files : FilesRun) (ou
       ends Done
       (λ d. inl refl)
       (λ d. absurd (not_refused walked units o.output o.line asked unbroken d))
-      (λ d. absurd (d.lacking (holds_as (λ w s. IsThere words s) (Went walked units) d.walked d.source asked tt d.read there d.topology d.read.names d.model d.ports d.defined)))
+      (λ d. absurd (d.lacking (holds_as (λ w s. IsThere words s) (Went walked units) d.walked d.source asked tt d.read there d.topology d.read.names d.model d.named d.defined)))
       (λ d. absurd (asked_not_wrong words asked.names d.word asked.asked d.wrong))
       (λ d. absurd (stayed _ _ sound.0 sound.1 d.unread.fault))
       (λ d. absurd (not_absent walked units o.output o.line asked d))

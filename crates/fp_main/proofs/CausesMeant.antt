@@ -73,7 +73,7 @@ module _ (words : List (List ℕ)) (files : FilesRun) (out diag : SinkRun) (stat
   pub no_topology_means : NoTopologyMeans words files out diag status
   no_topology_means e =
       let c = called_as NoTopology (λ f. cc) e in
-      (c.0.walked, c.0.source, c.0.read, c.0.topology, c.0.ports, c.0.unbroken, (c.0.model, c.0.defined, c.0.lacking), (adds_as _ _ out c.1.written c.0.silent, adds_as _ _ diag c.1.said c.0.said))
+      (c.0.walked, c.0.source, c.0.read, c.0.topology, c.0.named, c.0.unbroken, (c.0.model, c.0.defined, c.0.lacking), (adds_as _ _ out c.1.written c.0.silent, adds_as _ _ diag c.1.said c.0.said))
 
   pub no_memory_means : NoMemoryMeans out diag status
   no_memory_means e =

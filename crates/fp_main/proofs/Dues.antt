@@ -20,12 +20,13 @@ use Rattle.fp_gather.specs.declared.gathering.Halt.TheVariants as halt
 use Rattle.fp_main.proofs.SourcePhases.{behind_least, first_least}
 use Rattle.fp_main.specs.Broken.{SourceBroken}
 use Rattle.fp_main.specs.Lines.{no_topology_line, refusal_line}
-use Rattle.fp_listing.specs.Listing.{Listing, PortLines}
-use Rattle.fp_main.specs.Output.{DueRefused, IsDue, IsDueFor, IsDueOf}
+use Rattle.fp_listing.specs.Listing.{Listing}
+use Rattle.fp_main.specs.Output.{DueRefused, IsDue, IsDueFor, IsDueOf, IsTopologyText}
 use Rattle.fp_main.specs.Topologies.{IsTopology, LacksTopology}
-use Rattle.fp_main.specs.Words.{AsksFor, IsCheck, IsPorts, Spells}
+use Rattle.fp_main.specs.Words.{AsksFor, IsCheck, Names, NamesTopology, Spells}
 use Rattle.fp_main.specs.declared.words.Wanted.{Wanted}
-use Rattle.fp_main.specs.declared.words.Wanted.TheVariants.{Connections, Listing as Listed}
+use Rattle.fp_main.specs.declared.words.Wanted.TheVariants.{Listing as Listed, OfTopology}
+use Rattle.fp_main.specs.declared.words.TopologyText.{TopologyText}
 use Rattle.fp_main.specs.declared.answer.Due.{Due}
 use Rattle.fp_main.specs.declared.status.Status.{Status}
 use Rattle.fp_main.specs.declared.status.Status.TheVariants.{Done, Refused, Usage, ReadFault, WriteFault, NoFile, Stuck, Spent, Asserted, NoMemory, NoTopology}
@@ -49,7 +50,7 @@ source_least walked source o clean l = behind_least walked source (phases source
 -- words that spell what is wanted ask for their files
 pub spelled_asks : (words : List (List ℕ)) (wanted : Wanted) (names : List (List ℕ)) → Spells words wanted names → AsksFor words names
 spelled_asks words Listed names check = inl check
-spelled_asks words (Connections topology) names ports = inr (topology.now, ports)
+spelled_asks words (OfTopology text name) names named = inr (name.now, (text, named))
 
 module _ (words names : List (List ℕ)) where
   -- what is due of a model
@@ -57,15 +58,15 @@ module _ (words names : List (List ℕ)) where
       → IsDueOf words names model due.status due.output due.line
   due_listing model due text is listed check = subst (λ (d : Due). IsDueOf words names model d.status d.output d.line) (sym is) (inl (check, listed), refl)
 
-  pub due_connections : (model : Model) (due : Due) (text topology : List ℕ) (at : ℕ) → due ≡ record { status = Done; output = text; line = [] } → text ≡ PortLines model at
-      → IsTopology model topology at → IsPorts words topology names → IsDueOf words names model due.status due.output due.line
-  due_connections model due text topology at is listed there ports =
-      subst (λ (d : Due). IsDueOf words names model d.status d.output d.line) (sym is) (inr (topology, ports, (at, there, listed)), refl)
+  pub due_topology : (model : Model) (due : Due) (wanted : TopologyText) (text topology : List ℕ) (at : ℕ) → due ≡ record { status = Done; output = text; line = [] }
+      → IsTopologyText wanted model at text → IsTopology model topology at → Names wanted words topology names → IsDueOf words names model due.status due.output due.line
+  due_topology model due wanted text topology at is said there named =
+      subst (λ (d : Due). IsDueOf words names model d.status d.output d.line) (sym is) (inr (topology, wanted, named, (at, there, said)), refl)
 
   pub due_no_topology : (model : Model) (due : Due) (line topology : List ℕ) → due ≡ record { status = NoTopology; output = []; line = line } → line ≡ no_topology_line topology
-      → LacksTopology model topology → IsPorts words topology names → IsDueOf words names model due.status due.output due.line
-  due_no_topology model due line topology is said lacking ports =
-      subst (λ (d : Due). IsDueOf words names model d.status d.output d.line) (sym is) ((topology, ports, lacking, said), refl)
+      → LacksTopology model topology → NamesTopology words topology names → IsDueOf words names model due.status due.output due.line
+  due_no_topology model due line topology is said lacking named =
+      subst (λ (d : Due). IsDueOf words names model d.status d.output d.line) (sym is) ((topology, named, lacking, said), refl)
 
   -- what is due for a source that breaks no rule, and for one that does
   pub due_resolved : (source : Source) (model : Model) (status : Status) (output line : List ℕ) → IsUnbroken (ModelBroken source) → Defined source model
@@ -132,7 +133,7 @@ module _ (words names : List (List ℕ)) (files : FilesRun) (asked : AsksFor wor
         source = source;
         read = record { names = names; asked = asked; read = g.1 };
         topology = lacks.0;
-        ports = lacks.1;
+        named = lacks.1;
         unbroken = none_broken (source_least g.0 source None g.2 (least_none d.0));
         model = d.1.0;
         defined = d.1.1;

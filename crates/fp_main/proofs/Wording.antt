@@ -1,21 +1,27 @@
 -- Words that have a form, and words that have none.
-use Rattle.std.proofs.Common.{◌≡◌, ◌<◌, ◌==◌, ℕ, List, [], ◌∷◌, ◌++◌, length, codes, Bool, true, false, refl, map, ◌∙◌, inl, inr, lit<, arith, sym, subst, eq-eqb, eqb→eq, T}
+use Rattle.std.proofs.Common.{◌≡◌, ◌<◌, ◌==◌, ℕ, List, [], ◌∷◌, ◌++◌, length, codes, Bool, true, false, refl, map, ◌∙◌, inl, inr, lit<, arith, sym, subst, eq-eqb, eqb→eq, T, Result}
 use Rattle.std.specs.Str.{bytes_eq}
 use Rattle.std.proofs.lemmas.Slice.Eq.{bytes_eq-Decides}
-use Rattle.fp_main.specs.Words.{IsCheck, IsPorts, IsForm, BeginsForm, IsWrong}
+use Rattle.fp_main.specs.Words.{IsCheck, IsForm, BeginsForm, IsWrong, Names, NamesTopology, ReadsWords, word_of}
+use Rattle.fp_main.specs.declared.words.Command.{Command}
+use Rattle.fp_main.specs.declared.words.TopologyText.{TopologyText}
+use Rattle.fp_main.specs.declared.words.TopologyText.TheVariants.{Connections, Dictionary}
 
 -- ---- lists of words
 
 head_same : (x y : List ℕ) (xs ys : List (List ℕ)) → x ∷ xs ≡ y ∷ ys → x ≡ y
 head_same x y xs ys e = cc
 
-check_not_ports : codes "check" ≡ codes "ports" → ⊥
-check_not_ports e =
-    let yes' : bytes_eq (codes "check") (codes "ports") ≡ true = (bytes_eq-Decides (codes "check") (codes "ports")).1 e in
-    cc
+apart : (a b : List ℕ) → bytes_eq a b ≡ false → a ≡ b → ⊥
+apart a b other e = let same : bytes_eq a b ≡ true = (bytes_eq-Decides a b).1 e in cc
 
-pub check_is_no_ports : (words names files : List (List ℕ)) (topology : List ℕ) → IsCheck words names → IsPorts words topology files → ⊥
-check_is_no_ports words names files topology check ports = check_not_ports (head_same (codes "check") (codes "ports") names (topology ∷ files) (sym check.words_are ∙ ports.words_are))
+check_is_no_text : (text : TopologyText) → codes "check" ≡ word_of text → ⊥
+check_is_no_text Connections e = apart (codes "check") (codes "ports") refl e
+check_is_no_text Dictionary e = apart (codes "check") (codes "dict") refl e
+
+pub check_names_nothing : (words names files : List (List ℕ)) (topology : List ℕ) → IsCheck words names → NamesTopology words topology files → ⊥
+check_names_nothing words names files topology check named =
+    check_is_no_text named.0 (head_same (codes "check") (word_of named.0) names (topology ∷ files) (sym check.words_are ∙ named.1.words_are))
 
 -- one word alone has nothing behind it, and two words one
 none_behind : (word other : List ℕ) (files : List (List ℕ)) → word ∷ [] ≡ other ∷ files → 0 < length files → ⊥
@@ -31,8 +37,8 @@ one_behind word second other topology (file ∷ files) e some = cc
 check_a : IsCheck (codes "check" ∷ codes "a" ∷ []) (codes "a" ∷ [])
 check_a = record { words_are = refl; some = lit< tt }
 
-ports_a : (topology : List ℕ) → IsPorts (codes "ports" ∷ topology ∷ codes "a" ∷ []) topology (codes "a" ∷ [])
-ports_a topology = record { words_are = refl; some = lit< tt }
+names_a : (text : TopologyText) (topology : List ℕ) → Names text (word_of text ∷ topology ∷ codes "a" ∷ []) topology (codes "a" ∷ [])
+names_a text topology = record { words_are = refl; some = lit< tt }
 
 none_begins : BeginsForm []
 none_begins = (codes "check" ∷ codes "a" ∷ [], (codes "a" ∷ [], inl check_a))
@@ -40,11 +46,11 @@ none_begins = (codes "check" ∷ codes "a" ∷ [], (codes "a" ∷ [], inl check_
 check_begins : BeginsForm (codes "check" ∷ [])
 check_begins = (codes "a" ∷ [], (codes "a" ∷ [], inl check_a))
 
-ports_begins : BeginsForm (codes "ports" ∷ [])
-ports_begins = (codes "T" ∷ codes "a" ∷ [], (codes "a" ∷ [], inr (codes "T", ports_a (codes "T"))))
+text_begins : (text : TopologyText) → BeginsForm (word_of text ∷ [])
+text_begins text = (codes "T" ∷ codes "a" ∷ [], (codes "a" ∷ [], inr (codes "T", (text, names_a text (codes "T")))))
 
-topology_begins : (topology : List ℕ) → BeginsForm (codes "ports" ∷ topology ∷ [])
-topology_begins topology = (codes "a" ∷ [], (codes "a" ∷ [], inr (topology, ports_a topology)))
+topology_begins : (text : TopologyText) (topology : List ℕ) → BeginsForm (word_of text ∷ topology ∷ [])
+topology_begins text topology = (codes "a" ∷ [], (codes "a" ∷ [], inr (topology, (text, names_a text topology))))
 
 -- ---- what is no form
 
@@ -52,37 +58,37 @@ none_is_none : IsForm [] → ⊥
 none_is_none form =
     elim form.1 [
       | inl check ↦ no_check form.0 check.words_are
-      | inr ports ↦ no_ports ports.0 form.0 ports.1.words_are
+      | inr named ↦ no_text (word_of named.1.0) named.0 form.0 named.1.1.words_are
     ]
   where
     no_check : (files : List (List ℕ)) → [] ≡ codes "check" ∷ files → ⊥
     no_check files e = cc
 
-    no_ports : (topology : List ℕ) (files : List (List ℕ)) → [] ≡ codes "ports" ∷ topology ∷ files → ⊥
-    no_ports topology files e = cc
+    no_text : (word topology : List ℕ) (files : List (List ℕ)) → [] ≡ word ∷ topology ∷ files → ⊥
+    no_text word topology files e = cc
 
 one_is_none : (word : List ℕ) → IsForm (word ∷ []) → ⊥
 one_is_none word form =
     elim form.1 [
       | inl check ↦ none_behind word (codes "check") form.0 check.words_are check.some
-      | inr ports ↦ no_ports ports.0 form.0 ports.1.words_are
+      | inr named ↦ no_text (word_of named.1.0) named.0 form.0 named.1.1.words_are
     ]
   where
-    no_ports : (topology : List ℕ) (files : List (List ℕ)) → word ∷ [] ≡ codes "ports" ∷ topology ∷ files → ⊥
-    no_ports topology files e = cc
+    no_text : (other topology : List ℕ) (files : List (List ℕ)) → word ∷ [] ≡ other ∷ topology ∷ files → ⊥
+    no_text other topology files e = cc
 
-topology_is_none : (topology : List ℕ) → IsForm (codes "ports" ∷ topology ∷ []) → ⊥
-topology_is_none topology form =
+topology_is_none : (text : TopologyText) (topology : List ℕ) → IsForm (word_of text ∷ topology ∷ []) → ⊥
+topology_is_none text topology form =
     elim form.1 [
-      | inl check ↦ check_not_ports (sym (head_same (codes "ports") (codes "check") (topology ∷ []) form.0 check.words_are))
-      | inr ports ↦ one_behind (codes "ports") topology (codes "ports") ports.0 form.0 ports.1.words_are ports.1.some
+      | inl check ↦ check_is_no_text text (sym (head_same (word_of text) (codes "check") (topology ∷ []) form.0 check.words_are))
+      | inr named ↦ one_behind (word_of text) topology (word_of named.1.0) named.0 form.0 named.1.1.words_are named.1.1.some
     ]
 
-other_begins_none : (word : List ℕ) (words : List (List ℕ)) → (word ≡ codes "check" → ⊥) → (word ≡ codes "ports" → ⊥) → BeginsForm (word ∷ words) → ⊥
-other_begins_none word words no_check no_ports begins =
+other_begins_none : (word : List ℕ) (words : List (List ℕ)) → (word ≡ codes "check" → ⊥) → ((text : TopologyText) → word ≡ word_of text → ⊥) → BeginsForm (word ∷ words) → ⊥
+other_begins_none word words no_check no_text begins =
     elim begins.1.1 [
       | inl check ↦ no_check (head_same word (codes "check") (words ++ begins.0) begins.1.0 check.words_are)
-      | inr ports ↦ no_ports (head_same word (codes "ports") (words ++ begins.0) (ports.0 ∷ begins.1.0) ports.1.words_are)
+      | inr named ↦ no_text named.1.0 (head_same word (word_of named.1.0) (words ++ begins.0) (named.0 ∷ begins.1.0) named.1.1.words_are)
     ]
 
 -- ---- the first word that doesn't fit or is missing
@@ -90,17 +96,17 @@ other_begins_none word words no_check no_ports begins =
 missing_command : IsWrong [] 1
 missing_command = record { counted = lit< tt; begun = none_begins; ends = inr (refl, none_is_none) }
 
-other_command : (word : List ℕ) (words : List (List ℕ)) → (word ≡ codes "check" → ⊥) → (word ≡ codes "ports" → ⊥) → IsWrong (word ∷ words) 1
-other_command word words no_check no_ports = record { counted = lit< tt; begun = none_begins; ends = inl (omega arith, other_begins_none word [] no_check no_ports) }
+other_command : (word : List ℕ) (words : List (List ℕ)) → (word ≡ codes "check" → ⊥) → ((text : TopologyText) → word ≡ word_of text → ⊥) → IsWrong (word ∷ words) 1
+other_command word words no_check no_text = record { counted = lit< tt; begun = none_begins; ends = inl (omega arith, other_begins_none word [] no_check no_text) }
 
 missing_file : IsWrong (codes "check" ∷ []) 2
 missing_file = record { counted = lit< tt; begun = check_begins; ends = inr (refl, one_is_none (codes "check")) }
 
-missing_topology : IsWrong (codes "ports" ∷ []) 2
-missing_topology = record { counted = lit< tt; begun = ports_begins; ends = inr (refl, one_is_none (codes "ports")) }
+missing_topology : (text : TopologyText) → IsWrong (word_of text ∷ []) 2
+missing_topology text = record { counted = lit< tt; begun = text_begins text; ends = inr (refl, one_is_none (word_of text)) }
 
-missing_ports_file : (topology : List ℕ) → IsWrong (codes "ports" ∷ topology ∷ []) 3
-missing_ports_file topology = record { counted = lit< tt; begun = topology_begins topology; ends = inr (refl, topology_is_none topology) }
+missing_topology_file : (text : TopologyText) (topology : List ℕ) → IsWrong (word_of text ∷ topology ∷ []) 3
+missing_topology_file text topology = record { counted = lit< tt; begun = topology_begins text topology; ends = inr (refl, topology_is_none text topology) }
 
 -- ---- the same, of words that stand for their bytes
 
@@ -110,6 +116,12 @@ differs ours read word test same is other h =
     let yes' : bytes_eq read ours ≡ true = (bytes_eq-Decides read ours).1 (same ∙ h) in
     let no' : bytes_eq read ours ≡ false = sym is ∙ other in
     cc
+
+-- a word that is none of those
+pub no_text : (word : List ℕ) (is_ports is_dict : Bool) → is_ports ≡ bytes_eq word (codes "ports") → is_ports ≡ false → is_dict ≡ bytes_eq word (codes "dict") → is_dict ≡ false
+    → (text : TopologyText) → word ≡ word_of text → ⊥
+no_text word is_ports is_dict ports no_ports dict no_dict Connections e = differs (codes "ports") word word is_ports refl ports no_ports e
+no_text word is_ports is_dict ports no_ports dict no_dict Dictionary e = differs (codes "dict") word word is_dict refl dict no_dict e
 
 -- the test that none are left
 pub none_left : (n : ℕ) (test : Bool) → test ≡ (n == 0) → test ≡ true → n ≡ 0
@@ -131,31 +143,37 @@ module _ {S : Type 0} (bytes : S → List ℕ) where
   check_of [] some = absurd (some refl)
   check_of (file ∷ files) some = record { words_are = refl; some = omega arith }
 
-  pub missing_topology_of : (words : List S) → length words ≡ 0 → IsWrong (codes "ports" ∷ map bytes words) 2
-  missing_topology_of [] e = missing_topology
+  pub other_command_of : (words : List S) (word : S) (files : List S) (first second : List ℕ) (is_check : Bool)
+      → words ≡ word ∷ files → first ≡ bytes word → is_check ≡ bytes_eq first (codes "check") → is_check ≡ false
+      → second ≡ bytes word → ((text : TopologyText) → second ≡ word_of text → ⊥) → IsWrong (map bytes words) 1
+  other_command_of words word files first second is_check e one check no_check two no_text_there =
+      subst (λ (ws : List S). IsWrong (map bytes ws) 1) (sym e)
+      (other_command (bytes word) (map bytes files) (differs (codes "check") first (bytes word) is_check one check no_check) (λ text h. no_text_there text (two ∙ h)))
+
+module _ (text : TopologyText) {S : Type 0} (bytes : S → List ℕ) where
+  pub missing_topology_of : (words : List S) → length words ≡ 0 → IsWrong (word_of text ∷ map bytes words) 2
+  missing_topology_of [] e = missing_topology text
   missing_topology_of (word ∷ words) e = absurd (omega (arith, e))
 
-  pub missing_ports_file_of : (words files : List S) (topology : S) → words ≡ topology ∷ files → length files ≡ 0 → IsWrong (codes "ports" ∷ map bytes words) 3
-  missing_ports_file_of words files topology e none = subst (λ (ws : List S). IsWrong (codes "ports" ∷ map bytes ws) 3) (sym e) (go files none)
+  pub missing_topology_file_of : (words files : List S) (topology : S) → words ≡ topology ∷ files → length files ≡ 0 → IsWrong (word_of text ∷ map bytes words) 3
+  missing_topology_file_of words files topology e none = subst (λ (ws : List S). IsWrong (word_of text ∷ map bytes ws) 3) (sym e) (go files none)
     where
-      go : (files : List S) → length files ≡ 0 → IsWrong (codes "ports" ∷ bytes topology ∷ map bytes files) 3
-      go [] e = missing_ports_file (bytes topology)
+      go : (files : List S) → length files ≡ 0 → IsWrong (word_of text ∷ bytes topology ∷ map bytes files) 3
+      go [] e = missing_topology_file text (bytes topology)
       go (file ∷ files) e = absurd (omega (arith, e))
 
-  pub ports_of : (words files : List S) (topology : S) (name : List ℕ) → words ≡ topology ∷ files → name ≡ bytes topology → (length files ≡ 0 → ⊥)
-      → IsPorts (codes "ports" ∷ map bytes words) name (map bytes files)
-  ports_of words files topology name e is some =
-      subst (λ (ws : List S). IsPorts (codes "ports" ∷ map bytes ws) name (map bytes files)) (sym e)
-      (subst (λ (n : List ℕ). IsPorts (codes "ports" ∷ bytes topology ∷ map bytes files) n (map bytes files)) (sym is) (go files some))
+  pub topology_of : (words files : List S) (topology : S) (name : List ℕ) → words ≡ topology ∷ files → name ≡ bytes topology → (length files ≡ 0 → ⊥)
+      → Names text (word_of text ∷ map bytes words) name (map bytes files)
+  topology_of words files topology name e is some =
+      subst (λ (ws : List S). Names text (word_of text ∷ map bytes ws) name (map bytes files)) (sym e)
+      (subst (λ (n : List ℕ). Names text (word_of text ∷ bytes topology ∷ map bytes files) n (map bytes files)) (sym is) (go files some))
     where
-      go : (files : List S) → (length files ≡ 0 → ⊥) → IsPorts (codes "ports" ∷ bytes topology ∷ map bytes files) (bytes topology) (map bytes files)
+      go : (files : List S) → (length files ≡ 0 → ⊥) → Names text (word_of text ∷ bytes topology ∷ map bytes files) (bytes topology) (map bytes files)
       go [] some = absurd (some refl)
       go (file ∷ files) some = record { words_are = refl; some = omega arith }
 
-  pub other_command_of : (words : List S) (word : S) (files : List S) (first second : List ℕ) (is_check is_ports : Bool)
-      → words ≡ word ∷ files → first ≡ bytes word → is_check ≡ bytes_eq first (codes "check") → is_check ≡ false
-      → second ≡ bytes word → is_ports ≡ bytes_eq second (codes "ports") → is_ports ≡ false → IsWrong (map bytes words) 1
-  other_command_of words word files first second is_check is_ports e one check no_check two ports no_ports =
-      subst (λ (ws : List S). IsWrong (map bytes ws) 1) (sym e)
-      (other_command (bytes word) (map bytes files)
-      (differs (codes "check") first (bytes word) is_check one check no_check) (differs (codes "ports") second (bytes word) is_ports two ports no_ports))
+  pub topology_command_of : (words : List S) (word : S) (files : List S) (read : List ℕ) (result : Result Command ℕ) → words ≡ word ∷ files → read ≡ bytes word → read ≡ word_of text
+      → ReadsWords (word_of text ∷ map bytes files) result → ReadsWords (map bytes words) result
+  topology_command_of words word files read result e one is reads =
+      subst (λ (ws : List S). ReadsWords (map bytes ws) result) (sym e)
+      (subst (λ (w : List ℕ). ReadsWords (w ∷ map bytes files) result) (sym is ∙ one) reads)

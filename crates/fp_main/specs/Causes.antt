@@ -15,7 +15,7 @@ use Rattle.fp_main.specs.Broken.{SourceBroken}
 use Rattle.fp_main.specs.Lines.{usage_line, refusal_line, read_fault_line, no_file_line, no_topology_line, no_memory_line}
 use Rattle.fp_main.specs.Output.{IsRead, IsDue, IsText}
 use Rattle.fp_main.specs.Topologies.{HasTopology, LacksTopology}
-use Rattle.fp_main.specs.Words.{AsksFor, IsPorts, IsWrong}
+use Rattle.fp_main.specs.Words.{AsksFor, IsWrong, NamesTopology}
 use Rattle.fp_gather.specs.gathering.Gathered.{IsAbsent, IsUnread, StandsAmong, name_of, names_read, source_of}
 use Rattle.fp_gather.specs.gathering.Walks.{NoFile as IsMissing, Outcome, Stops, Walked, WalksFiles, Went, nothing_read}
 use Rattle.fp_main.specs.declared.status.Status.{Status}
@@ -72,7 +72,7 @@ DoneMeans words files out diag status =
 
 abbrev pub NoTopologyMeans : List (List ℕ) → FilesRun → SinkRun → SinkRun → Status → Type 0
 NoTopologyMeans words files out diag status =
-    status ≡ NoTopology → (walked : Walked) × (source : Source) × (read : IsRead words files walked source) × (name : List ℕ) × IsPorts words name read.names
+    status ≡ NoTopology → (walked : Walked) × (source : Source) × (read : IsRead words files walked source) × (name : List ℕ) × NamesTopology words name read.names
     × IsUnbroken (SourceBroken walked source) × ((model : Model) × Defined source model × LacksTopology model name) × Says (no_topology_line name) out diag
 
 -- out has a proper front of the output that was due, and diag the line that says so, or a proper front of it; or out has nothing,
@@ -115,7 +115,7 @@ RefusedComes words files status =
 
 -- the topology that words name, where they name one, is in the model that a source defines
 abbrev pub IsThere : List (List ℕ) → Source → Type 0
-IsThere words source = (name : List ℕ) (names : List (List ℕ)) (model : Model) → IsPorts words name names → Defined source model → HasTopology model name
+IsThere words source = (name : List ℕ) (names : List (List ℕ)) (model : Model) → NamesTopology words name names → Defined source model → HasTopology model name
 
 -- nothing is broken, no topology is missing, and nothing failed
 abbrev pub DoneComes : List (List ℕ) → FilesRun → SinkRun → SinkRun → Status → Type 0
@@ -128,5 +128,5 @@ DoneComes words files out diag status =
 abbrev pub NoTopologyComes : List (List ℕ) → FilesRun → Status → Type 0
 NoTopologyComes words files status =
     (walked : Walked) (units : List (List Member)) (name : List ℕ) (names : List (List ℕ))
-    → Asked words files (Went walked units) → IsUnbroken (SourceBroken walked (source_of walked units)) → IsPorts words name names
+    → Asked words files (Went walked units) → IsUnbroken (SourceBroken walked (source_of walked units)) → NamesTopology words name names
     → ((model : Model) → Defined (source_of walked units) model → LacksTopology model name) → Sound files → EndsAs NoTopology status

@@ -13,8 +13,11 @@ use Rattle.fp_gather.specs.gathering.Walks.{Walked}
 use Rattle.fp_main.specs.Broken.{SourceBroken}
 use Rattle.fp_main.specs.Lines.{usage_line, refusal_line, read_fault_line, no_file_line, no_topology_line, no_memory_line}
 use Rattle.fp_listing.specs.Listing.{Listing, PortLines}
+use Rattle.fp_dictionary.specs.Dictionary.{IsDictionaryText}
 use Rattle.fp_main.specs.Topologies.{IsTopology, LacksTopology}
-use Rattle.fp_main.specs.Words.{AsksFor, IsCheck, IsPorts, IsWrong}
+use Rattle.fp_main.specs.Words.{AsksFor, IsCheck, IsWrong, Names, NamesTopology}
+use Rattle.fp_main.specs.declared.words.TopologyText.{TopologyText}
+use Rattle.fp_main.specs.declared.words.TopologyText.TheVariants.{Connections, Dictionary}
 use Rattle.fp_main.specs.declared.status.Status.{Status}
 use Rattle.fp_main.specs.declared.status.Status.TheVariants.{Done, Refused, Usage, ReadFault, NoFile, NoMemory, NoTopology}
 
@@ -65,11 +68,16 @@ pub record DueRefused (words : List (List ℕ)) (files : FilesRun) (output line 
   pub says : SaysBroken (SourceBroken walked source) (names_read walked) output line
   pub among : StandsAmong (names_read walked) says.refusal
 
--- the words ask for this text of a model: its listing, or the connections of the topology that they name
+-- a text of the topology at a position: its connections, or its dictionary
+abbrev pub IsTopologyText : TopologyText → Model → ℕ → List ℕ → Type 0
+IsTopologyText Connections model at text = text ≡ PortLines model at
+IsTopologyText Dictionary model at text = IsDictionaryText model at text
+
+-- the words ask for this text of a model: its listing, or the text of the topology that they name
 abbrev pub IsText : List (List ℕ) → List (List ℕ) → Model → List ℕ → Type 0
 IsText words names model text =
     (IsCheck words names × (text ≡ Listing model))
-    ⊎ ((topology : List ℕ) × IsPorts words topology names × ((at : ℕ) × IsTopology model topology at × (text ≡ PortLines model at)))
+    ⊎ ((topology : List ℕ) × (wanted : TopologyText) × Names wanted words topology names × ((at : ℕ) × IsTopology model topology at × IsTopologyText wanted model at text))
 
 -- the text that the words ask for, of the model that the source defines
 pub record DueText (words : List (List ℕ)) (files : FilesRun) (output line : List ℕ) : Type 0 where
@@ -88,7 +96,7 @@ pub record DueNoTopology (words : List (List ℕ)) (files : FilesRun) (output li
   pub source : Source
   pub read : IsRead words files walked source
   pub topology : List ℕ
-  pub ports : IsPorts words topology read.names
+  pub named : NamesTopology words topology read.names
   pub unbroken : IsUnbroken (SourceBroken walked source)
   pub model : Model
   pub defined : Defined source model
@@ -100,7 +108,7 @@ pub record DueNoTopology (words : List (List ℕ)) (files : FilesRun) (output li
 abbrev pub IsDueOf : List (List ℕ) → List (List ℕ) → Model → Status → List ℕ → List ℕ → Type 0
 IsDueOf words names model Done output line = IsText words names model output × (line ≡ [])
 IsDueOf words names model NoTopology output line =
-    ((topology : List ℕ) × IsPorts words topology names × LacksTopology model topology × (line ≡ no_topology_line topology)) × (output ≡ [])
+    ((topology : List ℕ) × NamesTopology words topology names × LacksTopology model topology × (line ≡ no_topology_line topology)) × (output ≡ [])
 IsDueOf words names model _ output line = ⊥
 
 -- what they have to write for a source whose files and includes break no rule

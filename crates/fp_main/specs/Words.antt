@@ -3,21 +3,32 @@ use Rattle.std.specs.Prelude.{ℕ, ◌≡◌, ◌+◌, ◌-◌, ◌<◌, ◌≤�
 use Rattle.std.specs.String.{string_bytes}
 use Rattle.fp_main.specs.declared.words.Command.{Command}
 use Rattle.fp_main.specs.declared.words.Wanted.{Wanted}
-use Rattle.fp_main.specs.declared.words.Wanted.TheVariants.{Connections, Listing}
+use Rattle.fp_main.specs.declared.words.Wanted.TheVariants.{Listing, OfTopology}
+use Rattle.fp_main.specs.declared.words.TopologyText.{TopologyText}
+use Rattle.fp_main.specs.declared.words.TopologyText.TheVariants.{Connections, Dictionary}
 
 -- the words `check FILE..` with these files, at least one
 pub record IsCheck (words files : List (List ℕ)) : Type 0 where
   pub words_are : words ≡ codes "check" ∷ files
   pub some : 0 < length files
 
--- the words `ports TOPOLOGY FILE..` with this topology, any word, and these files, at least one
-pub record IsPorts (words : List (List ℕ)) (topology : List ℕ) (files : List (List ℕ)) : Type 0 where
-  pub words_are : words ≡ codes "ports" ∷ topology ∷ files
+-- the word that asks for a text of a topology
+abbrev pub word_of : TopologyText → List ℕ
+word_of Connections = codes "ports"
+word_of Dictionary = codes "dict"
+
+-- the words `WORD TOPOLOGY FILE..` with the word of this text, this topology, any word, and these files, at least one
+pub record Names (text : TopologyText) (words : List (List ℕ)) (topology : List ℕ) (files : List (List ℕ)) : Type 0 where
+  pub words_are : words ≡ word_of text ∷ topology ∷ files
   pub some : 0 < length files
+
+-- the words name this topology, and ask for these files
+abbrev pub NamesTopology : List (List ℕ) → List ℕ → List (List ℕ) → Type 0
+NamesTopology words topology files = (text : TopologyText) × Names text words topology files
 
 -- the words are of some form, and ask for these files
 abbrev pub AsksFor : List (List ℕ) → List (List ℕ) → Type 0
-AsksFor words files = IsCheck words files ⊎ ((topology : List ℕ) × IsPorts words topology files)
+AsksFor words files = IsCheck words files ⊎ ((topology : List ℕ) × NamesTopology words topology files)
 
 -- the words are of some form
 abbrev pub IsForm : List (List ℕ) → Type 0
@@ -36,7 +47,7 @@ pub record IsWrong (words : List (List ℕ)) (number : ℕ) : Type 0 where
 -- the words are of the form that asks for this, with these files
 abbrev pub Spells : List (List ℕ) → Wanted → List (List ℕ) → Type 0
 Spells words Listing files = IsCheck words files
-Spells words (Connections topology) files = IsPorts words topology.now files
+Spells words (OfTopology text name) files = Names text words name.now files
 
 -- what is made of the words
 abbrev pub ReadsWords : List (List ℕ) → Result Command ℕ → Type 0

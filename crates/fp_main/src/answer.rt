@@ -8,15 +8,16 @@ ghost use Rattle.fp_gather.specs.FilesRun.{files_run};
 ghost use Rattle.fp_gather.specs.gathering.Gathered.{name_of as name_in};
 ghost use Rattle.fp_tables.specs.Positions.{lists_are_short};
 ghost use Rattle.fp_main.specs.Lines.{refusal_line as line_of};
-ghost use Rattle.fp_main.specs.Output.{IsDue, IsDueFor, IsDueOf};
+ghost use Rattle.fp_main.specs.Output.{IsDue, IsDueFor, IsDueOf, IsTopologyText};
 ghost use Rattle.fp_main.specs.declared.status.Status.TheVariants.{Done, Refused};
-ghost use Rattle.fp_main.specs.Words.{IsPorts, IsWrong, Spells};
+ghost use Rattle.fp_main.specs.Words.{IsWrong, Names, Spells};
 
 use crate::lines::{no_file_line, no_topology_line, read_fault_line, refusal_line, usage_line};
 use crate::status::Status;
 use crate::topologies::topology_named;
-use crate::words::{Wanted, read_words};
+use crate::words::{TopologyText, Wanted, read_words};
 use fp_base::{NoMemory, Refusal, Row, Stop};
+use fp_dictionary::dictionary;
 use fp_enum_sites::{enumerations_have_constants, part_enumerations_have_constants};
 use fp_fault_places::{
     instances_break_at_places, numbers_break_at_places, parts_break_at_places,
@@ -72,24 +73,44 @@ fn answer_model(alloc: Global, model: &Model, wanted: Wanted) -> Result<Due, NoM
             let output = listing(alloc, model)?;
             Ok(done(alloc, output))
         }
-        Wanted::Connections(name) => answer_connections(alloc, model, name),
+        Wanted::OfTopology { text, name } => answer_topology(alloc, model, text, name),
     }
 }
 
-/// What is due for the connections of the topology of a name.
-fn answer_connections(alloc: Global, model: &Model, name: &str) -> Result<Due, NoMemory>
+/// What is due for a text of the topology of a name.
+fn answer_topology(
+    alloc: Global,
+    model: &Model,
+    text: TopologyText,
+    name: &str,
+) -> Result<Due, NoMemory>
     requires { lists_are_short model.now ≡ true }
-    ensures { (words names : List (List ℕ)) → IsPorts words name.now names → IfOk result (λ due. IsDueOf words names model.now due.status due.output due.line) }
+    ensures { (words names : List (List ℕ)) → Names text words name.now names → IfOk result (λ due. IsDueOf words names model.now due.status due.output due.line) }
 {
     match topology_named(model, name) {
         Some(topology) => {
-            let output = port_lines(alloc, model, topology)?;
+            let output = topology_text(alloc, model, text, topology)?;
             Ok(done(alloc, output))
         }
         None => {
             let line = no_topology_line(alloc, name)?;
             Ok(said(alloc, Status::NoTopology, line))
         }
+    }
+}
+
+/// A text of the topology at a position.
+fn topology_text(
+    alloc: Global,
+    model: &Model,
+    text: TopologyText,
+    topology: u32,
+) -> Result<Row<u8>, NoMemory>
+    ensures { IfOk result (IsTopologyText text model.now topology) }
+{
+    match text {
+        TopologyText::Connections => port_lines(alloc, model, topology),
+        TopologyText::Dictionary => dictionary(alloc, model, topology),
     }
 }
 

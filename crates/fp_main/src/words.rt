@@ -1,14 +1,24 @@
-ghost use Rattle.std.specs.Prelude.{◌∷◌, codes, map};
+ghost use Rattle.std.specs.Prelude.{◌≡◌, ◌∷◌, codes, map, MatchOption};
 ghost use Rattle.std.specs.String.{string_bytes};
-ghost use Rattle.fp_main.specs.Words.{ReadsWords};
+ghost use Rattle.fp_main.specs.Words.{ReadsWords, word_of};
+ghost use Rattle.fp_main.specs.declared.words.TopologyText.{TopologyText as Asked};
+
+/// A text of a topology.
+#[derive(Clone, Copy)]
+pub enum TopologyText {
+    /// Its connections, with the numbers of their ports.
+    Connections,
+    /// Its dictionary.
+    Dictionary,
+}
 
 /// What is asked for of a model.
 #[derive(Clone, Copy)]
 pub enum Wanted<'a> {
     /// Its listing.
     Listing,
-    /// The connections of the topology of this name.
-    Connections(&'a str),
+    /// A text of the topology of this name.
+    OfTopology { text: TopologyText, name: &'a str },
 }
 
 /// What the words ask for, of the model that the source in some files defines.
@@ -27,12 +37,26 @@ pub fn read_words(words: &[String]) -> Result<Command<'_>, u64>
         Some((command, rest)) => {
             if command.as_str() == "check" {
                 read_check(rest)
-            } else if command.as_str() == "ports" {
-                read_ports(rest)
             } else {
-                Err(1)
+                match text_of(command.as_str()) {
+                    Some(text) => read_topology(text, rest),
+                    None => Err(1),
+                }
             }
         }
+    }
+}
+
+/// The text of a topology for which this word asks.
+fn text_of(word: &str) -> Option<TopologyText>
+    ensures { MatchOption result ((text : Asked) → word.now ≡ word_of text → ⊥) (λ text. word.now ≡ word_of text) }
+{
+    if word == "ports" {
+        Some(TopologyText::Connections)
+    } else if word == "dict" {
+        Some(TopologyText::Dictionary)
+    } else {
+        None
     }
 }
 
@@ -48,9 +72,9 @@ fn read_check(files: &[String]) -> Result<Command<'_>, u64>
     }
 }
 
-/// What follows the word `ports`.
-fn read_ports(rest: &[String]) -> Result<Command<'_>, u64>
-    ensures { ReadsWords (codes "ports" ∷ map string_bytes rest.now) result }
+/// What follows the word that asks for a text of a topology.
+fn read_topology(text: TopologyText, rest: &[String]) -> Result<Command<'_>, u64>
+    ensures { ReadsWords (word_of text ∷ map string_bytes rest.now) result }
 {
     match rest.split_first() {
         None => Err(2),
@@ -58,7 +82,8 @@ fn read_ports(rest: &[String]) -> Result<Command<'_>, u64>
             if files.is_empty() {
                 Err(3)
             } else {
-                let wanted = Wanted::Connections(topology.as_str());
+                let name = topology.as_str();
+                let wanted = Wanted::OfTopology { text, name };
                 Ok(Command { wanted, files })
             }
         }
