@@ -90,7 +90,7 @@ module _ (G : Place → Type 0) where
   parts_placed (form.Array items) h = items_placed items h
   parts_placed (form.Struct members) h = (members_placed members h).1
 
-  part_placed : (e part : Expr) (k : ℕ) → StandIn e → slice_get (parts_of (opened e)) k ≡ Some part → StandIn part
+  pub part_placed : (e part : Expr) (k : ℕ) → StandIn e → slice_get (parts_of (opened e)) k ≡ Some part → StandIn part
   part_placed e part k h at = of_item StandIn (parts_of (opened e)) k part (parts_placed (opened e) (open_expression e h).1) at
 
   module _ (source : Source) (scope : Path) where

@@ -12,6 +12,7 @@ mod Parted
 mod PartForms
 mod PartNames
 mod PartNumbers
+mod Phases
 mod PortRules
 mod Standing
 mod States

@@ -27,6 +27,7 @@ use Rattle.fp_fault_places.proofs.InstanceRules.{instances_placed as component_i
 use Rattle.fp_fault_places.proofs.LinkPlaces.{links_stand}
 use Rattle.fp_fault_places.proofs.NumberRules.{numbers_placed}
 use Rattle.fp_fault_places.proofs.PartForms.{part_forms_placed}
+use Rattle.fp_fault_places.proofs.Phases.{phases_placed}
 use Rattle.fp_fault_places.proofs.PortRules.{ports_placed}
 use Rattle.fp_fault_places.proofs.States.{instances_placed, machines_placed}
 use Rattle.fp_fault_places.proofs.TopologyRules.{topologies_placed}
@@ -46,7 +47,8 @@ values_placed source f (inl b) = constants_placed (IsPlaceOf source) source (all
 values_placed source f (inr (inl b)) = types_broken (IsPlaceOf source) source (all_stand source) f b
 values_placed source f (inr (inr (inl b))) = formats_placed (IsPlaceOf source) source (all_stand source) f b
 values_placed source f (inr (inr (inr (inl b)))) = part_forms_placed (IsPlaceOf source) source (all_stand source) f b
-values_placed source f (inr (inr (inr (inr (ws, are, b))))) = conversions_placed (IsPlaceOf source) source ws (all_stand source) f b
+values_placed source f (inr (inr (inr (inr (inl (ws, are, b)))))) = conversions_placed (IsPlaceOf source) source ws (all_stand source) f b
+values_placed source f (inr (inr (inr (inr (inr b))))) = phases_placed (IsPlaceOf source) source (all_stand source) f b
 
 module _ (source : Source) (w : WrittenSource) (are : IsWrittenSource source w) where
   interfaces_placed : Each (InterfaceStands (IsPlaceOf source)) w.interfaces

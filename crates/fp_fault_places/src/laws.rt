@@ -8,7 +8,8 @@ ghost use Rattle.fp_fault_places.specs.Standing.{IsPlaceOf};
 
 use fp_topology_imports::unbroken_imports_are_closed;
 
-/// A rule of constants, of types, of formats or of what belongs to components that a source breaks is broken at a place of one of its items.
+/// A rule of constants, of types, of formats, of what belongs to components or of phases of instances that a source breaks is broken at a place
+/// of one of its items.
 pub fn values_break_at_places()
     ensures { (source : Source) (f : Refusal) → ValuesBroken source f → IsPlaceOf source f.place }
 {}

@@ -1,4 +1,4 @@
--- What is found of values, types, formats and parts of a source that is laid out flat, put together.
+-- What is found of values, types, formats, parts and phases of a source that is laid out flat, put together.
 use Rattle.std.proofs.Common.{◌≡◌, ℕ, inl, inr, List, flat_map, map, Option, Some, None, sym, subst}
 use Rattle.std.specs.Prelude.{option_to_list}
 use Rattle.fp_base.specs.Least.{Either, IsLeast, IsUnbroken, lesser_of}
@@ -28,6 +28,7 @@ use Rattle.fp_source_types.proofs.Resolved.{given_types}
 use Rattle.fp_part_forms.specs.Broken.{PartFormsBroken}
 use Rattle.fp_part_forms.specs.Standing.{AreValued}
 use Rattle.fp_part_values.specs.Broken.{PartValuesBroken}
+use Rattle.fp_phases.specs.Broken.{PhasesBroken}
 use Rattle.fp_source_components.specs.Valued.{IsValued}
 use Rattle.fp_model.specs.Broken.{ConversionsBroken, ValuesBroken}
 
@@ -39,7 +40,7 @@ module _ (source : Source) (is : List Item) (laid : is ≡ items source) where
 
   -- the least of all, from those of each sort of rules
   pub judged : (constants types formats of_parts behind of_types first : Option Refusal) → IsLeast (ConstantsBroken source) constants → IsLeast (TypesBroken source) types
-      → IsLeast (BrokenByFormats is) formats → IsLeast (Either (PartFormsBroken source) (ConversionsBroken source)) of_parts
+      → IsLeast (BrokenByFormats is) formats → IsLeast (Either (PartFormsBroken source) (Either (ConversionsBroken source) (PhasesBroken source))) of_parts
       → behind ≡ lesser_of formats of_parts → of_types ≡ lesser_of types behind → first ≡ lesser_of constants of_types → IsLeast (ValuesBroken source) first
   judged constants types formats of_parts behind of_types first c t f p d e g =
       let formatted : IsLeast (FormatsBroken source) formats = subst (λ (xs : List Item). IsLeast (BrokenByFormats xs) formats) laid f in
@@ -68,7 +69,7 @@ module _ (source : Source) (unbroken : IsUnbroken (ValuesBroken source)) where
     types_unbroken = types_unbroken;
     formats_unbroken = λ f b. unbroken f (inr (inr (inl b)));
     forms_unbroken = λ f b. unbroken f (inr (inr (inr (inl b))));
-    conversions_unbroken = λ f b. unbroken f (inr (inr (inr (inr (ws, written, b)))));
+    conversions_unbroken = λ f b. unbroken f (inr (inr (inr (inr (inl (ws, written, b))))));
   }
 
 -- what is found of a source: what its items are resolved to, what is written of its types and what they come to, and the least rule of values
@@ -87,7 +88,8 @@ module _ (source : Source) (is : List Item) (laid : is ≡ items source) (meanin
 
   pub found : (marked : List (Option TypeDef)) → ((s : Source) → AreWritten s ws → AreTypesOf s marked) → (constants types formats of_parts behind of_types first : Option Refusal)
       → IsLeast (ConstantsBroken source) constants → FoundHere TypesBroken types → IsLeast (BrokenByFormats is) formats
-      → FoundHere (λ s. Either (PartFormsBroken s) (ConversionsBroken s)) of_parts → behind ≡ lesser_of formats of_parts → of_types ≡ lesser_of types behind → first ≡ lesser_of constants of_types
+      → FoundHere (λ s. Either (PartFormsBroken s) (Either (ConversionsBroken s) (PhasesBroken s))) of_parts → behind ≡ lesser_of formats of_parts → of_types ≡ lesser_of types behind
+      → first ≡ lesser_of constants of_types
       → IsFound source values rs ws marked first
   found marked gives constants types formats of_parts behind of_types first c t f p d e g =
       let of = items_of source is laid meanings values at same meant valued in

@@ -1,5 +1,5 @@
--- What a source breaks, phase by phase: the rules of names; then those of values, which are those of constants, of types, of formats and of what
--- belongs to components; then those of ports, dictionaries and components; those of state machines and their instances; those of instances of
+-- What a source breaks, phase by phase: the rules of names; then those of values, which are those of constants, of types, of formats, of what
+-- belongs to components and of phases of instances; then those of ports, dictionaries and components; those of state machines and their instances; those of instances of
 -- components; those of topologies; and then those of numbering, over all topologies.
 use Rattle.std.specs.Prelude.{List, [], ◌∷◌}
 use Rattle.fp_base.specs.declared.refusal.Refusal.{Refusal}
@@ -7,6 +7,7 @@ use Rattle.fp_base.specs.Least.{Either}
 use Rattle.fp_tree.specs.declared.source.Source.{Source}
 use Rattle.fp_meaning.specs.Broken.{NamesBroken}
 use Rattle.fp_meaning.specs.ConstantFaults.{ConstantsBroken}
+use Rattle.fp_phases.specs.Broken.{PhasesBroken}
 use Rattle.fp_type_sizes.specs.declared.written.WrittenType.{WrittenType}
 use Rattle.fp_type_forms.specs.Written.{AreWritten}
 use Rattle.fp_source_types.specs.Broken.{TypesBroken}
@@ -26,7 +27,8 @@ ConversionsBroken source f = (ws : List WrittenType) × AreWritten source ws × 
 -- they are of one phase, so that the least of all counts
 abbrev pub ValuesBroken : Source → Refusal → Type 0
 ValuesBroken source =
-    Either (ConstantsBroken source) (Either (TypesBroken source) (Either (FormatsBroken source) (Either (PartFormsBroken source) (ConversionsBroken source))))
+    Either (ConstantsBroken source) (Either (TypesBroken source) (Either (FormatsBroken source)
+    (Either (PartFormsBroken source) (Either (ConversionsBroken source) (PhasesBroken source)))))
 
 -- of the machines, and of instances of them in components
 abbrev pub StatesBroken : Source → Refusal → Type 0

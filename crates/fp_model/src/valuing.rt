@@ -7,6 +7,7 @@ ghost use Rattle.fp_meaning.specs.Meaning.{AreMeanings};
 ghost use Rattle.fp_meaning.specs.Names.{definitions, mentions};
 ghost use Rattle.fp_meaning.specs.Origins.{expressions};
 ghost use Rattle.fp_part_forms.specs.Broken.{PartFormsBroken};
+ghost use Rattle.fp_phases.specs.Broken.{PhasesBroken};
 ghost use Rattle.fp_source_components.specs.Valued.{IsValued};
 ghost use Rattle.fp_source_types.specs.Listed.{EnumsHaveConstants};
 ghost use Rattle.fp_source_types.specs.Measured.{IsMeasured};
@@ -22,6 +23,7 @@ use fp_meaning::Item;
 use fp_names::Names;
 use fp_part_forms::part_form_faults;
 use fp_part_values::part_value_faults;
+use fp_phases::phase_faults;
 use fp_source_types::{
     Measured, given_among, measured_in, types_measured, unbroken_types_exist, unbroken_values_exist,
 };
@@ -38,8 +40,8 @@ pub struct Valued {
     pub types: Row<TypeDef>,
 }
 
-/// The values of the expressions and the types of a source that is laid out flat, or the least rule that it breaks of constants, types, formats and
-/// what belongs to components.
+/// The values of the expressions and the types of a source that is laid out flat, or the least rule that it breaks of constants, types, formats,
+/// what belongs to components and phases of instances.
 pub fn values_of(
     alloc: Global,
     source: &Source,
@@ -82,16 +84,18 @@ pub fn values_of(
     }
 }
 
-/// The least rule of values that is broken in what belongs to components.
+/// The least rule of values that is broken in what belongs to components, or in phases of instances.
 fn parts_broken(items: &[Item], measured: &Measured, values: &[Option<Value>]) -> Option<Refusal>
     requires { IsMeasured measured.now }
     ensures { (source : Files) → items.now ≡ layout.items source → AreResolved source values.now measured.now.resolutions items.now 0
-        → AreWritten source measured.now.written → IsLeast (Either (PartFormsBroken source) (ConversionsBroken source)) result }
+        → AreWritten source measured.now.written → IsLeast (Either (PartFormsBroken source) (Either (ConversionsBroken source) (PhasesBroken source))) result }
 {
     let resolutions = measured.resolutions.as_slice();
     let types = measured.written.as_slice();
     let sizes = measured.extents.as_slice();
     let forms = part_form_faults(items, resolutions, values);
     let conversions = part_value_faults(items, resolutions, values, types, sizes);
-    lesser(forms, conversions)
+    let floats = phase_faults(items);
+    let others = lesser(conversions, floats);
+    lesser(forms, others)
 }

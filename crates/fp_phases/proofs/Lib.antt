@@ -1,0 +1,2 @@
+mod Floating
+mod Folding
