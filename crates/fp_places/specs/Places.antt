@@ -1,9 +1,10 @@
 -- The places in definitions at which rules of constants, types, formats, components, state machines and topologies can be broken: of names
 -- that are defined, of types, of expressions and of the expressions and members that these are made of, of formats, of the parts of
--- components and interfaces, of the elements of machines and of each signal, action, guard, state or choice that is named in one, and of the
--- members of topologies, of their connections and of the instances and ports that these name.
+-- components and interfaces, of the elements of machines and of each signal, action, guard, state or choice that is named in one, of the
+-- phases of instances, and of the members of topologies, of their connections and of the instances and ports that these name.
 -- FPP Language Specification, "Definitions", "Expressions", "Type Names", "Component Definitions", "Interface Definitions", "State Machine
--- Definitions", "State Machine Behavior Elements", "Topology Definitions", "Component Instance Specifiers" and "Connection Graph Specifiers".
+-- Definitions", "State Machine Behavior Elements", "Component Instance Definitions", "Init Specifiers", "Topology Definitions", "Component
+-- Instance Specifiers" and "Connection Graph Specifiers".
 use Rattle.std.specs.Prelude.{List, [], ◌∷◌, ◌++◌, flat_map, map, Option}
 use Rattle.fp_base.specs.declared.place.Place.{Place}
 use Rattle.fp_base.specs.declared.place.Span.{Span}
@@ -41,6 +42,7 @@ use Rattle.fp_tree.specs.declared.component.Part.{Part}
 use Rattle.fp_tree.specs.declared.component.Part.TheVariants as part
 use Rattle.fp_tree.specs.declared.component.InterfacePart.{InterfacePart}
 use Rattle.fp_tree.specs.declared.component.InterfacePart.TheVariants as interface_part
+use Rattle.fp_tree.specs.declared.instance.Phase.{Phase}
 use Rattle.fp_tree.specs.declared.topology.Connection.{Connection}
 use Rattle.fp_tree.specs.declared.topology.Target.{Target}
 use Rattle.fp_tree.specs.declared.topology.TMember.{TMember}
@@ -195,6 +197,12 @@ places_in_element e = places_in_element_form e.at e.form
 abbrev pub places_in_behavior : Behavior → List Place
 places_in_behavior b = flat_map places_in_element b.elements
 
+-- ---- what belongs to instances
+
+-- of the expression of a phase, which is no item
+abbrev pub places_in_phase : Phase → List Place
+places_in_phase p = places_in_expression p.phase
+
 -- ---- what belongs to topologies
 
 abbrev pub places_in_connection : Connection → List Place
@@ -211,12 +219,12 @@ places_in_topology_member (topology_member.Include i) = i.at.first ∷ []
 places_in_topology_member (topology_member.Connections cs) = flat_map places_in_connection cs.connections
 places_in_topology_member (topology_member.Pattern p) = p.at.first ∷ p.of.at.first ∷ in_optional places_in_targets p.targets
 
--- of an instance of a component its name and its expressions are enough, and these are items of their own
+-- of an instance of a component the expressions of its phases; its other expressions are items of their own
 abbrev pub places_of_model : ModelDef → List Place
 places_of_model (component c) = flat_map places_in_part c.parts
 places_of_model (interface i) = flat_map places_in_interface_part i.parts
 places_of_model (machine m) = m.at.first ∷ in_optional places_in_behavior m.behavior
-places_of_model (instance i) = []
+places_of_model (instance i) = flat_map places_in_phase i.phases
 places_of_model (topology t) = flat_map places_in_topology_member t.members
 
 -- of what an item stands for
