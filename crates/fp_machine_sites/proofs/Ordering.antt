@@ -62,7 +62,7 @@ definition_held d h note = record {
   names = any_names (names_in_definition (noted_definition d note));
 }
 
-pub belonging : (d : ModelDef) → Belonging HasOrderedElements (λ c. Unit {0}) (λ i. Unit {0}) (λ t. Unit {0}) d → IsOrderedModel d
+pub belonging : (d : ModelDef) → Belonging HasOrderedElements (λ c. Unit {0}) (λ i. Unit {0}) (λ n. Unit {0}) (λ t. Unit {0}) d → IsOrderedModel d
 belonging (machine m) h = h
 belonging (component c) h = tt
 belonging (interface i) h = tt
@@ -83,10 +83,12 @@ ordering depth = record {
   OfMachine = HasOrderedElements;
   OfComponent = λ c. Unit {0};
   OfInterface = λ i. Unit {0};
+  OfInstance = λ i. Unit {0};
   OfTopology = λ t. Unit {0};
   machines_given = machine_yields depth;
   components_given = gives_less _ (λ c h note. tt) gives_anything;
   interfaces_given = gives_less _ (λ i h note. tt) gives_anything;
+  instances_given = gives_less _ (λ i h note. tt) gives_anything;
   topologies_given = gives_less _ (λ t h note. tt) gives_anything;
   declared = λ scope d h b. belonging d b;
   used = λ group scope q h. tt;

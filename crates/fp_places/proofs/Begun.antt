@@ -19,6 +19,7 @@ use Rattle.fp_places.proofs.Tokens.{Begins, name_yields}
 use Rattle.fp_places.proofs.Expressions.{StandIn, expression_yields}
 use Rattle.fp_places.proofs.Components.{component_yields, interface_yields}
 use Rattle.fp_places.proofs.Machines.{machine_yields}
+use Rattle.fp_places.proofs.Instances.{instance_yields}
 use Rattle.fp_places.proofs.Topologies.{topology_yields}
 use Rattle.fp_places.proofs.Definitions.{StandInType, StandNoted, StandOf, type_placed, type_yields, definition_placed, definition_yields}
 
@@ -43,12 +44,12 @@ module _ (G : Place → Type 0) (depth : ℕ) where
   definition_held d h note = record { items = λ scope. definition_placed G scope (noted_definition d note) (h note); names = any_names (names_in_definition (noted_definition d note)) }
 
   pub belonging : (d : ModelDef)
-      → Belonging (λ m. Each G (places_of_model (machine m))) (λ c. Each G (places_of_model (component c))) (λ i. Each G (places_of_model (interface i))) (λ t. Each G (places_of_model (topology t))) d
+      → Belonging (λ m. Each G (places_of_model (machine m))) (λ c. Each G (places_of_model (component c))) (λ i. Each G (places_of_model (interface i))) (λ n. Each G (places_of_model (instance n))) (λ t. Each G (places_of_model (topology t))) d
       → Each G (places_of_model d)
   belonging (component c) h = h
   belonging (interface i) h = h
   belonging (machine m) h = h
-  belonging (instance i) h = tt
+  belonging (instance n) h = h
   belonging (topology t) h = h
 
   unfoldable pub begun : Known depth
@@ -65,10 +66,12 @@ module _ (G : Place → Type 0) (depth : ℕ) where
     OfMachine = λ m. Each G (places_of_model (machine m));
     OfComponent = λ c. Each G (places_of_model (component c));
     OfInterface = λ i. Each G (places_of_model (interface i));
+    OfInstance = λ n. Each G (places_of_model (instance n));
     OfTopology = λ t. Each G (places_of_model (topology t));
     machines_given = machine_yields G depth;
     components_given = component_yields G depth;
     interfaces_given = interface_yields G depth;
+    instances_given = instance_yields G depth;
     topologies_given = topology_yields G depth;
     declared = λ scope d h b. (h, belonging d b);
     used = λ group scope q h. tt;

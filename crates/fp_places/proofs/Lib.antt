@@ -1,6 +1,7 @@
 mod Begun
 mod Components
 mod Machines
+mod Instances
 mod Topologies
 pub mod Definitions
 pub mod Expressions

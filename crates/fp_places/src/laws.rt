@@ -13,8 +13,8 @@ ghost use Rattle.fp_sites.specs.Sites.{BeginsToken, in_parts, in_topology};
 ghost use Rattle.fp_places.specs.Places.{places_in_part, places_in_topology_member, places_of};
 
 /// Where the tokens of a file spell members, each place in these of a name that is defined, of a type, of an expression and of what it is
-/// made of, of a format, of a part of a component or an interface, of an element of a machine and of what it uses, and of a member of a
-/// topology, a connection and the instances and ports that it names, is one where one of the tokens begins.
+/// made of, also in the phases of an instance, of a format, of a part of a component or an interface, of an element of a machine and of what
+/// it uses, and of a member of a topology, a connection and the instances and ports that it names, is one where one of the tokens begins.
 pub fn places_begin_tokens()
     ensures { (tokens : List Token) (ms : List Member) (scope : Path) (i : Item) (place : Place) → SpellsUnit tokens ms → Contains (in_members scope ms) i → Contains (places_of i) place → BeginsToken tokens place }
 {}

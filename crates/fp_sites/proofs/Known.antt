@@ -11,6 +11,7 @@ use Rattle.fp_tree.specs.declared.definition.Def.{Def}
 use Rattle.fp_tree.specs.declared.machine.Machine.{Machine}
 use Rattle.fp_tree.specs.declared.component.Component.{Component}
 use Rattle.fp_tree.specs.declared.component.Interface.{Interface}
+use Rattle.fp_tree.specs.declared.instance.Instance.{Instance}
 use Rattle.fp_tree.specs.declared.topology.PortUse.{PortUse}
 use Rattle.fp_tree.specs.declared.topology.Topology.{Topology}
 use Rattle.fp_meaning.specs.declared.group.Group.{Group}
@@ -27,18 +28,19 @@ use Rattle.fp_parse_defs.specs.Language.{expression}
 use Rattle.fp_parse_defs.specs.Definitions.{definition, noted_definition, type_name}
 use Rattle.fp_parse_states.specs.Nested.{machine as machine_spelled}
 use Rattle.fp_parse_components.specs.Components.{component as component_spelled, interface as interface_spelled}
+use Rattle.fp_parse_topologies.specs.Instances.{component_instance}
 use Rattle.fp_parse_topologies.specs.Topologies.{topology as topology_spelled}
 use Rattle.fp_sites.specs.Parts.{names_in_expression, names_in_type, names_in_definition}
 use Rattle.fp_sites.proofs.Preserving.{Gives, gives_less, gives_optional, gives_after}
 use Rattle.fp_sites.proofs.Held.{Held, held_behind, held_named, held_option}
 
--- what is known of what belongs to a machine, a component, an interface or a topology
-abbrev pub Belonging : (Machine → Type 0) → (Component → Type 0) → (Interface → Type 0) → (Topology → Type 0) → ModelDef → Type 0
-Belonging M C I T (machine m) = M m
-Belonging M C I T (component c) = C c
-Belonging M C I T (interface i) = I i
-Belonging M C I T (instance i) = Unit {0}
-Belonging M C I T (topology t) = T t
+-- what is known of what belongs to a machine, a component, an interface, an instance or a topology
+abbrev pub Belonging : (Machine → Type 0) → (Component → Type 0) → (Interface → Type 0) → (Instance → Type 0) → (Topology → Type 0) → ModelDef → Type 0
+Belonging M C I N T (machine m) = M m
+Belonging M C I N T (component c) = C c
+Belonging M C I N T (interface i) = I i
+Belonging M C I N T (instance n) = N n
+Belonging M C I N T (topology t) = T t
 
 pub record Known (depth : ℕ) : Type 1 where
   -- what is said of a token, of an item and of a name
@@ -52,17 +54,19 @@ pub record Known (depth : ℕ) : Type 1 where
   pub using_given : Gives kind OfToken qual Using
   pub named : (n : Name) → Naming n → OfName n
   pub all_named : (q : Qual) → Using q → Each OfName q.names
-  -- what is known of machines, components, interfaces and topologies, and of what belongs to these, beside names and expressions
+  -- what is known of machines, components, interfaces, instances and topologies, and of what belongs to these, beside names and items
   pub OfMachine : Machine → Type 0
   pub OfComponent : Component → Type 0
   pub OfInterface : Interface → Type 0
+  pub OfInstance : Instance → Type 0
   pub OfTopology : Topology → Type 0
   pub machines_given : Gives kind OfToken (machine_spelled depth) (λ (m : Machine). (note : List ℕ) → OfMachine (record m { note = note }))
   pub components_given : Gives kind OfToken (component_spelled depth) (λ (c : Component). (note : List ℕ) → OfComponent (record c { note = note }))
   pub interfaces_given : Gives kind OfToken (interface_spelled depth) (λ (i : Interface). (note : List ℕ) → OfInterface (record i { note = note }))
+  pub instances_given : Gives kind OfToken (component_instance depth) (λ (i : Instance). (note : List ℕ) → OfInstance (record i { note = note }))
   pub topologies_given : Gives kind OfToken (topology_spelled depth) (λ (t : Topology). (note : List ℕ) → OfTopology (record t { note = note }))
   -- what is said of items that are names
-  pub declared : (scope : Path) (d : ModelDef) → Naming (model_name d) → Belonging OfMachine OfComponent OfInterface OfTopology d → OfItem (item.Declared (declaration scope d))
+  pub declared : (scope : Path) (d : ModelDef) → Naming (model_name d) → Belonging OfMachine OfComponent OfInterface OfInstance OfTopology d → OfItem (item.Declared (declaration scope d))
   pub used : (group : Group) (scope : Path) (q : Qual) → Using q → OfItem (item.Used 0 (naming group scope q))
   pub port_used : (scope : Path) (u : PortUse) → u.at.first ≡ u.of.at.first → Using u.of → OfItem (item.Used 0 (port_naming scope u))
   -- and of those of expressions, types and definitions
@@ -80,7 +84,7 @@ module _ {depth : ℕ} (law : Known depth) where
   abbrev pub Says : (Path → List Item) → List Name → Type 0
   Says found written = Held law.OfItem law.OfName found written
 
-  pub declares : {f : Path → List Item} {ns : List Name} (d : ModelDef) → law.Naming (model_name d) → Belonging law.OfMachine law.OfComponent law.OfInterface law.OfTopology d → Says f ns
+  pub declares : {f : Path → List Item} {ns : List Name} (d : ModelDef) → law.Naming (model_name d) → Belonging law.OfMachine law.OfComponent law.OfInterface law.OfInstance law.OfTopology d → Says f ns
       → Says (λ scope. item.Declared (declaration scope d) ∷ f scope) (model_name d ∷ ns)
   declares d h b k = held_behind (λ scope. law.declared scope d h b) (held_named (law.named (model_name d) h) k)
 

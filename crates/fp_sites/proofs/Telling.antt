@@ -42,10 +42,12 @@ module _ (G : Place → Type 0) (N : Name → Type 0) (depth : ℕ) where
     OfMachine = λ m. Unit {0};
     OfComponent = λ c. Unit {0};
     OfInterface = λ i. Unit {0};
+    OfInstance = λ i. Unit {0};
     OfTopology = λ t. Unit {0};
     machines_given = gives_less _ (λ m h note. tt) gives_anything;
     components_given = gives_less _ (λ c h note. tt) gives_anything;
     interfaces_given = gives_less _ (λ i h note. tt) gives_anything;
+    instances_given = gives_less _ (λ i h note. tt) gives_anything;
     topologies_given = gives_less _ (λ t h note. tt) gives_anything;
     declared = λ scope d h b. record { defines = (h.begins, tt); uses = tt; kept = tt };
     used = λ group scope q h. record { defines = tt; uses = (h.begins, tt); kept = tt };

@@ -77,17 +77,25 @@ module _ {depth : ℕ} (law : Known depth) where
   abbrev pub InstanceSaid : Instance → Type 0
   InstanceSaid i = (note : List ℕ) → Says law (λ scope. instance_items scope (record i { note = note })) (names_in_instance (record i { note = note }))
 
-  instance_said : (p : Span × (Name × (Qual × (Expr × Settings)))) → Unit {0} × (law.Naming p.1.0 × (law.Using p.1.1.0 × (ValueSaid law p.1.1.1.0 × SettingsSaid p.1.1.1.1))) → InstanceSaid (made_instance p)
-  instance_said (word, (n, (of, (base, ((kind, file), ((queue, stack), ((priority, cpu), found))))))) h note =
+  -- where what belongs to it is known
+  abbrev SaidWhereKnown : Instance → Type 0
+  SaidWhereKnown i = (note : List ℕ) → law.OfInstance (record i { note = note }) → Says law (λ scope. instance_items scope (record i { note = note })) (names_in_instance (record i { note = note }))
+
+  instance_said : (p : Span × (Name × (Qual × (Expr × Settings)))) → Unit {0} × (law.Naming p.1.0 × (law.Using p.1.1.0 × (ValueSaid law p.1.1.1.0 × SettingsSaid p.1.1.1.1))) → SaidWhereKnown (made_instance p)
+  instance_said (word, (n, (of, (base, ((kind, file), ((queue, stack), ((priority, cpu), found))))))) h note known =
       let i : Instance = made_instance (word, (n, (of, (base, ((kind, file), ((queue, stack), ((priority, cpu), found))))))) in
       let s = h.1.1.1.1 in
-      declares law (instance_def (record i { note = note })) h.1.0 tt
+      declares law (instance_def (record i { note = note })) h.1.0 known
       (held_before (flat_map names_in_phase i.phases) (held_both (held_both (held_both (held_both (held_both (uses law ComponentGroup of h.1.1.0) h.1.1.1.0) s.1.0.0) s.1.0.1) s.1.1.0.0) s.1.1.0.1) (phases_named _ found s.1.1.1))
 
+  known_said : (i : Instance) → SaidWhereKnown i × ((note : List ℕ) → law.OfInstance (record i { note = note })) → InstanceSaid i
+  known_said i h note = h.0 note (h.1 note)
+
   pub instance_yields : Yields law (component_instance depth) InstanceSaid
-  instance_yields = gives_map InstanceSaid made_instance instance_said
+  instance_yields = gives_less InstanceSaid known_said (gives_both (gives_map SaidWhereKnown made_instance instance_said
       (gives_seq gives_anything (gives_seq law.naming_given (gives_after k_colon (gives_seq law.using_given
-      (gives_after k_base (gives_after k_id (gives_seq law.expressions_given settings_yield)))))))
+      (gives_after k_base (gives_after k_id (gives_seq law.expressions_given settings_yield))))))))
+      law.instances_given)
 
   -- ---- connections
 
