@@ -45,7 +45,8 @@ impl From<NoMemory> for Halt {
 /// Reads the files of these names, each followed by the files that it includes, and puts members in place of includes. All files are read,
 /// also behind one that breaks a rule; rules of names are looked for only where an include breaks its own, since both are of one phase.
 pub fn gather<F: Files>(alloc: Global, names: &[String], files: &mut F) -> Result<Source, Halt>
-    ensures { Gathers (map string_bytes names.now) (files_run F.told F.faults F.misses files.old files.new) result }
+    ensures gathers { Gathers (map string_bytes names.now) (files_run F.told F.faults F.misses files.old files.new) result }
+    ensures told { F.told files.new ≡ F.told files.old }
 {
     // for the file in which a rule is broken
     in_files_read();

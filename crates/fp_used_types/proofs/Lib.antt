@@ -1,0 +1,7 @@
+mod Ordering
+mod Flags
+mod Coming
+mod Reading
+mod Listed
+mod Filtering
+mod Gathering
