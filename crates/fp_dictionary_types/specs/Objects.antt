@@ -1,7 +1,8 @@
 -- JSON objects by their keys. Those that have nothing to say aren't there, and a JSON value has its keys in the order of their bytes.
 use Rattle.std.specs.Prelude.{ℕ, ℤ, codes, List, [], ◌∷◌, ◌++◌, Option, Some, None}
 use Rattle.serde_json.specs.Data.{Data, number, string, array, object, unsigned, Members, no_members, put}
-use Rattle.serde_json.specs.View.{items_of}
+use Rattle.serde_json.specs.View.{items_of, members_view}
+use Rattle.fp_dictionary_types.specs.declared.objects.Object.{Object}
 
 -- a key with what it says
 abbrev pub Entry : Type 0
@@ -29,3 +30,7 @@ annotation (b ∷ bs) = (codes "annotation", string (b ∷ bs)) ∷ []
 abbrev pub optional : {A : Type 0} → List ℕ → (A → Data) → Option A → List Entry
 optional key f None = []
 optional key f (Some x) = (key, f x) ∷ []
+
+-- the members that stand in an object so far
+abbrev pub held : Object → Members
+held o = members_view o.map.entries
