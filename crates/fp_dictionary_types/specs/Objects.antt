@@ -1,5 +1,5 @@
 -- JSON objects by their keys. Those that have nothing to say aren't there, and a JSON value has its keys in the order of their bytes.
-use Rattle.std.specs.Prelude.{ℕ, ℤ, codes, List, [], ◌∷◌, ◌++◌, Option, Some, None}
+use Rattle.std.specs.Prelude.{ℕ, codes, List, [], ◌∷◌, Option, Some, None}
 use Rattle.serde_json.specs.Data.{Data, number, string, array, object, unsigned, Members, no_members, put}
 use Rattle.serde_json.specs.View.{items_of, members_view}
 use Rattle.fp_dictionary_types.specs.declared.objects.Object.{Object}

@@ -1,8 +1,8 @@
 -- Types as they are used, and the definitions of arrays, structs, enums and aliases.
 -- F Prime GDS JSON Dictionary Specification, "Type Descriptors" and "Type Definitions". This profile: no formats.
-use Rattle.std.specs.Prelude.{ℕ, zero, suc, Bool, true, false, codes, List, [], ◌∷◌, ◌++◌, map, length, Option, option_map, slice_get, unwrap_or}
+use Rattle.std.specs.Prelude.{ℕ, suc, Bool, true, false, codes, List, [], ◌∷◌, ◌++◌, map, length, Option, option_map, slice_get, unwrap_or}
 use Rattle.std.specs.List.{enumerate_from}
-use Rattle.fp_base.specs.declared.value.Value.{Value, Int, Enumerated}
+use Rattle.fp_base.specs.declared.value.Value.{Value}
 use Rattle.fp_tables.specs.Machines.{follow}
 use Rattle.fp_tables.specs.Types.{form_at}
 use Rattle.fp_tables.specs.declared.kind.Constant.{Constant}
@@ -13,8 +13,8 @@ use Rattle.fp_tables.specs.declared.kind.Kind.{Kind}
 use Rattle.fp_tables.specs.declared.kind.Kind.TheVariants as kind
 use Rattle.fp_tables.specs.declared.kind.TypeDef.{TypeDef}
 use Rattle.fp_base.specs.Rendered.{number_of}
-use Rattle.serde_json.specs.Data.{Data, boolean, string, object, no_members, Members, put}
-use Rattle.fp_dictionary_types.specs.Objects.{Entry, object_of, with_entries, list_of, natural, annotation, optional}
+use Rattle.serde_json.specs.Data.{Data, boolean, string}
+use Rattle.fp_dictionary_types.specs.Objects.{Entry, object_of, list_of, natural, annotation, optional}
 use Rattle.fp_dictionary_types.specs.Values.{number_data, value_data}
 
 abbrev pub integer : List ℕ → Bool → ℕ → Data

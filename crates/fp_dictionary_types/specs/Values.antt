@@ -1,5 +1,5 @@
 -- Values as a dictionary says them. F Prime GDS JSON Dictionary Specification, "Values".
-use Rattle.std.specs.Prelude.{ℕ, ℤ, pos, negsuc, Bool, cond, codes, nat_lt, int_le, List, [], ◌∷◌, ◌++◌, ◌^◌}
+use Rattle.std.specs.Prelude.{ℕ, ℤ, pos, negsuc, cond, codes, nat_lt, List, ◌++◌, ◌^◌}
 use Rattle.fp_base.specs.declared.value.Value.{Value, Int, Bool as Truth, Text, Enumerated, Array', Struct', Opaque, Row_of-Value, more_of-Value, end_of-Value}
 use Rattle.fp_base.specs.declared.value.Value.TheBlock as block
 use Rattle.fp_base.specs.declared.value.Part.{Part}

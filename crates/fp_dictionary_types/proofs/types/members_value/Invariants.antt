@@ -1,4 +1,4 @@
-use Rattle.std.proofs.Common.{◌≡◌, ℕ, map, take}
+use Rattle.std.proofs.Common.{◌≡◌, map, take}
 use Rattle.std.specs.List.{enumerate_from}
 use Rattle.serde_json.specs.Data.{no_members}
 use Rattle.fp_dictionary_types.specs.Objects.{held, with_entries}
