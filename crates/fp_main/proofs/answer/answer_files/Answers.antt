@@ -9,30 +9,30 @@ use Rattle.fp_main.specs.declared.answer.Due.{Due}
 use Rattle.fp_main.proofs.answer.answer_files.Goals as goal
 
 pub answer_source-requires-clause-names : goal.answer_source-requires-clause-names
-answer_source-requires-clause-names g c = definitions_named c.names_are_names.ensures _ _ c.in-Ok.source c.in-Ok.ensures
+answer_source-requires-clause-names g c = definitions_named c.names_are_names.ensures _ _ c.in-Ok.source c.in-Ok.ensures.gathers
 
 pub answer_source-requires-clause-fields : goal.answer_source-requires-clause-fields
-answer_source-requires-clause-fields g c = fields_named c.names_are_names.ensures _ _ c.in-Ok.source c.in-Ok.ensures
+answer_source-requires-clause-fields g c = fields_named c.names_are_names.ensures _ _ c.in-Ok.source c.in-Ok.ensures.gathers
 
 pub answer_source-requires-clause-parts : goal.answer_source-requires-clause-parts
-answer_source-requires-clause-parts g c = parts_named c.names_are_names.ensures _ _ c.in-Ok.source c.in-Ok.ensures
+answer_source-requires-clause-parts g c = parts_named c.names_are_names.ensures _ _ c.in-Ok.source c.in-Ok.ensures.gathers
 
 pub answer_source-requires-clause-enumerations : goal.answer_source-requires-clause-enumerations
 answer_source-requires-clause-enumerations g c =
-    enumerations_listed c.enumerations_have_constants.ensures c.part_enumerations_have_constants.ensures c.listed_items_have_constants.ensures _ _ c.in-Ok.source c.in-Ok.ensures
+    enumerations_listed c.enumerations_have_constants.ensures c.part_enumerations_have_constants.ensures c.listed_items_have_constants.ensures _ _ c.in-Ok.source c.in-Ok.ensures.gathers
 
 pub answer_source-requires-clause-machines : goal.answer_source-requires-clause-machines
-answer_source-requires-clause-machines g c = machines_ordered c.machines_are_ordered.ensures c.part_machines_are_ordered.ensures _ _ c.in-Ok.source c.in-Ok.ensures
+answer_source-requires-clause-machines g c = machines_ordered c.machines_are_ordered.ensures c.part_machines_are_ordered.ensures _ _ c.in-Ok.source c.in-Ok.ensures.gathers
 
 pub returns-in-Ok : goal.returns-in-Ok
 returns-in-Ok g c words spelled =
     if_ok_then c.answer_source.result _ _
     (λ due d. due_source words _ _ (spelled_asks words _ _ spelled) c.in_files_read.ensures c.places_in_files.ensures
-    (record { values = c.values_break_at_places.ensures; parts = c.parts_break_at_places.ensures; states = c.states_break_at_places.ensures; instances = c.instances_break_at_places.ensures; topologies = c.topologies_break_at_places.ensures; numbers = c.numbers_break_at_places.ensures }) _ due.status due.output due.line c.in-Ok.ensures d)
+    (record { values = c.values_break_at_places.ensures; parts = c.parts_break_at_places.ensures; states = c.states_break_at_places.ensures; instances = c.instances_break_at_places.ensures; topologies = c.topologies_break_at_places.ensures; numbers = c.numbers_break_at_places.ensures }) _ due.status due.output due.line c.in-Ok.ensures.gathers d)
     (c.answer_source.ensures words _ spelled)
 
 pub returns-in_ok-line-in-Err-Broken : goal.returns-in_ok-line-in-Err-Broken
 returns-in_ok-line-in-Err-Broken g c words spelled =
     subst (λ (due : Due). IsDue words (files_run g.F.Files.told g.F.Files.faults g.F.Files.misses c.args.files.now c.gather.new.files) due.status due.output due.line) (sym c.said.ensures)
-    (due_broken words _ _ (spelled_asks words _ _ spelled) _ c.in-Err-Broken.refusal c.in-Err-Broken.file _ _ c.in-Err-Broken.field-0-is c.in-Err-Broken.ensures refl
+    (due_broken words _ _ (spelled_asks words _ _ spelled) _ c.in-Err-Broken.refusal c.in-Err-Broken.file _ _ c.in-Err-Broken.field-0-is c.in-Err-Broken.ensures.gathers refl
     (c.in_ok-line-in-Err-Broken.ensures ∙ ap (λ (name : List ℕ). refusal_line name c.in-Err-Broken.refusal.place c.in-Err-Broken.refusal.rule) c.as_str.ensures))
