@@ -28,3 +28,7 @@ no_memory_line = codes "fpp: no memory\n"
 -- FILE:LINE:COLUMN: RULE
 abbrev pub refusal_line : List ℕ → Place → Rule → List ℕ
 refusal_line file place rule = file ++ codes ":" ++ decimal place.line ++ codes ":" ++ decimal place.column ++ codes ": " ++ text_of rule ++ newline
+
+-- FILE:PATH: RULE, of a rule that a scenario breaks
+abbrev pub scenario_line : List ℕ → List ℕ → Rule → List ℕ
+scenario_line file path rule = file ++ codes ":" ++ path ++ codes ": " ++ text_of rule ++ newline

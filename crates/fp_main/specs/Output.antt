@@ -1,25 +1,33 @@
 -- What a call has to write, and its status where every write succeeds.
-use Rattle.std.specs.Prelude.{ℕ, ◌≡◌, ◌⊎◌, List, [], Some}
+use Rattle.std.specs.Prelude.{ℕ, ◌≡◌, ◌⊎◌, List, [], Some, None}
 use Rattle.fp_base.specs.declared.refusal.Refusal.{Refusal}
+use Rattle.fp_base.specs.declared.rule.Rule.{Rule}
+use Rattle.fp_tree.specs.declared.member.Member.{Member}
 use Rattle.fp_tree.specs.declared.source.Source.{Source}
 use Rattle.fp_base.specs.Least.{IsLeast, IsUnbroken}
 use Rattle.fp_model.specs.Broken.{ModelBroken}
 use Rattle.fp_model.specs.Defined.{Defined}
 use Rattle.fp_tables.specs.declared.model.Model.{Model}
 use Rattle.fp_main.specs.Delivery.{SinkRun, Delivered}
-use Rattle.fp_gather.specs.FilesRun.{FilesRun, NoFault, NoMiss}
-use Rattle.fp_gather.specs.gathering.Gathered.{AreRead, IsAbsent, IsUnread, StandsAmong, name_of, names_read}
-use Rattle.fp_gather.specs.gathering.Walks.{Walked}
+use Rattle.fp_gather.specs.FilesRun.{FilesRun, HadFault, HadMiss, Holds, NoFault, NoMiss}
+use Rattle.fp_gather.specs.gathering.Gathered.{AreRead, IsAbsent, IsUnread, StandsAmong, name_of, names_read, source_of}
+use Rattle.fp_gather.specs.gathering.Walks.{Walked, WalksFiles, Went, nothing_read}
 use Rattle.fp_main.specs.Broken.{SourceBroken}
-use Rattle.fp_main.specs.Lines.{usage_line, refusal_line, read_fault_line, no_file_line, no_topology_line, no_memory_line}
+use Rattle.fp_main.specs.Lines.{usage_line, refusal_line, read_fault_line, no_file_line, no_topology_line, no_memory_line, scenario_line}
 use Rattle.fp_listing.specs.Listing.{Listing, PortLines}
 use Rattle.fp_dictionary.specs.Dictionary.{IsDictionaryText}
+use Rattle.fp_tables.specs.Lookup.{Described}
+use Rattle.fp_events.specs.declared.event.Finish.{Finish}
+use Rattle.fp_events.specs.declared.event.Finish.TheVariants as finish
+use Rattle.fp_events.specs.declared.event.Finish.TheVariants.{Complete}
+use Rattle.fp_scenario_run.specs.Logged.{IsLogOfText}
+use Rattle.fp_scenario_run.specs.Planned.{BreaksNoRule, BreaksRule}
 use Rattle.fp_main.specs.Topologies.{IsTopology, LacksTopology}
-use Rattle.fp_main.specs.Words.{AsksFor, IsCheck, IsWrong, Names, NamesTopology}
+use Rattle.fp_main.specs.Words.{AsksFor, IsCheck, IsRun, IsWrong, Names, NamesTopology}
 use Rattle.fp_main.specs.declared.words.TopologyText.{TopologyText}
 use Rattle.fp_main.specs.declared.words.TopologyText.TheVariants.{Connections, Dictionary}
 use Rattle.fp_main.specs.declared.status.Status.{Status}
-use Rattle.fp_main.specs.declared.status.Status.TheVariants.{Done, Refused, Usage, ReadFault, NoFile, NoMemory, NoTopology}
+use Rattle.fp_main.specs.declared.status.Status.TheVariants.{Done, Refused, Usage, ReadFault, NoFile, Stuck, Spent, Asserted, NoMemory, NoTopology}
 
 -- the words have no form, and the line names the first that doesn't fit or is missing; no file is read
 pub record DueUsage (words : List (List ℕ)) (files : FilesRun) (output line : List ℕ) : Type 0 where
@@ -104,6 +112,73 @@ pub record DueNoTopology (words : List (List ℕ)) (files : FilesRun) (output li
   pub silent : output ≡ []
   pub said : line ≡ no_topology_line topology
 
+-- ---- runs
+
+-- the words ask for a run of this scenario, the files are read and break no rule, and the model that their source defines has the topology
+pub record Reaches (words : List (List ℕ)) (files : FilesRun) (scenario : List ℕ) : Type 0 where
+  pub names : List (List ℕ)
+  pub topology : List ℕ
+  pub asked : IsRun words topology scenario names
+  pub walked : Walked
+  pub units : List (List Member)
+  pub read : WalksFiles files.told names nothing_read (Went walked units)
+  pub unbroken : IsUnbroken (SourceBroken walked (source_of walked units))
+  pub model : Model
+  pub defined : Defined (source_of walked units) model
+  pub at : ℕ
+  pub there : IsTopology model topology at
+
+-- the model with the topology at a position
+abbrev pub tables_of : Model → ℕ → Described
+tables_of model at = record { model = model; topology = at }
+
+-- no read failed and each found its file, and the file of the scenario holds this text
+pub record IsScenarioRead (files : FilesRun) (scenario text : List ℕ) : Type 0 where
+  pub sound : NoFault files
+  pub found : NoMiss files
+  pub held : Holds files scenario (Some text)
+
+-- the log of a run of the model's tables by the scenario's text, which has this end
+pub record DueRun (finish : Finish) (words : List (List ℕ)) (files : FilesRun) (output line : List ℕ) : Type 0 where
+  pub scenario : List ℕ
+  pub reached : Reaches words files scenario
+  pub text : List ℕ
+  pub read : IsScenarioRead files scenario text
+  pub whole : BreaksNoRule (tables_of reached.model reached.at) text
+  pub logged : IsLogOfText (tables_of reached.model reached.at) text output finish
+  pub silent : line ≡ []
+
+-- a rule of scenarios is broken at a path
+pub record DueScenarioRefused (words : List (List ℕ)) (files : FilesRun) (output line : List ℕ) : Type 0 where
+  pub scenario : List ℕ
+  pub reached : Reaches words files scenario
+  pub text : List ℕ
+  pub read : IsScenarioRead files scenario text
+  pub rule : Rule
+  pub path : List ℕ
+  pub broken : BreaksRule (tables_of reached.model reached.at) text rule path
+  pub silent : output ≡ []
+  pub said : line ≡ scenario_line scenario path rule
+
+-- the file of the scenario could not be read
+pub record DueScenarioUnread (words : List (List ℕ)) (files : FilesRun) (output line : List ℕ) : Type 0 where
+  pub scenario : List ℕ
+  pub reached : Reaches words files scenario
+  pub fault : HadFault files
+  pub found : NoMiss files
+  pub silent : output ≡ []
+  pub said : line ≡ read_fault_line scenario
+
+-- the file of the scenario isn't there
+pub record DueScenarioAbsent (words : List (List ℕ)) (files : FilesRun) (output line : List ℕ) : Type 0 where
+  pub scenario : List ℕ
+  pub reached : Reaches words files scenario
+  pub sound : NoFault files
+  pub missed : HadMiss files
+  pub absent : Holds files scenario None
+  pub silent : output ≡ []
+  pub said : line ≡ no_file_line scenario
+
 -- what words that ask for these files have to write of a model
 abbrev pub IsDueOf : List (List ℕ) → List (List ℕ) → Model → Status → List ℕ → List ℕ → Type 0
 IsDueOf words names model Done output line = IsText words names model output × (line ≡ [])
@@ -118,11 +193,14 @@ IsDueFor words names source status output line = IsUnbroken (ModelBroken source)
 
 -- what has to be written for each status, where every write succeeds
 abbrev pub IsDue : List (List ℕ) → FilesRun → Status → List ℕ → List ℕ → Type 0
-IsDue words files Done output line = DueText words files output line
-IsDue words files Refused output line = DueRefused words files output line
+IsDue words files Done output line = DueText words files output line ⊎ DueRun Complete words files output line
+IsDue words files Stuck output line = DueRun finish.Stuck words files output line
+IsDue words files Spent output line = DueRun finish.Spent words files output line
+IsDue words files Asserted output line = DueRun finish.Asserted words files output line
+IsDue words files Refused output line = DueRefused words files output line ⊎ DueScenarioRefused words files output line
 IsDue words files Usage output line = DueUsage words files output line
-IsDue words files ReadFault output line = DueReadFault words files output line
-IsDue words files NoFile output line = DueNoFile words files output line
+IsDue words files ReadFault output line = DueReadFault words files output line ⊎ DueScenarioUnread words files output line
+IsDue words files NoFile output line = DueNoFile words files output line ⊎ DueScenarioAbsent words files output line
 IsDue words files NoTopology output line = DueNoTopology words files output line
 IsDue words files NoMemory output line = (output ≡ []) × (line ≡ no_memory_line)
 IsDue words files _ output line = ⊥

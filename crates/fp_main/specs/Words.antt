@@ -3,7 +3,7 @@ use Rattle.std.specs.Prelude.{ℕ, ◌≡◌, ◌+◌, ◌-◌, ◌<◌, ◌≤�
 use Rattle.std.specs.String.{string_bytes}
 use Rattle.fp_main.specs.declared.words.Command.{Command}
 use Rattle.fp_main.specs.declared.words.Wanted.{Wanted}
-use Rattle.fp_main.specs.declared.words.Wanted.TheVariants.{Listing, OfTopology}
+use Rattle.fp_main.specs.declared.words.Wanted.TheVariants.{Listing, OfTopology, Run}
 use Rattle.fp_main.specs.declared.words.TopologyText.{TopologyText}
 use Rattle.fp_main.specs.declared.words.TopologyText.TheVariants.{Connections, Dictionary}
 
@@ -22,9 +22,14 @@ pub record Names (text : TopologyText) (words : List (List ℕ)) (topology : Lis
   pub words_are : words ≡ word_of text ∷ topology ∷ files
   pub some : 0 < length files
 
--- the words name this topology, and ask for these files
+-- the words `run TOPOLOGY SCENARIO FILE..` with this topology and this scenario, any words, and these files, at least one
+pub record IsRun (words : List (List ℕ)) (topology scenario : List ℕ) (files : List (List ℕ)) : Type 0 where
+  pub words_are : words ≡ codes "run" ∷ topology ∷ scenario ∷ files
+  pub some : 0 < length files
+
+-- the words name this topology, and ask for these files: for a text of it, or for a run over it
 abbrev pub NamesTopology : List (List ℕ) → List ℕ → List (List ℕ) → Type 0
-NamesTopology words topology files = (text : TopologyText) × Names text words topology files
+NamesTopology words topology files = ((text : TopologyText) × Names text words topology files) ⊎ ((scenario : List ℕ) × IsRun words topology scenario files)
 
 -- the words are of some form, and ask for these files
 abbrev pub AsksFor : List (List ℕ) → List (List ℕ) → Type 0
@@ -48,6 +53,7 @@ pub record IsWrong (words : List (List ℕ)) (number : ℕ) : Type 0 where
 abbrev pub Spells : List (List ℕ) → Wanted → List (List ℕ) → Type 0
 Spells words Listing files = IsCheck words files
 Spells words (OfTopology text name) files = Names text words name.now files
+Spells words (Run name scenario) files = IsRun words name.now scenario.now files
 
 -- what is made of the words
 abbrev pub ReadsWords : List (List ℕ) → Result Command ℕ → Type 0
