@@ -1,22 +1,30 @@
 -- When each status comes, from what a call writes.
-use Rattle.std.proofs.Common.{◌≡◌, ◌<◌, ◌⊎◌, ℕ, List, ◌∷◌, Option, Some, codes, inl, inr, refl, sym, ◌∙◌, subst, arith, drop, take-append-drop}
+use Rattle.std.proofs.Common.{◌≡◌, ◌<◌, ◌⊎◌, ℕ, List, ◌∷◌, Option, Some, None, codes, inl, inr, refl, sym, ◌∙◌, subst, arith, drop, take-append-drop}
+use Rattle.std.proofs.lemmas.Option.{none-some}
+use Rattle.fp_base.proofs.Options.{same_some}
+use Rattle.fp_base.specs.declared.rule.Rule.{Rule}
 use Rattle.fp_tree.specs.declared.member.Member.{Member}
 use Rattle.fp_tree.specs.declared.source.Source.{Source}
 use Rattle.fp_base.specs.Least.{IsUnbroken}
 use Rattle.fp_outside.specs.Counts.{Rose, last_count}
 use Rattle.fp_outside.specs.declared.files.HeldFile.{HeldFile}
 use Rattle.fp_gather.proofs.Absent.{gone_not_stopped}
-use Rattle.fp_main.specs.Causes.{EndsAs, Asked, Sound, SoundSink, UsageComes, ReadFaultComes, NoFileComes, WriteFaultComes, RefusedComes, NoTopologyComes, DoneComes, IsThere}
+use Rattle.fp_main.specs.Causes.{AreTables, Asked, AsksForNoRun, DoneComes, EndsAs, IsEnd, IsThere, NoFileComes, NoTopologyComes, ReadFaultComes, RefusedComes, RunAsked, RunComes, ScenarioRefusedComes, Sound, SoundSink, UsageComes, WriteFaultComes}
 use Rattle.fp_main.specs.Delivery.{SinkRun, Delivered}
-use Rattle.fp_gather.specs.FilesRun.{FilesRun}
-use Rattle.fp_main.specs.Output.{IsDue, IsText, DueText, DueNoTopology, DueRefused, DueUsage, DueReadFault, DueNoFile, IsRead, Output}
-use Rattle.fp_main.specs.Topologies.{HasTopology, LacksTopology}
-use Rattle.fp_main.specs.Words.{AsksFor, IsForm, IsWrong, Names, NamesTopology, Spells, word_of}
+use Rattle.fp_gather.specs.FilesRun.{FilesRun, Holds, IsHeld}
+use Rattle.fp_main.specs.Output.{DueNoFile, DueNoTopology, DueReadFault, DueRefused, DueRun, DueScenarioAbsent, DueScenarioRefused, DueScenarioUnread, DueText, DueUsage, IsDue, IsRead, IsText, Output, Reaches, tables_of}
+use Rattle.fp_main.specs.Statuses.{status_of}
+use Rattle.fp_main.specs.Topologies.{HasTopology, IsTopology, LacksTopology}
+use Rattle.fp_main.specs.Words.{AsksFor, IsForm, IsRun, IsWrong, NamesTopology, Spells, word_of}
 use Rattle.fp_gather.specs.gathering.Gathered.{source_of}
 use Rattle.fp_main.specs.Broken.{SourceBroken}
 use Rattle.fp_main.proofs.Dues.{spelled_asks}
-use Rattle.fp_main.proofs.Wording.{check_names_nothing}
+use Rattle.fp_main.proofs.Wording.{check_names_nothing, same_run, text_is_no_run}
 use Rattle.fp_model.specs.Defined.{Defined}
+use Rattle.fp_events.specs.declared.event.Finish.{Finish}
+use Rattle.fp_events.specs.declared.event.Finish.TheVariants as finish
+use Rattle.fp_scenario_run.specs.Planned.{BreaksNoRule, BreaksRule}
+use Rattle.fp_tables.specs.Lookup.{Described}
 use Rattle.fp_tables.specs.declared.model.Model.{Model}
 use Rattle.fp_gather.specs.gathering.Walks.{NoFile as IsMissing, NoReadFault, Outcome, Stops, Walked, WalksFiles, Went, nothing_read}
 use Rattle.fp_main.specs.declared.words.Wanted.{Wanted}
@@ -36,14 +44,18 @@ asked_not_wrong words names word asked wrong =
 pub read_not_wrong : (words : List (List ℕ)) (wanted : Wanted) (names : List (List ℕ)) (word : ℕ) → Spells words wanted names → IsWrong words word → ⊥
 read_not_wrong words wanted names word spelled wrong = asked_not_wrong words names word (spelled_asks words wanted names spelled) wrong
 
+-- words that name a topology name one, and ask for the same files
 same_topology : (words a b : List (List ℕ)) (t u : List ℕ) → NamesTopology words t a → NamesTopology words u b → (t ≡ u) × (a ≡ b)
-same_topology words a b t u x y = (second (sym x.1.words_are ∙ y.1.words_are), rest (sym x.1.words_are ∙ y.1.words_are))
+same_topology words a b t u (inl (text, x)) (inl (other, y)) = (second (sym x.words_are ∙ y.words_are), rest (sym x.words_are ∙ y.words_are))
   where
-    second : word_of x.0 ∷ t ∷ a ≡ word_of y.0 ∷ u ∷ b → t ≡ u
+    second : word_of text ∷ t ∷ a ≡ word_of other ∷ u ∷ b → t ≡ u
     second h = cc
 
-    rest : word_of x.0 ∷ t ∷ a ≡ word_of y.0 ∷ u ∷ b → a ≡ b
+    rest : word_of text ∷ t ∷ a ≡ word_of other ∷ u ∷ b → a ≡ b
     rest h = cc
+same_topology words a b t u (inl (text, x)) (inr (scenario, y)) = absurd (text_is_no_run words a b text t u scenario x y)
+same_topology words a b t u (inr (scenario, x)) (inl (text, y)) = absurd (text_is_no_run words b a text u t scenario y x)
+same_topology words a b t u (inr (scenario, x)) (inr (other, y)) = let same = same_run words a b t u scenario other x y in (same.0, same.2)
 
 same_names : (words a b : List (List ℕ)) → AsksFor words a → AsksFor words b → a ≡ b
 same_names words a b (inl x) (inl y) = names (sym x.words_are ∙ y.words_are)
@@ -58,8 +70,18 @@ same_names words a b (inr x) (inr y) = (same_topology words a b x.0 y.0 x.1 y.1)
 lacking_no_text : (words names asked : List (List ℕ)) (name : List ℕ) (model : Model) (text : List ℕ) → NamesTopology words name asked → LacksTopology model name → IsText words names model text → ⊥
 lacking_no_text words names asked name model text named lacking (inl listed) = check_names_nothing words names asked name listed.0 named
 lacking_no_text words names asked name model text named lacking (inr said) =
-    let same : said.0 ≡ name = (same_topology words names asked said.0 name (said.1, said.2) named).0 in
+    let same : said.0 ≡ name = (same_topology words names asked said.0 name (inl (said.1, said.2)) named).0 in
     lacking (subst (HasTopology model) same (said.3.0, said.3.1))
+
+-- and none where the words ask for a run
+run_no_text : (words names asked : List (List ℕ)) (topology scenario : List ℕ) (model : Model) (text : List ℕ) → IsRun words topology scenario asked → IsText words names model text → ⊥
+run_no_text words names asked topology scenario model text run (inl listed) = check_names_nothing words names asked topology listed.0 (inr (scenario, run))
+run_no_text words names asked topology scenario model text run (inr said) = text_is_no_run words names asked said.1 said.0 topology scenario said.2 run
+
+-- a file that is told holds one text, or isn't there
+holds_once : (told : Option (List HeldFile)) (held : List HeldFile) (name : List ℕ) (x y : Option (List ℕ)) → told ≡ Some held → IsHeld told name x → IsHeld told name y → x ≡ y
+holds_once None held name x y e a b = absurd (none-some held e)
+holds_once (Some files) held name x y e a b = sym a ∙ b
 
 -- a count that stayed below its last value didn't rise
 stayed : (before now : ℕ) → now ≡ before → before < last_count → Rose before now → ⊥
@@ -90,23 +112,37 @@ Holding P (Stops stopped) = ⊥
 
 -- ---- what is due
 
-module _ (words : List (List ℕ)) (files : FilesRun) (output line : List ℕ) (P : Status → Type 0)
-    (text : DueText words files output line → P Done) (refused : DueRefused words files output line → P Refused)
-    (lacking : DueNoTopology words files output line → P NoTopology)
-    (usage : DueUsage words files output line → P Usage) (fault : DueReadFault words files output line → P ReadFault)
-    (absent : DueNoFile words files output line → P NoFile) (memory : P NoMemory) where
+-- what is to be shown of each that may be due
+record Cases (words : List (List ℕ)) (files : FilesRun) (output line : List ℕ) (P : Status → Type 0) : Type 0 where
+  text : DueText words files output line → P Done
+  run : (end : Finish) → DueRun end words files output line → P (status_of end)
+  refused : DueRefused words files output line → P Refused
+  rule : DueScenarioRefused words files output line → P Refused
+  lacking : DueNoTopology words files output line → P NoTopology
+  usage : DueUsage words files output line → P Usage
+  fault : DueReadFault words files output line → P ReadFault
+  unread : DueScenarioUnread words files output line → P ReadFault
+  absent : DueNoFile words files output line → P NoFile
+  missed : DueScenarioAbsent words files output line → P NoFile
+  memory : P NoMemory
+
+module _ (words : List (List ℕ)) (files : FilesRun) (output line : List ℕ) (P : Status → Type 0) (cases : Cases words files output line P) where
   due_cases : (due : Status) → IsDue words files due output line → P due
-  due_cases Done d = text d
-  due_cases Refused d = refused d
-  due_cases Usage d = usage d
-  due_cases ReadFault d = fault d
-  due_cases NoFile d = absent d
-  due_cases NoMemory d = memory
+  due_cases Done (inl d) = cases.text d
+  due_cases Done (inr d) = cases.run finish.Complete d
+  due_cases Refused (inl d) = cases.refused d
+  due_cases Refused (inr d) = cases.rule d
+  due_cases Usage d = cases.usage d
+  due_cases ReadFault (inl d) = cases.fault d
+  due_cases ReadFault (inr d) = cases.unread d
+  due_cases NoFile (inl d) = cases.absent d
+  due_cases NoFile (inr d) = cases.missed d
+  due_cases NoMemory d = cases.memory
   due_cases WriteFault d = absurd d
-  due_cases Stuck d = absurd d
-  due_cases Spent d = absurd d
-  due_cases Asserted d = absurd d
-  due_cases NoTopology d = lacking d
+  due_cases Stuck d = cases.run finish.Stuck d
+  due_cases Spent d = cases.run finish.Spent d
+  due_cases Asserted d = cases.run finish.Asserted d
+  due_cases NoTopology d = cases.lacking d
 
 -- this is due, or memory was refused
 abbrev IsEither : Status → Status → Type 0
@@ -119,44 +155,61 @@ ends_as wanted due output line out diag status (inr (inl failed)) e = inr (inl f
 ends_as wanted due output line out diag status (inr (inr failed)) e = inr (inl failed.ends)
 
 module _ (one_way : ReadOneWay) (words : List (List ℕ)) (files : FilesRun) (out diag : SinkRun) (status : Status) (o : Output words files out diag status) where
-  ends : (wanted : Status)
-      → (DueText words files o.output o.line → IsEither wanted Done) → (DueRefused words files o.output o.line → IsEither wanted Refused)
-      → (DueNoTopology words files o.output o.line → IsEither wanted NoTopology)
-      → (DueUsage words files o.output o.line → IsEither wanted Usage) → (DueReadFault words files o.output o.line → IsEither wanted ReadFault)
-      → (DueNoFile words files o.output o.line → IsEither wanted NoFile) → EndsAs wanted status
-  ends wanted text refused lacking usage fault absent =
-      ends_as wanted o.due o.output o.line out diag status o.delivered
-      (due_cases words files o.output o.line (IsEither wanted) text refused lacking usage fault absent (inr refl) o.due o.called)
+  -- this is due in each case
+  abbrev CasesOf : Status → Type 0
+  CasesOf wanted = Cases words files o.output o.line (IsEither wanted)
+
+  ends : (wanted : Status) → CasesOf wanted → EndsAs wanted status
+  ends wanted cases = ends_as wanted o.due o.output o.line out diag status o.delivered (due_cases words files o.output o.line (IsEither wanted) cases o.due o.called)
+
+  -- wrong words reach no run
+  not_wrong : (scenario : List ℕ) (word : ℕ) → Reaches words files scenario → IsWrong words word → ⊥
+  not_wrong scenario word r wrong = asked_not_wrong words r.names word (inr (r.topology, inr (scenario, r.asked))) wrong
 
   pub usage_comes : UsageComes words status
-  usage_comes word wrong =
-      ends Usage
-      (λ d. absurd (asked_not_wrong words d.read.names word d.read.asked wrong))
-      (λ d. absurd (asked_not_wrong words d.read.names word d.read.asked wrong))
-      (λ d. absurd (asked_not_wrong words d.read.names word d.read.asked wrong))
-      (λ d. inl refl)
-      (λ d. absurd (asked_not_wrong words d.names word d.asked wrong))
-      (λ d. absurd (asked_not_wrong words d.names word d.asked wrong))
+  usage_comes word wrong = ends Usage (record {
+    text = λ d. absurd (asked_not_wrong words d.read.names word d.read.asked wrong);
+    run = λ end d. absurd (not_wrong d.scenario word d.reached wrong);
+    refused = λ d. absurd (asked_not_wrong words d.read.names word d.read.asked wrong);
+    rule = λ d. absurd (not_wrong d.scenario word d.reached wrong);
+    lacking = λ d. absurd (asked_not_wrong words d.read.names word d.read.asked wrong);
+    usage = λ d. inl refl;
+    fault = λ d. absurd (asked_not_wrong words d.names word d.asked wrong);
+    unread = λ d. absurd (not_wrong d.scenario word d.reached wrong);
+    absent = λ d. absurd (asked_not_wrong words d.names word d.asked wrong);
+    missed = λ d. absurd (not_wrong d.scenario word d.reached wrong);
+    memory = inr refl;
+  })
 
   pub read_fault_comes : ReadFaultComes files status
-  read_fault_comes rose =
-      ends ReadFault
-      (λ d. absurd (rose_not_stayed _ _ rose d.read.read.sound))
-      (λ d. absurd (rose_not_stayed _ _ rose d.read.read.sound))
-      (λ d. absurd (rose_not_stayed _ _ rose d.read.read.sound))
-      (λ d. absurd (rose_not_stayed _ _ rose d.unread.0))
-      (λ d. inl refl)
-      (λ d. absurd (rose_not_stayed _ _ rose d.absent.sound))
+  read_fault_comes rose = ends ReadFault (record {
+    text = λ d. absurd (rose_not_stayed _ _ rose d.read.read.sound);
+    run = λ end d. absurd (rose_not_stayed _ _ rose d.gives.read.sound);
+    refused = λ d. absurd (rose_not_stayed _ _ rose d.read.read.sound);
+    rule = λ d. absurd (rose_not_stayed _ _ rose d.says.read.sound);
+    lacking = λ d. absurd (rose_not_stayed _ _ rose d.read.read.sound);
+    usage = λ d. absurd (rose_not_stayed _ _ rose d.unread.0);
+    fault = λ d. inl refl;
+    unread = λ d. inl refl;
+    absent = λ d. absurd (rose_not_stayed _ _ rose d.absent.sound);
+    missed = λ d. absurd (rose_not_stayed _ _ rose d.says.sound);
+    memory = inr refl;
+  })
 
   no_file_missed : files.misses_before < files.misses_after → EndsAs NoFile status
-  no_file_missed rose =
-      ends NoFile
-      (λ d. absurd (rose_not_stayed _ _ rose d.read.read.found))
-      (λ d. absurd (rose_not_stayed _ _ rose d.read.read.found))
-      (λ d. absurd (rose_not_stayed _ _ rose d.read.read.found))
-      (λ d. absurd (rose_not_stayed _ _ rose d.unread.1))
-      (λ d. absurd (rose_not_stayed _ _ rose d.unread.found))
-      (λ d. inl refl)
+  no_file_missed rose = ends NoFile (record {
+    text = λ d. absurd (rose_not_stayed _ _ rose d.read.read.found);
+    run = λ end d. absurd (rose_not_stayed _ _ rose d.gives.read.found);
+    refused = λ d. absurd (rose_not_stayed _ _ rose d.read.read.found);
+    rule = λ d. absurd (rose_not_stayed _ _ rose d.says.read.found);
+    lacking = λ d. absurd (rose_not_stayed _ _ rose d.read.read.found);
+    usage = λ d. absurd (rose_not_stayed _ _ rose d.unread.1);
+    fault = λ d. absurd (rose_not_stayed _ _ rose d.unread.found);
+    unread = λ d. absurd (rose_not_stayed _ _ rose d.says.found);
+    absent = λ d. inl refl;
+    missed = λ d. inl refl;
+    memory = inr refl;
+  })
 
   -- what was read is what the files tell
   read_as : (o : Outcome (List (List Member))) (walked : Walked) (source : Source) → Asked words files o → NoReadFault o → (read : IsRead words files walked source) → o ≡ Went walked read.read.units
@@ -165,18 +218,29 @@ module _ (one_way : ReadOneWay) (words : List (List ℕ)) (files : FilesRun) (ou
   holds_as : (P : Walked → Source → Type 0) (o : Outcome (List (List Member))) (walked : Walked) (source : Source) → Asked words files o → NoReadFault o → IsRead words files walked source → Holding P o → P walked source
   holds_as P o walked source asked sure read holds = subst (P walked) (sym read.read.made) (subst (Holding P) (read_as o walked source asked sure read) holds)
 
-  no_file_told : (name : List ℕ) → Asked words files (Stops (IsMissing name)) → Sound files → EndsAs NoFile status
-  no_file_told name asked sound =
-      ends NoFile
-      (λ d. absurd (gone_not_stopped _ _ (IsMissing name) (sym (read_as (Stops (IsMissing name)) d.walked d.source asked tt d.read))))
-      (λ d. absurd (gone_not_stopped _ _ (IsMissing name) (sym (read_as (Stops (IsMissing name)) d.walked d.source asked tt d.read))))
-      (λ d. absurd (gone_not_stopped _ _ (IsMissing name) (sym (read_as (Stops (IsMissing name)) d.walked d.source asked tt d.read))))
-      (λ d. absurd (asked_not_wrong words asked.names d.word asked.asked d.wrong))
-      (λ d. absurd (stayed _ _ sound.0 sound.1 d.unread.fault))
-      (λ d. inl refl)
+  -- also of a run that the words reach
+  reached_as : (o : Outcome (List (List Member))) (scenario : List ℕ) → Asked words files o → NoReadFault o → (r : Reaches words files scenario) → o ≡ Went r.walked r.units
+  reached_as o scenario asked sure r =
+      agrees one_way words files o asked r.names (Went r.walked r.units) (inr (r.topology, inr (scenario, r.asked))) r.read sure tt
 
-  pub no_file_comes : NoFileComes words files status
-  no_file_comes = (no_file_missed, no_file_told)
+  reaches_as : (P : Walked → Source → Type 0) (walked : Walked) (units : List (List Member)) (scenario : List ℕ) → Asked words files (Went walked units) → (r : Reaches words files scenario)
+      → P walked (source_of walked units) → P r.walked (source_of r.walked r.units)
+  reaches_as P walked units scenario asked r holds = subst (Holding P) (reached_as (Went walked units) scenario asked tt r) holds
+
+  no_file_told : (name : List ℕ) → Asked words files (Stops (IsMissing name)) → Sound files → EndsAs NoFile status
+  no_file_told name asked sound = ends NoFile (record {
+    text = λ d. absurd (gone_not_stopped _ _ (IsMissing name) (sym (read_as (Stops (IsMissing name)) d.walked d.source asked tt d.read)));
+    run = λ end d. absurd (gone_not_stopped _ _ (IsMissing name) (sym (reached_as (Stops (IsMissing name)) d.scenario asked tt d.reached)));
+    refused = λ d. absurd (gone_not_stopped _ _ (IsMissing name) (sym (read_as (Stops (IsMissing name)) d.walked d.source asked tt d.read)));
+    rule = λ d. absurd (gone_not_stopped _ _ (IsMissing name) (sym (reached_as (Stops (IsMissing name)) d.scenario asked tt d.reached)));
+    lacking = λ d. absurd (gone_not_stopped _ _ (IsMissing name) (sym (read_as (Stops (IsMissing name)) d.walked d.source asked tt d.read)));
+    usage = λ d. absurd (asked_not_wrong words asked.names d.word asked.asked d.wrong);
+    fault = λ d. absurd (stayed _ _ sound.0 sound.1 d.unread.fault);
+    unread = λ d. absurd (stayed _ _ sound.0 sound.1 d.says.fault);
+    absent = λ d. inl refl;
+    missed = λ d. inl refl;
+    memory = inr refl;
+  })
 
   -- a file that isn't there ends the reading
   not_absent : (walked : Walked) (units : List (List Member)) (output line : List ℕ) → Asked words files (Went walked units) → DueNoFile words files output line → ⊥
@@ -184,14 +248,22 @@ module _ (one_way : ReadOneWay) (words : List (List ℕ)) (files : FilesRun) (ou
       gone_not_stopped walked units (IsMissing d.name) (agrees one_way words files (Went walked units) asked d.names (Stops (IsMissing d.name)) d.asked d.absent.stopped tt tt)
 
   pub refused_comes : RefusedComes words files status
-  refused_comes walked units f asked broken sound =
-      ends Refused
-      (λ d. absurd (d.unbroken f (holds_as (λ w s. SourceBroken w s f) (Went walked units) d.walked d.source asked tt d.read broken)))
-      (λ d. inl refl)
-      (λ d. absurd (d.unbroken f (holds_as (λ w s. SourceBroken w s f) (Went walked units) d.walked d.source asked tt d.read broken)))
-      (λ d. absurd (asked_not_wrong words asked.names d.word asked.asked d.wrong))
-      (λ d. absurd (stayed _ _ sound.0 sound.1 d.unread.fault))
-      (λ d. absurd (not_absent walked units o.output o.line asked d))
+  refused_comes walked units f asked broken sound = ends Refused (record {
+    text = λ d. absurd (d.unbroken f (holds_as (λ w s. SourceBroken w s f) (Went walked units) d.walked d.source asked tt d.read broken));
+    run = λ end d. absurd (whole d.scenario d.reached);
+    refused = λ d. inl refl;
+    rule = λ d. inl refl;
+    lacking = λ d. absurd (d.unbroken f (holds_as (λ w s. SourceBroken w s f) (Went walked units) d.walked d.source asked tt d.read broken));
+    usage = λ d. absurd (asked_not_wrong words asked.names d.word asked.asked d.wrong);
+    fault = λ d. absurd (stayed _ _ sound.0 sound.1 d.unread.fault);
+    unread = λ d. absurd (stayed _ _ sound.0 sound.1 d.says.fault);
+    absent = λ d. absurd (not_absent walked units o.output o.line asked d);
+    missed = λ d. absurd (whole d.scenario d.reached);
+    memory = inr refl;
+  })
+    where
+      whole : (scenario : List ℕ) → Reaches words files scenario → ⊥
+      whole scenario r = r.unbroken f (reaches_as (λ w s. SourceBroken w s f) walked units scenario asked r broken)
 
   -- what breaks no rule isn't refused
   not_refused : (walked : Walked) (units : List (List Member)) (output line : List ℕ)
@@ -199,27 +271,132 @@ module _ (one_way : ReadOneWay) (words : List (List ℕ)) (files : FilesRun) (ou
   not_refused walked units output line asked unbroken d =
       holds_as (λ w s. IsUnbroken (SourceBroken w s)) (Went walked units) d.walked d.source asked tt d.read unbroken d.says.refusal (d.says.first.holds d.says.refusal refl)
 
-  pub no_topology_comes : NoTopologyComes words files status
-  no_topology_comes walked units name names asked unbroken named missing sound =
-      ends NoTopology
-      (λ d. absurd (lacking_no_text words d.read.names names name d.model o.output named
-      (holds_as (λ w s. (model : Model) → Defined s model → LacksTopology model name) (Went walked units) d.walked d.source asked tt d.read missing d.model d.defined) d.text))
-      (λ d. absurd (not_refused walked units o.output o.line asked unbroken d))
-      (λ d. inl refl)
-      (λ d. absurd (asked_not_wrong words asked.names d.word asked.asked d.wrong))
-      (λ d. absurd (stayed _ _ sound.0 sound.1 d.unread.fault))
-      (λ d. absurd (not_absent walked units o.output o.line asked d))
+  -- and lacks no topology, where each that the words name is there
+  not_lacking : (walked : Walked) (units : List (List Member)) (output line : List ℕ) → Asked words files (Went walked units) → IsThere words (source_of walked units)
+      → DueNoTopology words files output line → ⊥
+  not_lacking walked units output line asked there d =
+      d.lacking (holds_as (λ w s. IsThere words s) (Went walked units) d.walked d.source asked tt d.read there d.topology d.read.names d.model d.named d.defined)
 
-  done_ends : (walked : Walked) (units : List (List Member)) → Asked words files (Went walked units) → IsUnbroken (SourceBroken walked (source_of walked units))
+  pub no_topology_comes : NoTopologyComes words files status
+  no_topology_comes walked units name names asked unbroken named missing sound = ends NoTopology (record {
+    text =
+        λ d. absurd (lacking_no_text words d.read.names names name d.model o.output named
+        (holds_as (λ w s. (model : Model) → Defined s model → LacksTopology model name) (Went walked units) d.walked d.source asked tt d.read missing d.model d.defined) d.text);
+    run = λ end d. absurd (none d.scenario d.reached);
+    refused = λ d. absurd (not_refused walked units o.output o.line asked unbroken d);
+    rule = λ d. absurd (none d.scenario d.reached);
+    lacking = λ d. inl refl;
+    usage = λ d. absurd (asked_not_wrong words asked.names d.word asked.asked d.wrong);
+    fault = λ d. absurd (stayed _ _ sound.0 sound.1 d.unread.fault);
+    unread = λ d. absurd (none d.scenario d.reached);
+    absent = λ d. absurd (not_absent walked units o.output o.line asked d);
+    missed = λ d. absurd (none d.scenario d.reached);
+    memory = inr refl;
+  })
+    where
+      none : (scenario : List ℕ) → Reaches words files scenario → ⊥
+      none scenario r =
+          let same : r.topology ≡ name = (same_topology words r.names names r.topology name (inr (scenario, r.asked)) named).0 in
+          let lacks = reaches_as (λ w s. (model : Model) → Defined s model → LacksTopology model name) walked units scenario asked r missing in
+          lacks r.model r.defined (subst (HasTopology r.model) same (r.at, r.there))
+
+  done_ends : (walked : Walked) (units : List (List Member)) → Asked words files (Went walked units) → AsksForNoRun words → IsUnbroken (SourceBroken walked (source_of walked units))
       → IsThere words (source_of walked units) → Sound files → EndsAs Done status
-  done_ends walked units asked unbroken there sound =
-      ends Done
-      (λ d. inl refl)
-      (λ d. absurd (not_refused walked units o.output o.line asked unbroken d))
-      (λ d. absurd (d.lacking (holds_as (λ w s. IsThere words s) (Went walked units) d.walked d.source asked tt d.read there d.topology d.read.names d.model d.named d.defined)))
-      (λ d. absurd (asked_not_wrong words asked.names d.word asked.asked d.wrong))
-      (λ d. absurd (stayed _ _ sound.0 sound.1 d.unread.fault))
-      (λ d. absurd (not_absent walked units o.output o.line asked d))
+  done_ends walked units asked no_run unbroken there sound = ends Done (record {
+    text = λ d. inl refl;
+    run = λ end d. absurd (no_run d.reached.topology d.scenario d.reached.names d.reached.asked);
+    refused = λ d. absurd (not_refused walked units o.output o.line asked unbroken d);
+    rule = λ d. absurd (no_run d.reached.topology d.scenario d.reached.names d.reached.asked);
+    lacking = λ d. absurd (not_lacking walked units o.output o.line asked there d);
+    usage = λ d. absurd (asked_not_wrong words asked.names d.word asked.asked d.wrong);
+    fault = λ d. absurd (stayed _ _ sound.0 sound.1 d.unread.fault);
+    unread = λ d. absurd (no_run d.reached.topology d.scenario d.reached.names d.reached.asked);
+    absent = λ d. absurd (not_absent walked units o.output o.line asked d);
+    missed = λ d. absurd (no_run d.reached.topology d.scenario d.reached.names d.reached.asked);
+    memory = inr refl;
+  })
+
+  -- ---- runs that the words ask for, by what the files tell
+
+  module _ (scenario : List ℕ) (asked : RunAsked words files scenario) (sound : Sound files) where
+    same_scenario : (other : List ℕ) → Reaches words files other → other ≡ scenario
+    same_scenario other r = (same_run words r.names asked.names r.topology asked.topology other scenario r.asked asked.run).1
+
+    -- the scenario's file holds this, or nothing
+    holds_as_told : (other : List ℕ) (x y : Option (List ℕ)) → Reaches words files other → Holds files other x → Holds files scenario y → x ≡ y
+    holds_as_told other x y r here there =
+        holds_once files.told asked.asked.held scenario x y asked.asked.told (subst (λ (n : List ℕ). IsHeld files.told n x) (same_scenario other r) here) there
+
+    -- what is reached are tables of the source
+    tables_as : (other : List ℕ) (r : Reaches words files other) → AreTables (source_of asked.walked asked.units) asked.topology (tables_of r.model r.at)
+    tables_as other r = (
+      back (reached_as (Went asked.walked asked.units) other asked.asked tt r),
+      subst (λ (name : List ℕ). IsTopology r.model name r.at) (same_run words r.names asked.names r.topology asked.topology other scenario r.asked asked.run).0 r.there,
+    )
+      where
+        back : Went asked.walked asked.units ≡ Went r.walked r.units → Defined (source_of asked.walked asked.units) r.model
+        back e = subst (Holding (λ w s. Defined s r.model)) (sym e) r.defined
+
+    module _ (P : Status → Type 0) where
+      -- what is left to be shown where a run is asked for
+      run_cases : ((end : Finish) → DueRun end words files o.output o.line → P (status_of end)) → (DueScenarioRefused words files o.output o.line → P Refused)
+          → (DueScenarioAbsent words files o.output o.line → P NoFile) → P NoMemory → Cases words files o.output o.line P
+      run_cases run rule missed memory = record {
+        text = λ d. absurd (run_no_text words d.read.names asked.names asked.topology scenario d.model o.output asked.run d.text);
+        run = run;
+        refused = λ d. absurd (not_refused asked.walked asked.units o.output o.line asked.asked asked.unbroken d);
+        rule = rule;
+        lacking = λ d. absurd (not_lacking asked.walked asked.units o.output o.line asked.asked asked.there d);
+        usage = λ d. absurd (asked_not_wrong words asked.asked.names d.word asked.asked.asked d.wrong);
+        fault = λ d. absurd (stayed _ _ sound.0 sound.1 d.unread.fault);
+        unread = λ d. absurd (stayed _ _ sound.0 sound.1 d.says.fault);
+        absent = λ d. absurd (not_absent asked.walked asked.units o.output o.line asked.asked d);
+        missed = missed;
+        memory = memory;
+      }
+
+    no_scenario : Holds files scenario None → EndsAs NoFile status
+    no_scenario gone =
+        ends NoFile (run_cases (IsEither NoFile) (λ end d. absurd (none-some d.gives.text (sym (holds_as_told d.scenario (Some d.gives.text) None d.reached d.gives.read.held gone))))
+        (λ d. absurd (none-some d.says.text (sym (holds_as_told d.scenario (Some d.says.text) None d.reached d.says.read.held gone)))) (λ d. inl refl) (inr refl))
+
+    module _ (text : List ℕ) (held : Holds files scenario (Some text)) where
+      -- it is there
+      not_missed : DueScenarioAbsent words files o.output o.line → ⊥
+      not_missed d = none-some text (holds_as_told d.scenario None (Some text) d.reached d.says.absent held)
+
+      scenario_ends : ((t : Described) → AreTables (source_of asked.walked asked.units) asked.topology t → (rule : Rule) × (path : List ℕ) × BreaksRule t text rule path) → EndsAs Refused status
+      scenario_ends breaks = ends Refused (run_cases (IsEither Refused) (λ end d. absurd (broken end d)) (λ d. inl refl) (λ d. absurd (not_missed d)) (inr refl))
+        where
+          broken : (end : Finish) → DueRun end words files o.output o.line → ⊥
+          broken end d =
+              let same : d.gives.text ≡ text = same_some (holds_as_told d.scenario (Some d.gives.text) (Some text) d.reached d.gives.read.held held) in
+              let b = breaks (tables_of d.reached.model d.reached.at) (tables_as d.scenario d.reached) in
+              d.gives.whole b.0 b.1 (subst (λ (x : List ℕ). BreaksRule (tables_of d.reached.model d.reached.at) x b.0 b.1) (sym same) b.2)
+
+      -- one of the ends of runs is due, or memory was refused
+      run_due : ((t : Described) → AreTables (source_of asked.walked asked.units) asked.topology t → BreaksNoRule t text) → IsEnd o.due ⊎ (o.due ≡ NoMemory)
+      run_due whole =
+          due_cases words files o.output o.line (λ s. IsEnd s ⊎ (s ≡ NoMemory))
+          (run_cases (λ s. IsEnd s ⊎ (s ≡ NoMemory)) (λ end d. inl (is_end end)) (λ d. absurd (unbroken d)) (λ d. absurd (not_missed d)) (inr refl)) o.due o.called
+        where
+          is_end : (end : Finish) → IsEnd (status_of end)
+          is_end finish.Complete = inl refl
+          is_end finish.Stuck = inr (inl refl)
+          is_end finish.Spent = inr (inr (inl refl))
+          is_end finish.Asserted = inr (inr (inr refl))
+
+          unbroken : DueScenarioRefused words files o.output o.line → ⊥
+          unbroken d =
+              let same : d.says.text ≡ text = same_some (holds_as_told d.scenario (Some d.says.text) (Some text) d.reached d.says.read.held held) in
+              whole (tables_of d.reached.model d.reached.at) (tables_as d.scenario d.reached) d.says.rule d.says.path
+              (subst (λ (x : List ℕ). BreaksRule (tables_of d.reached.model d.reached.at) x d.says.rule d.says.path) same d.says.broken)
+
+  pub no_file_comes : NoFileComes words files status
+  no_file_comes = (no_file_missed, no_file_told, λ scenario asked gone sound. no_scenario scenario asked sound gone)
+
+  pub scenario_refused_comes : ScenarioRefusedComes words files status
+  scenario_refused_comes scenario text asked held breaks sound = scenario_ends scenario asked sound text held breaks
 
   -- where no write failed the status is no write fault
   no_fault : SoundSink out → SoundSink diag → Delivered o.due o.output o.line out diag status → status ≡ o.due
@@ -240,8 +417,8 @@ module _ (one_way : ReadOneWay) (words : List (List ℕ)) (files : FilesRun) (ou
   not_due d = d
 
   pub done_comes : DoneComes words files out diag status
-  done_comes walked units asked unbroken there sound out_sound diag_sound =
-      elim (done_ends walked units asked unbroken there sound) [
+  done_comes walked units asked no_run unbroken there sound out_sound diag_sound =
+      elim (done_ends walked units asked no_run unbroken there sound) [
         | inl e ↦ inl e
         | inr f ↦ without f
       ]
@@ -249,3 +426,7 @@ module _ (one_way : ReadOneWay) (words : List (List ℕ)) (files : FilesRun) (ou
       without : (status ≡ WriteFault) ⊎ (status ≡ NoMemory) → (status ≡ Done) ⊎ (status ≡ NoMemory)
       without (inl e) = absurd (not_due (subst (λ (s : Status). IsDue words files s o.output o.line) (sym (no_fault out_sound diag_sound o.delivered) ∙ e) o.called))
       without (inr e) = inr e
+
+  pub run_comes : RunComes words files out diag status
+  run_comes scenario text asked held whole sound out_sound diag_sound =
+      subst (λ (s : Status). IsEnd s ⊎ (s ≡ NoMemory)) (sym (no_fault out_sound diag_sound o.delivered)) (run_due scenario asked sound text held whole)

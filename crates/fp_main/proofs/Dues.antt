@@ -1,8 +1,10 @@
--- What is due for words with a form, from what gathering and resolving answer.
+-- What is due for words with a form, from what gathering, resolving and running answer.
 use Rattle.std.proofs.Common.{◌≡◌, ℕ, List, [], ◌∷◌, Option, Some, None, Ok, Err, inl, inr, refl, sym, ap, ◌∙◌, subst}
+use Rattle.fp_outside.specs.declared.files.HeldFile.{HeldFile}
 use Rattle.fp_base.specs.declared.refusal.Refusal.{Refusal}
 use Rattle.fp_base.specs.Least.{IsLeast, IsUnbroken}
 use Rattle.fp_base.proofs.Calculus.{least_none, none_broken}
+use Rattle.fp_tree.specs.declared.member.Member.{Member}
 use Rattle.fp_tree.specs.declared.source.Source.{Source}
 use Rattle.fp_tables.specs.declared.model.Model.{Model}
 use Rattle.fp_source_components.specs.Broken.{PartsBroken}
@@ -12,20 +14,20 @@ use Rattle.fp_model.specs.Defined.{Defined}
 use Rattle.fp_model.specs.Phases.{InPhases}
 use Rattle.fp_fault_places.specs.Standing.{IsPlaceOf}
 use Rattle.fp_gather.proofs.AmongRead.{InFilesRead, PlacesInFiles}
-use Rattle.fp_gather.specs.FilesRun.{FilesRun}
+use Rattle.fp_gather.specs.FilesRun.{FilesRun, NoFault, NoMiss, files_run}
 use Rattle.fp_gather.specs.gathering.Gathered.{AreRead, FilesBroken, Gathers, StandsAmong, name_of, names_read, source_of}
-use Rattle.fp_gather.specs.gathering.Walks.{Walked}
+use Rattle.fp_gather.specs.gathering.Walks.{Walked, WalksFiles, Went, nothing_read}
 use Rattle.fp_gather.specs.declared.gathering.Halt.{Halt}
 use Rattle.fp_gather.specs.declared.gathering.Halt.TheVariants as halt
 use Rattle.fp_main.proofs.SourcePhases.{behind_least, first_least}
 use Rattle.fp_main.specs.Broken.{SourceBroken}
-use Rattle.fp_main.specs.Lines.{no_topology_line, refusal_line}
+use Rattle.fp_main.specs.Lines.{no_file_line, no_topology_line, read_fault_line, refusal_line}
 use Rattle.fp_listing.specs.Listing.{Listing}
-use Rattle.fp_main.specs.Output.{DueRefused, IsDue, IsDueFor, IsDueOf, IsTopologyText}
+use Rattle.fp_main.specs.Output.{AllWereRead, DueNoFile, DueReadFault, DueRefused, IsDue, IsDueFor, IsDueOfReached, IsDueOfRun, IsDueOfText, IsTopologyText, Reaches, SaysBroken, tables_of}
 use Rattle.fp_main.specs.Topologies.{IsTopology, LacksTopology}
 use Rattle.fp_main.specs.Words.{AsksFor, IsCheck, Names, NamesTopology, Spells}
 use Rattle.fp_main.specs.declared.words.Wanted.{Wanted}
-use Rattle.fp_main.specs.declared.words.Wanted.TheVariants.{Listing as Listed, OfTopology}
+use Rattle.fp_main.specs.declared.words.Wanted.TheVariants.{Listing as Listed, OfTopology, Run}
 use Rattle.fp_main.specs.declared.words.TopologyText.{TopologyText}
 use Rattle.fp_main.specs.declared.answer.Due.{Due}
 use Rattle.fp_main.specs.declared.status.Status.{Status}
@@ -50,44 +52,31 @@ source_least walked source o clean l = behind_least walked source (phases source
 -- words that spell what is wanted ask for their files
 pub spelled_asks : (words : List (List ℕ)) (wanted : Wanted) (names : List (List ℕ)) → Spells words wanted names → AsksFor words names
 spelled_asks words Listed names check = inl check
-spelled_asks words (OfTopology text name) names named = inr (name.now, (text, named))
+spelled_asks words (OfTopology text name) names named = inr (name.now, inl (text, named))
+spelled_asks words (Run name scenario) names run = inr (name.now, inr (scenario.now, run))
 
 module _ (words names : List (List ℕ)) where
   -- what is due of a model
   pub due_listing : (model : Model) (due : Due) (text : List ℕ) → due ≡ record { status = Done; output = text; line = [] } → text ≡ Listing model → IsCheck words names
-      → IsDueOf words names model due.status due.output due.line
-  due_listing model due text is listed check = subst (λ (d : Due). IsDueOf words names model d.status d.output d.line) (sym is) (inl (check, listed), refl)
+      → IsDueOfText words names model due.status due.output due.line
+  due_listing model due text is listed check = subst (λ (d : Due). IsDueOfText words names model d.status d.output d.line) (sym is) (inl (check, listed), refl)
 
   pub due_topology : (model : Model) (due : Due) (wanted : TopologyText) (text topology : List ℕ) (at : ℕ) → due ≡ record { status = Done; output = text; line = [] }
-      → IsTopologyText wanted model at text → IsTopology model topology at → Names wanted words topology names → IsDueOf words names model due.status due.output due.line
+      → IsTopologyText wanted model at text → IsTopology model topology at → Names wanted words topology names → IsDueOfText words names model due.status due.output due.line
   due_topology model due wanted text topology at is said there named =
-      subst (λ (d : Due). IsDueOf words names model d.status d.output d.line) (sym is) (inr (topology, wanted, named, (at, there, said)), refl)
+      subst (λ (d : Due). IsDueOfText words names model d.status d.output d.line) (sym is) (inr (topology, wanted, named, (at, there, said)), refl)
 
-  pub due_no_topology : (model : Model) (due : Due) (line topology : List ℕ) → due ≡ record { status = NoTopology; output = []; line = line } → line ≡ no_topology_line topology
-      → LacksTopology model topology → NamesTopology words topology names → IsDueOf words names model due.status due.output due.line
-  due_no_topology model due line topology is said lacking named =
-      subst (λ (d : Due). IsDueOf words names model d.status d.output d.line) (sym is) ((topology, named, lacking, said), refl)
+  pub due_no_topology : (model : Model) (due : Due) (topology : List ℕ) → due ≡ record { status = NoTopology; output = []; line = no_topology_line topology }
+      → LacksTopology model topology → NamesTopology words topology names → IsDueOfText words names model due.status due.output due.line
+  due_no_topology model due topology is lacking named =
+      subst (λ (d : Due). IsDueOfText words names model d.status d.output d.line) (sym is) ((topology, named, lacking, refl), refl)
 
-  -- what is due for a source that breaks no rule, and for one that does
-  pub due_resolved : (source : Source) (model : Model) (status : Status) (output line : List ℕ) → IsUnbroken (ModelBroken source) → Defined source model
-      → IsDueOf words names model status output line → IsDueFor words names source status output line
-  due_resolved source model Done output line unbroken defined d = (unbroken, (model, defined, d))
-  due_resolved source model NoTopology output line unbroken defined d = (unbroken, (model, defined, d))
-  due_resolved source model Refused output line unbroken defined d = absurd d
-  due_resolved source model Usage output line unbroken defined d = absurd d
-  due_resolved source model ReadFault output line unbroken defined d = absurd d
-  due_resolved source model WriteFault output line unbroken defined d = absurd d
-  due_resolved source model NoFile output line unbroken defined d = absurd d
-  due_resolved source model Stuck output line unbroken defined d = absurd d
-  due_resolved source model Spent output line unbroken defined d = absurd d
-  due_resolved source model Asserted output line unbroken defined d = absurd d
-  due_resolved source model NoMemory output line unbroken defined d = absurd d
-
-  pub due_refused : (source : Source) (refusal : Refusal) (due : Due)
+  pub due_refused : (files : FilesRun) (source : Source) (refusal : Refusal) (due : Due) → AllWereRead files
       → due ≡ record { status = Refused; output = []; line = refusal_line (name_of source.names refusal.place.file) refusal.place refusal.rule }
-      → IsLeast (ModelBroken source) (Some refusal) → IsDueFor words names source due.status due.output due.line
-  due_refused source refusal due is first =
-      subst (λ (d : Due). IsDueFor words names source d.status d.output d.line) (sym is) (record { refusal = refusal; first = first; silent = refl; said = refl })
+      → IsLeast (ModelBroken source) (Some refusal) → IsDueFor words names files source due.status due.output due.line
+  due_refused files source refusal due all is first =
+      subst (λ (d : Due). IsDueFor words names files source d.status d.output d.line) (sym is)
+      (inl (refl, all, record { refusal = refusal; first = first; silent = refl; said = refl }))
 
 -- a rule that is broken in the source stands in one of the files that were read
 model_among : InFilesRead → PlacesInFiles → FaultsStand
@@ -112,55 +101,108 @@ model_among among places placed names files walked source f read broken =
     go (inr (inr (inr (inl b, calm), still), quiet)) = at_place (placed.states (source_of walked read.units) f b)
     go (inr (inr (inr (inr (b, last), calm), still), quiet)) = behind b
 
+-- what a run writes that the words reach
+due_run : (words : List (List ℕ)) (files : FilesRun) (scenario : List ℕ) (reached : Reaches words files scenario) (status : Status) (output line : List ℕ)
+    → IsDueOfRun files scenario (tables_of reached.model reached.at) status output line → IsDue words files status output line
+due_run words files scenario reached Done output line d = inr (record { scenario = scenario; reached = reached; gives = d })
+due_run words files scenario reached Stuck output line d = record { scenario = scenario; reached = reached; gives = d }
+due_run words files scenario reached Spent output line d = record { scenario = scenario; reached = reached; gives = d }
+due_run words files scenario reached Asserted output line d = record { scenario = scenario; reached = reached; gives = d }
+due_run words files scenario reached Refused output line d = inr (record { scenario = scenario; reached = reached; says = d })
+due_run words files scenario reached ReadFault output line d = inr (record { scenario = scenario; reached = reached; says = d })
+due_run words files scenario reached NoFile output line d = inr (record { scenario = scenario; reached = reached; says = d })
+due_run words files scenario reached Usage output line d = absurd d
+due_run words files scenario reached WriteFault output line d = absurd d
+due_run words files scenario reached NoMemory output line d = absurd d
+due_run words files scenario reached NoTopology output line d = absurd d
+
 module _ (words names : List (List ℕ)) (files : FilesRun) (asked : AsksFor words names) where
-  -- files that break no rule of tokens, of the grammar or of includes
-  pub due_source : InFilesRead → PlacesInFiles → FaultsStand
-      → (source : Source) (status : Status) (output line : List ℕ) → Gathers names files (Ok source) → IsDueFor words names source status output line → IsDue words files status output line
-  due_source among places placed source Done output line g d = record {
-    walked = g.0;
+  -- a text of a model of files that break no rule
+  due_text : (walked : Walked) (source : Source) (read : AreRead names files walked source) (model : Model) (status : Status) (output line : List ℕ)
+      → IsUnbroken (SourceBroken walked source) → Defined source model → IsDueOfText words names model status output line → IsDue words files status output line
+  due_text walked source read model Done output line unbroken defined d = inl (record {
+    walked = walked;
     source = source;
-    read = record { names = names; asked = asked; read = g.1 };
-    unbroken = none_broken (source_least g.0 source None g.2 (least_none d.0));
-    model = d.1.0;
-    defined = d.1.1;
-    text = d.1.2.0;
-    silent = d.1.2.1;
-  }
-  due_source among places placed source NoTopology output line g d =
-      let lacks = d.1.2.0 in
+    read = record { names = names; asked = asked; read = read };
+    unbroken = unbroken;
+    model = model;
+    defined = defined;
+    text = d.0;
+    silent = d.1;
+  })
+  due_text walked source read model NoTopology output line unbroken defined d =
+      let lacks = d.0 in
       record {
-        walked = g.0;
+        walked = walked;
         source = source;
-        read = record { names = names; asked = asked; read = g.1 };
+        read = record { names = names; asked = asked; read = read };
         topology = lacks.0;
         named = lacks.1;
-        unbroken = none_broken (source_least g.0 source None g.2 (least_none d.0));
-        model = d.1.0;
-        defined = d.1.1;
+        unbroken = unbroken;
+        model = model;
+        defined = defined;
         lacking = lacks.2;
-        silent = d.1.2.1;
+        silent = d.1;
         said = lacks.3;
       }
-  due_source among places placed source Refused output line g d = record {
-    walked = g.0;
+  due_text walked source read model Refused output line unbroken defined d = absurd d
+  due_text walked source read model Usage output line unbroken defined d = absurd d
+  due_text walked source read model ReadFault output line unbroken defined d = absurd d
+  due_text walked source read model WriteFault output line unbroken defined d = absurd d
+  due_text walked source read model NoFile output line unbroken defined d = absurd d
+  due_text walked source read model Stuck output line unbroken defined d = absurd d
+  due_text walked source read model Spent output line unbroken defined d = absurd d
+  due_text walked source read model Asserted output line unbroken defined d = absurd d
+  due_text walked source read model NoMemory output line unbroken defined d = absurd d
+
+  -- a rule of the source is broken
+  due_says : InFilesRead → PlacesInFiles → FaultsStand → (walked : Walked) (source : Source) (read : AreRead names files walked source) (output line : List ℕ)
+      → IsUnbroken (FilesBroken walked) → SaysBroken (ModelBroken source) source.names output line → DueRefused words files output line
+  due_says among places placed walked source read output line clean d = record {
+    walked = walked;
     source = source;
-    read = record { names = names; asked = asked; read = g.1 };
+    read = record { names = names; asked = asked; read = read };
     says = record {
       refusal = d.refusal;
-      first = source_least g.0 source (Some d.refusal) g.2 d.first;
+      first = source_least walked source (Some d.refusal) clean d.first;
       silent = d.silent;
-      said = d.said ∙ ap (λ (ns : List (List ℕ)). refusal_line (name_of ns d.refusal.place.file) d.refusal.place d.refusal.rule) (ap (λ (s : Source). s.names) g.1.made);
+      said = d.said ∙ ap (λ (ns : List (List ℕ)). refusal_line (name_of ns d.refusal.place.file) d.refusal.place d.refusal.rule) (ap (λ (s : Source). s.names) read.made);
     };
-    among = model_among among places placed names files g.0 source d.refusal g.1 (d.first.holds d.refusal refl);
+    among = model_among among places placed names files walked source d.refusal read (d.first.holds d.refusal refl);
   }
-  due_source among places placed source Usage output line g d = absurd d.1.2
-  due_source among places placed source ReadFault output line g d = absurd d.1.2
-  due_source among places placed source WriteFault output line g d = absurd d.1.2
-  due_source among places placed source NoFile output line g d = absurd d.1.2
-  due_source among places placed source Stuck output line g d = absurd d.1.2
-  due_source among places placed source Spent output line g d = absurd d.1.2
-  due_source among places placed source Asserted output line g d = absurd d.1.2
-  due_source among places placed source NoMemory output line g d = absurd d.1.2
+
+  -- a run over a topology of the source's model
+  due_reached : (walked : Walked) (source : Source) (units : List (List Member)) (model : Model) (status : Status) (output line : List ℕ)
+      → source ≡ source_of walked units → WalksFiles files.told names nothing_read (Went walked units) → IsUnbroken (SourceBroken walked source) → Defined source model
+      → IsDueOfReached words names files model status output line → IsDue words files status output line
+  due_reached walked source units model status output line made read unbroken defined d =
+      let reached : Reaches words files d.scenario = record {
+        names = names;
+        topology = d.topology;
+        asked = d.asked;
+        walked = walked;
+        units = units;
+        read = read;
+        unbroken = subst (λ (s : Source). IsUnbroken (SourceBroken walked s)) made unbroken;
+        model = model;
+        defined = subst (λ (s : Source). Defined s model) made defined;
+        at = d.at;
+        there = d.there;
+      } in
+      due_run words files d.scenario reached status output line d.due
+
+  -- files that break no rule of tokens, of the grammar or of includes; what is read behind them are the same files
+  due_behind : InFilesRead → PlacesInFiles → FaultsStand
+      → (walked : Walked) (source : Source) (units : List (List Member)) (status : Status) (output line : List ℕ) → WalksFiles files.told names nothing_read (Went walked units)
+      → source ≡ source_of walked units → IsUnbroken (FilesBroken walked) → IsDueFor words names files source status output line → IsDue words files status output line
+  due_behind among places placed walked source units status output line read made clean (inl (is, all, d)) =
+      subst (λ (s : Status). IsDue words files s output line) (sym is)
+      (inl (due_says among places placed walked source (record { sound = all.0; found = all.1; units = units; read = read; made = made }) output line clean d))
+  due_behind among places placed walked source units status output line read made clean (inr (unbroken, (model, defined, inl (all, d)))) =
+      due_text walked source (record { sound = all.0; found = all.1; units = units; read = read; made = made }) model status output line
+      (none_broken (source_least walked source None clean (least_none unbroken))) defined d
+  due_behind among places placed walked source units status output line read made clean (inr (unbroken, (model, defined, inr d))) =
+      due_reached walked source units model status output line made read (none_broken (source_least walked source None clean (least_none unbroken))) defined d
 
   -- files that break one
   pub due_broken : (h : Halt) (refusal : Refusal) (file output line : List ℕ) → h ≡ halt.Broken refusal file → Gathers names files (Err h)
@@ -179,3 +221,29 @@ module _ (words names : List (List ℕ)) (files : FilesRun) (asked : AsksFor wor
         };
         among = b.among;
       }
+
+  -- a file that isn't there, or could not be read
+  pub due_no_file : (h : Halt) (name line : List ℕ) → h ≡ halt.NoFile name → Gathers names files (Err h) → line ≡ no_file_line name → DueNoFile words files [] line
+  due_no_file h name line is g said =
+      record { names = names; asked = asked; name = name; absent = subst (λ (x : Halt). Gathers names files (Err x)) is g; silent = refl; said = said }
+
+  pub due_read_fault : (h : Halt) (name line : List ℕ) → h ≡ halt.ReadFault name → Gathers names files (Err h) → line ≡ read_fault_line name → DueReadFault words files [] line
+  due_read_fault h name line is g said =
+      record { names = names; asked = asked; name = name; unread = subst (λ (x : Halt). Gathers names files (Err x)) is g; silent = refl; said = said }
+
+-- ---- the files of the whole call
+
+-- what was told before, and read behind files of which each was read, is what the whole read
+module _ {F : Type 0} (told : F → Option (List HeldFile)) (faults misses : F → ℕ) (before between after : F) where
+  whole_is : told between ≡ told before → NoFault (files_run told faults misses before between) → NoMiss (files_run told faults misses before between)
+      → files_run told faults misses between after ≡ files_run told faults misses before after
+  whole_is same sound found i = record { told = same i; faults_before = sound i; faults_after = faults after; misses_before = found i; misses_after = misses after }
+
+  -- files that break no rule of tokens, of the grammar or of includes
+  pub due_source : (words names : List (List ℕ)) → AsksFor words names → InFilesRead → PlacesInFiles → FaultsStand
+      → (source : Source) (status : Status) (output line : List ℕ) → told between ≡ told before → Gathers names (files_run told faults misses before between) (Ok source)
+      → IsDueFor words names (files_run told faults misses between after) source status output line → IsDue words (files_run told faults misses before after) status output line
+  due_source words names asked among places placed source status output line same g d =
+      subst (λ (files : FilesRun). IsDue words files status output line) (whole_is same g.1.sound g.1.found)
+      (due_behind words names (files_run told faults misses between after) asked among places placed g.0 source g.1.units status output line
+      (subst (λ (t : Option (List HeldFile)). WalksFiles t names nothing_read (Went g.0 g.1.units)) (sym same) g.1.read) g.1.made g.2 d)

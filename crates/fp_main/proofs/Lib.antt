@@ -3,6 +3,7 @@ pub mod CausesMeant
 pub mod Dues
 pub mod Finding
 pub mod Givens
+pub mod Scenarios
 pub mod SourcePhases
 pub mod Wording
 pub mod Writing

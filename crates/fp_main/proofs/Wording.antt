@@ -2,7 +2,7 @@
 use Rattle.std.proofs.Common.{◌≡◌, ◌<◌, ◌==◌, ℕ, List, [], ◌∷◌, ◌++◌, length, codes, Bool, true, false, refl, map, ◌∙◌, inl, inr, lit<, arith, sym, subst, eq-eqb, eqb→eq, T, Result}
 use Rattle.std.specs.Str.{bytes_eq}
 use Rattle.std.proofs.lemmas.Slice.Eq.{bytes_eq-Decides}
-use Rattle.fp_main.specs.Words.{IsCheck, IsForm, BeginsForm, IsWrong, Names, NamesTopology, ReadsWords, word_of}
+use Rattle.fp_main.specs.Words.{AsksFor, BeginsForm, IsCheck, IsForm, IsRun, IsWrong, Names, NamesTopology, ReadsWords, word_of}
 use Rattle.fp_main.specs.declared.words.Command.{Command}
 use Rattle.fp_main.specs.declared.words.TopologyText.{TopologyText}
 use Rattle.fp_main.specs.declared.words.TopologyText.TheVariants.{Connections, Dictionary}
@@ -19,11 +19,36 @@ check_is_no_text : (text : TopologyText) → codes "check" ≡ word_of text → 
 check_is_no_text Connections e = apart (codes "check") (codes "ports") refl e
 check_is_no_text Dictionary e = apart (codes "check") (codes "dict") refl e
 
-pub check_names_nothing : (words names files : List (List ℕ)) (topology : List ℕ) → IsCheck words names → NamesTopology words topology files → ⊥
-check_names_nothing words names files topology check named =
-    check_is_no_text named.0 (head_same (codes "check") (word_of named.0) names (topology ∷ files) (sym check.words_are ∙ named.1.words_are))
+run_is_no_text : (text : TopologyText) → codes "run" ≡ word_of text → ⊥
+run_is_no_text Connections e = apart (codes "run") (codes "ports") refl e
+run_is_no_text Dictionary e = apart (codes "run") (codes "dict") refl e
 
--- one word alone has nothing behind it, and two words one
+run_is_no_check : codes "run" ≡ codes "check" → ⊥
+run_is_no_check e = apart (codes "run") (codes "check") refl e
+
+pub check_names_nothing : (words names files : List (List ℕ)) (topology : List ℕ) → IsCheck words names → NamesTopology words topology files → ⊥
+check_names_nothing words names files topology check (inl (text, named)) =
+    check_is_no_text text (head_same (codes "check") (word_of text) names (topology ∷ files) (sym check.words_are ∙ named.words_are))
+check_names_nothing words names files topology check (inr (scenario, run)) =
+    run_is_no_check (head_same (codes "run") (codes "check") (topology ∷ scenario ∷ files) names (sym run.words_are ∙ check.words_are))
+
+pub text_is_no_run : (words names files : List (List ℕ)) (text : TopologyText) (named topology scenario : List ℕ) → Names text words named names → IsRun words topology scenario files → ⊥
+text_is_no_run words names files text named topology scenario asked run =
+    run_is_no_text text (head_same (codes "run") (word_of text) (topology ∷ scenario ∷ files) (named ∷ names) (sym run.words_are ∙ asked.words_are))
+
+pub same_run : (words a b : List (List ℕ)) (t u s r : List ℕ) → IsRun words t s a → IsRun words u r b → (t ≡ u) × (s ≡ r) × (a ≡ b)
+same_run words a b t u s r x y = (second (sym x.words_are ∙ y.words_are), third (sym x.words_are ∙ y.words_are), rest (sym x.words_are ∙ y.words_are))
+  where
+    second : codes "run" ∷ t ∷ s ∷ a ≡ codes "run" ∷ u ∷ r ∷ b → t ≡ u
+    second h = cc
+
+    third : codes "run" ∷ t ∷ s ∷ a ≡ codes "run" ∷ u ∷ r ∷ b → s ≡ r
+    third h = cc
+
+    rest : codes "run" ∷ t ∷ s ∷ a ≡ codes "run" ∷ u ∷ r ∷ b → a ≡ b
+    rest h = cc
+
+-- so many words with none behind them
 none_behind : (word other : List ℕ) (files : List (List ℕ)) → word ∷ [] ≡ other ∷ files → 0 < length files → ⊥
 none_behind word other [] e some = omega (arith, some)
 none_behind word other (file ∷ files) e some = cc
@@ -31,6 +56,19 @@ none_behind word other (file ∷ files) e some = cc
 one_behind : (word second other topology : List ℕ) (files : List (List ℕ)) → word ∷ second ∷ [] ≡ other ∷ topology ∷ files → 0 < length files → ⊥
 one_behind word second other topology [] e some = omega (arith, some)
 one_behind word second other topology (file ∷ files) e some = cc
+
+two_behind : (word second third other topology scenario : List ℕ) (files : List (List ℕ)) → word ∷ second ∷ third ∷ [] ≡ other ∷ topology ∷ scenario ∷ files → 0 < length files → ⊥
+two_behind word second third other topology scenario [] e some = omega (arith, some)
+two_behind word second third other topology scenario (file ∷ files) e some = cc
+
+none_alone : (word : List ℕ) (words : List (List ℕ)) → [] ≡ word ∷ words → ⊥
+none_alone word words e = cc
+
+one_alone : (word other second : List ℕ) (words : List (List ℕ)) → word ∷ [] ≡ other ∷ second ∷ words → ⊥
+one_alone word other second words e = cc
+
+two_alone : (word second other topology scenario : List ℕ) (words : List (List ℕ)) → word ∷ second ∷ [] ≡ other ∷ topology ∷ scenario ∷ words → ⊥
+two_alone word second other topology scenario words e = cc
 
 -- ---- what begins forms
 
@@ -40,6 +78,9 @@ check_a = record { words_are = refl; some = lit< tt }
 names_a : (text : TopologyText) (topology : List ℕ) → Names text (word_of text ∷ topology ∷ codes "a" ∷ []) topology (codes "a" ∷ [])
 names_a text topology = record { words_are = refl; some = lit< tt }
 
+run_a : (topology scenario : List ℕ) → IsRun (codes "run" ∷ topology ∷ scenario ∷ codes "a" ∷ []) topology scenario (codes "a" ∷ [])
+run_a topology scenario = record { words_are = refl; some = lit< tt }
+
 none_begins : BeginsForm []
 none_begins = (codes "check" ∷ codes "a" ∷ [], (codes "a" ∷ [], inl check_a))
 
@@ -47,57 +88,81 @@ check_begins : BeginsForm (codes "check" ∷ [])
 check_begins = (codes "a" ∷ [], (codes "a" ∷ [], inl check_a))
 
 text_begins : (text : TopologyText) → BeginsForm (word_of text ∷ [])
-text_begins text = (codes "T" ∷ codes "a" ∷ [], (codes "a" ∷ [], inr (codes "T", (text, names_a text (codes "T")))))
+text_begins text = (codes "T" ∷ codes "a" ∷ [], (codes "a" ∷ [], inr (codes "T", inl (text, names_a text (codes "T")))))
 
 topology_begins : (text : TopologyText) (topology : List ℕ) → BeginsForm (word_of text ∷ topology ∷ [])
-topology_begins text topology = (codes "a" ∷ [], (codes "a" ∷ [], inr (topology, (text, names_a text topology))))
+topology_begins text topology = (codes "a" ∷ [], (codes "a" ∷ [], inr (topology, inl (text, names_a text topology))))
+
+run_begins : BeginsForm (codes "run" ∷ [])
+run_begins = (codes "T" ∷ codes "s" ∷ codes "a" ∷ [], (codes "a" ∷ [], inr (codes "T", inr (codes "s", run_a (codes "T") (codes "s")))))
+
+run_over_begins : (topology : List ℕ) → BeginsForm (codes "run" ∷ topology ∷ [])
+run_over_begins topology = (codes "s" ∷ codes "a" ∷ [], (codes "a" ∷ [], inr (topology, inr (codes "s", run_a topology (codes "s")))))
+
+scenario_begins : (topology scenario : List ℕ) → BeginsForm (codes "run" ∷ topology ∷ scenario ∷ [])
+scenario_begins topology scenario = (codes "a" ∷ [], (codes "a" ∷ [], inr (topology, inr (scenario, run_a topology scenario))))
 
 -- ---- what is no form
 
-none_is_none : IsForm [] → ⊥
-none_is_none form =
-    elim form.1 [
-      | inl check ↦ no_check form.0 check.words_are
-      | inr named ↦ no_text (word_of named.1.0) named.0 form.0 named.1.1.words_are
-    ]
-  where
-    no_check : (files : List (List ℕ)) → [] ≡ codes "check" ∷ files → ⊥
-    no_check files e = cc
+-- no form has these words
+module _ (words : List (List ℕ)) (check : (files : List (List ℕ)) → IsCheck words files → ⊥)
+    (text : (wanted : TopologyText) (topology : List ℕ) (files : List (List ℕ)) → Names wanted words topology files → ⊥)
+    (run : (topology scenario : List ℕ) (files : List (List ℕ)) → IsRun words topology scenario files → ⊥) where
+  no_asks : (files : List (List ℕ)) → AsksFor words files → ⊥
+  no_asks files (inl asked) = check files asked
+  no_asks files (inr (topology, inl (wanted, named))) = text wanted topology files named
+  no_asks files (inr (topology, inr (scenario, asked))) = run topology scenario files asked
 
-    no_text : (word topology : List ℕ) (files : List (List ℕ)) → [] ≡ word ∷ topology ∷ files → ⊥
-    no_text word topology files e = cc
+  no_form : IsForm words → ⊥
+  no_form form = no_asks form.0 form.1
+
+none_is_none : IsForm [] → ⊥
+none_is_none =
+    no_form [] (λ files c. none_alone (codes "check") files c.words_are) (λ text topology files n. none_alone (word_of text) (topology ∷ files) n.words_are)
+    (λ topology scenario files r. none_alone (codes "run") (topology ∷ scenario ∷ files) r.words_are)
 
 one_is_none : (word : List ℕ) → IsForm (word ∷ []) → ⊥
-one_is_none word form =
-    elim form.1 [
-      | inl check ↦ none_behind word (codes "check") form.0 check.words_are check.some
-      | inr named ↦ no_text (word_of named.1.0) named.0 form.0 named.1.1.words_are
-    ]
-  where
-    no_text : (other topology : List ℕ) (files : List (List ℕ)) → word ∷ [] ≡ other ∷ topology ∷ files → ⊥
-    no_text other topology files e = cc
+one_is_none word =
+    no_form (word ∷ []) (λ files c. none_behind word (codes "check") files c.words_are c.some)
+    (λ text topology files n. one_alone word (word_of text) topology files n.words_are)
+    (λ topology scenario files r. one_alone word (codes "run") topology (scenario ∷ files) r.words_are)
 
 topology_is_none : (text : TopologyText) (topology : List ℕ) → IsForm (word_of text ∷ topology ∷ []) → ⊥
-topology_is_none text topology form =
-    elim form.1 [
-      | inl check ↦ check_is_no_text text (sym (head_same (word_of text) (codes "check") (topology ∷ []) form.0 check.words_are))
-      | inr named ↦ one_behind (word_of text) topology (word_of named.1.0) named.0 form.0 named.1.1.words_are named.1.1.some
-    ]
+topology_is_none text topology =
+    no_form (word_of text ∷ topology ∷ [])
+    (λ files c. check_is_no_text text (sym (head_same (word_of text) (codes "check") (topology ∷ []) files c.words_are)))
+    (λ other name files n. one_behind (word_of text) topology (word_of other) name files n.words_are n.some)
+    (λ name scenario files r. two_alone (word_of text) topology (codes "run") name scenario files r.words_are)
 
-other_begins_none : (word : List ℕ) (words : List (List ℕ)) → (word ≡ codes "check" → ⊥) → ((text : TopologyText) → word ≡ word_of text → ⊥) → BeginsForm (word ∷ words) → ⊥
-other_begins_none word words no_check no_text begins =
-    elim begins.1.1 [
-      | inl check ↦ no_check (head_same word (codes "check") (words ++ begins.0) begins.1.0 check.words_are)
-      | inr named ↦ no_text named.1.0 (head_same word (word_of named.1.0) (words ++ begins.0) (named.0 ∷ begins.1.0) named.1.1.words_are)
-    ]
+run_over_is_none : (topology : List ℕ) → IsForm (codes "run" ∷ topology ∷ []) → ⊥
+run_over_is_none topology =
+    no_form (codes "run" ∷ topology ∷ []) (λ files c. run_is_no_check (head_same (codes "run") (codes "check") (topology ∷ []) files c.words_are))
+    (λ text name files n. run_is_no_text text (head_same (codes "run") (word_of text) (topology ∷ []) (name ∷ files) n.words_are))
+    (λ name scenario files r. two_alone (codes "run") topology (codes "run") name scenario files r.words_are)
+
+scenario_is_none : (topology scenario : List ℕ) → IsForm (codes "run" ∷ topology ∷ scenario ∷ []) → ⊥
+scenario_is_none topology scenario =
+    no_form (codes "run" ∷ topology ∷ scenario ∷ [])
+    (λ files c. run_is_no_check (head_same (codes "run") (codes "check") (topology ∷ scenario ∷ []) files c.words_are))
+    (λ text name files n. run_is_no_text text (head_same (codes "run") (word_of text) (topology ∷ scenario ∷ []) (name ∷ files) n.words_are))
+    (λ name other files r. two_behind (codes "run") topology scenario (codes "run") name other files r.words_are r.some)
+
+other_begins_none : (word : List ℕ) (words : List (List ℕ)) → (word ≡ codes "check" → ⊥) → (word ≡ codes "run" → ⊥) → ((text : TopologyText) → word ≡ word_of text → ⊥)
+    → BeginsForm (word ∷ words) → ⊥
+other_begins_none word words no_check no_run no_text begins =
+    no_form (word ∷ words ++ begins.0) (λ files c. no_check (head_same word (codes "check") (words ++ begins.0) files c.words_are))
+    (λ text topology files n. no_text text (head_same word (word_of text) (words ++ begins.0) (topology ∷ files) n.words_are))
+    (λ topology scenario files r. no_run (head_same word (codes "run") (words ++ begins.0) (topology ∷ scenario ∷ files) r.words_are)) begins.1
 
 -- ---- the first word that doesn't fit or is missing
 
 missing_command : IsWrong [] 1
 missing_command = record { counted = lit< tt; begun = none_begins; ends = inr (refl, none_is_none) }
 
-other_command : (word : List ℕ) (words : List (List ℕ)) → (word ≡ codes "check" → ⊥) → ((text : TopologyText) → word ≡ word_of text → ⊥) → IsWrong (word ∷ words) 1
-other_command word words no_check no_text = record { counted = lit< tt; begun = none_begins; ends = inl (omega arith, other_begins_none word [] no_check no_text) }
+other_command : (word : List ℕ) (words : List (List ℕ)) → (word ≡ codes "check" → ⊥) → (word ≡ codes "run" → ⊥) → ((text : TopologyText) → word ≡ word_of text → ⊥)
+    → IsWrong (word ∷ words) 1
+other_command word words no_check no_run no_text =
+    record { counted = lit< tt; begun = none_begins; ends = inl (omega arith, other_begins_none word [] no_check no_run no_text) }
 
 missing_file : IsWrong (codes "check" ∷ []) 2
 missing_file = record { counted = lit< tt; begun = check_begins; ends = inr (refl, one_is_none (codes "check")) }
@@ -107,6 +172,15 @@ missing_topology text = record { counted = lit< tt; begun = text_begins text; en
 
 missing_topology_file : (text : TopologyText) (topology : List ℕ) → IsWrong (word_of text ∷ topology ∷ []) 3
 missing_topology_file text topology = record { counted = lit< tt; begun = topology_begins text topology; ends = inr (refl, topology_is_none text topology) }
+
+missing_run_topology : IsWrong (codes "run" ∷ []) 2
+missing_run_topology = record { counted = lit< tt; begun = run_begins; ends = inr (refl, one_is_none (codes "run")) }
+
+missing_scenario : (topology : List ℕ) → IsWrong (codes "run" ∷ topology ∷ []) 3
+missing_scenario topology = record { counted = lit< tt; begun = run_over_begins topology; ends = inr (refl, run_over_is_none topology) }
+
+missing_scenario_file : (topology scenario : List ℕ) → IsWrong (codes "run" ∷ topology ∷ scenario ∷ []) 4
+missing_scenario_file topology scenario = record { counted = lit< tt; begun = scenario_begins topology scenario; ends = inr (refl, scenario_is_none topology scenario) }
 
 -- ---- the same, of words that stand for their bytes
 
@@ -143,12 +217,47 @@ module _ {S : Type 0} (bytes : S → List ℕ) where
   check_of [] some = absurd (some refl)
   check_of (file ∷ files) some = record { words_are = refl; some = omega arith }
 
-  pub other_command_of : (words : List S) (word : S) (files : List S) (first second : List ℕ) (is_check : Bool)
+  pub other_command_of : (words : List S) (word : S) (files : List S) (first second third : List ℕ) (is_check is_run : Bool)
       → words ≡ word ∷ files → first ≡ bytes word → is_check ≡ bytes_eq first (codes "check") → is_check ≡ false
-      → second ≡ bytes word → ((text : TopologyText) → second ≡ word_of text → ⊥) → IsWrong (map bytes words) 1
-  other_command_of words word files first second is_check e one check no_check two no_text_there =
+      → second ≡ bytes word → is_run ≡ bytes_eq second (codes "run") → is_run ≡ false
+      → third ≡ bytes word → ((text : TopologyText) → third ≡ word_of text → ⊥) → IsWrong (map bytes words) 1
+  other_command_of words word files first second third is_check is_run e one check no_check two run no_run three no_text_there =
       subst (λ (ws : List S). IsWrong (map bytes ws) 1) (sym e)
-      (other_command (bytes word) (map bytes files) (differs (codes "check") first (bytes word) is_check one check no_check) (λ text h. no_text_there text (two ∙ h)))
+      (other_command (bytes word) (map bytes files) (differs (codes "check") first (bytes word) is_check one check no_check)
+      (differs (codes "run") second (bytes word) is_run two run no_run) (λ text h. no_text_there text (three ∙ h)))
+
+  -- behind the word `run`
+  pub missing_run_topology_of : (words : List S) → length words ≡ 0 → IsWrong (codes "run" ∷ map bytes words) 2
+  missing_run_topology_of [] e = missing_run_topology
+  missing_run_topology_of (word ∷ words) e = absurd (omega (arith, e))
+
+  pub missing_scenario_of : (topology : List ℕ) (words : List S) → length words ≡ 0 → IsWrong (codes "run" ∷ topology ∷ map bytes words) 3
+  missing_scenario_of topology [] e = missing_scenario topology
+  missing_scenario_of topology (word ∷ words) e = absurd (omega (arith, e))
+
+  pub missing_scenario_file_of : (topology : List ℕ) (words files : List S) (scenario : S) → words ≡ scenario ∷ files → length files ≡ 0 → IsWrong (codes "run" ∷ topology ∷ map bytes words) 4
+  missing_scenario_file_of topology words files scenario e none = subst (λ (ws : List S). IsWrong (codes "run" ∷ topology ∷ map bytes ws) 4) (sym e) (go files none)
+    where
+      go : (files : List S) → length files ≡ 0 → IsWrong (codes "run" ∷ topology ∷ bytes scenario ∷ map bytes files) 4
+      go [] e = missing_scenario_file topology (bytes scenario)
+      go (file ∷ files) e = absurd (omega (arith, e))
+
+  pub run_of : (topology : List ℕ) (words files : List S) (scenario : S) (name : List ℕ) → words ≡ scenario ∷ files → name ≡ bytes scenario → (length files ≡ 0 → ⊥)
+      → IsRun (codes "run" ∷ topology ∷ map bytes words) topology name (map bytes files)
+  run_of topology words files scenario name e is some =
+      subst (λ (ws : List S). IsRun (codes "run" ∷ topology ∷ map bytes ws) topology name (map bytes files)) (sym e)
+      (subst (λ (n : List ℕ). IsRun (codes "run" ∷ topology ∷ bytes scenario ∷ map bytes files) topology n (map bytes files)) (sym is) (go files some))
+    where
+      go : (files : List S) → (length files ≡ 0 → ⊥) → IsRun (codes "run" ∷ topology ∷ bytes scenario ∷ map bytes files) topology (bytes scenario) (map bytes files)
+      go [] some = absurd (some refl)
+      go (file ∷ files) some = record { words_are = refl; some = omega arith }
+
+  -- and behind the name of a topology
+  pub run_over_of : (words rest : List S) (topology : S) (name : List ℕ) (result : Result Command ℕ) → words ≡ topology ∷ rest → name ≡ bytes topology
+      → ReadsWords (codes "run" ∷ name ∷ map bytes rest) result → ReadsWords (codes "run" ∷ map bytes words) result
+  run_over_of words rest topology name result e is reads =
+      subst (λ (ws : List S). ReadsWords (codes "run" ∷ map bytes ws) result) (sym e)
+      (subst (λ (n : List ℕ). ReadsWords (codes "run" ∷ n ∷ map bytes rest) result) is reads)
 
 module _ (text : TopologyText) {S : Type 0} (bytes : S → List ℕ) where
   pub missing_topology_of : (words : List S) → length words ≡ 0 → IsWrong (word_of text ∷ map bytes words) 2

@@ -132,64 +132,109 @@ pub record Reaches (words : List (List ℕ)) (files : FilesRun) (scenario : List
 abbrev pub tables_of : Model → ℕ → Described
 tables_of model at = record { model = model; topology = at }
 
+-- no read failed and each found its file
+abbrev pub AllWereRead : FilesRun → Type 0
+AllWereRead files = NoFault files × NoMiss files
+
 -- no read failed and each found its file, and the file of the scenario holds this text
 pub record IsScenarioRead (files : FilesRun) (scenario text : List ℕ) : Type 0 where
   pub sound : NoFault files
   pub found : NoMiss files
   pub held : Holds files scenario (Some text)
 
--- the log of a run of the model's tables by the scenario's text, which has this end
-pub record DueRun (finish : Finish) (words : List (List ℕ)) (files : FilesRun) (output line : List ℕ) : Type 0 where
-  pub scenario : List ℕ
-  pub reached : Reaches words files scenario
+-- the log of a run of the tables by the scenario's text, which has this end
+pub record GivesLog (finish : Finish) (files : FilesRun) (scenario : List ℕ) (t : Described) (output line : List ℕ) : Type 0 where
   pub text : List ℕ
   pub read : IsScenarioRead files scenario text
-  pub whole : BreaksNoRule (tables_of reached.model reached.at) text
-  pub logged : IsLogOfText (tables_of reached.model reached.at) text output finish
+  pub whole : BreaksNoRule t text
+  pub logged : IsLogOfText t text output finish
   pub silent : line ≡ []
 
 -- a rule of scenarios is broken at a path
-pub record DueScenarioRefused (words : List (List ℕ)) (files : FilesRun) (output line : List ℕ) : Type 0 where
-  pub scenario : List ℕ
-  pub reached : Reaches words files scenario
+pub record SaysScenarioBroken (files : FilesRun) (scenario : List ℕ) (t : Described) (output line : List ℕ) : Type 0 where
   pub text : List ℕ
   pub read : IsScenarioRead files scenario text
   pub rule : Rule
   pub path : List ℕ
-  pub broken : BreaksRule (tables_of reached.model reached.at) text rule path
+  pub broken : BreaksRule t text rule path
   pub silent : output ≡ []
   pub said : line ≡ scenario_line scenario path rule
 
 -- the file of the scenario could not be read
-pub record DueScenarioUnread (words : List (List ℕ)) (files : FilesRun) (output line : List ℕ) : Type 0 where
-  pub scenario : List ℕ
-  pub reached : Reaches words files scenario
+pub record SaysScenarioUnread (files : FilesRun) (scenario output line : List ℕ) : Type 0 where
   pub fault : HadFault files
   pub found : NoMiss files
   pub silent : output ≡ []
   pub said : line ≡ read_fault_line scenario
 
 -- the file of the scenario isn't there
-pub record DueScenarioAbsent (words : List (List ℕ)) (files : FilesRun) (output line : List ℕ) : Type 0 where
-  pub scenario : List ℕ
-  pub reached : Reaches words files scenario
+pub record SaysScenarioAbsent (files : FilesRun) (scenario output line : List ℕ) : Type 0 where
   pub sound : NoFault files
   pub missed : HadMiss files
   pub absent : Holds files scenario None
   pub silent : output ≡ []
   pub said : line ≡ no_file_line scenario
 
--- what words that ask for these files have to write of a model
-abbrev pub IsDueOf : List (List ℕ) → List (List ℕ) → Model → Status → List ℕ → List ℕ → Type 0
-IsDueOf words names model Done output line = IsText words names model output × (line ≡ [])
-IsDueOf words names model NoTopology output line =
+-- the same, where the words ask for it
+pub record DueRun (finish : Finish) (words : List (List ℕ)) (files : FilesRun) (output line : List ℕ) : Type 0 where
+  pub scenario : List ℕ
+  pub reached : Reaches words files scenario
+  pub gives : GivesLog finish files scenario (tables_of reached.model reached.at) output line
+
+pub record DueScenarioRefused (words : List (List ℕ)) (files : FilesRun) (output line : List ℕ) : Type 0 where
+  pub scenario : List ℕ
+  pub reached : Reaches words files scenario
+  pub says : SaysScenarioBroken files scenario (tables_of reached.model reached.at) output line
+
+pub record DueScenarioUnread (words : List (List ℕ)) (files : FilesRun) (output line : List ℕ) : Type 0 where
+  pub scenario : List ℕ
+  pub reached : Reaches words files scenario
+  pub says : SaysScenarioUnread files scenario output line
+
+pub record DueScenarioAbsent (words : List (List ℕ)) (files : FilesRun) (output line : List ℕ) : Type 0 where
+  pub scenario : List ℕ
+  pub reached : Reaches words files scenario
+  pub says : SaysScenarioAbsent files scenario output line
+
+-- ---- what is due of a model and of a source, of which the files are read
+
+-- a run of the tables by the scenario in the file of this name
+abbrev pub IsDueOfRun : FilesRun → List ℕ → Described → Status → List ℕ → List ℕ → Type 0
+IsDueOfRun files scenario t Done output line = GivesLog Complete files scenario t output line
+IsDueOfRun files scenario t Stuck output line = GivesLog finish.Stuck files scenario t output line
+IsDueOfRun files scenario t Spent output line = GivesLog finish.Spent files scenario t output line
+IsDueOfRun files scenario t Asserted output line = GivesLog finish.Asserted files scenario t output line
+IsDueOfRun files scenario t Refused output line = SaysScenarioBroken files scenario t output line
+IsDueOfRun files scenario t ReadFault output line = SaysScenarioUnread files scenario output line
+IsDueOfRun files scenario t NoFile output line = SaysScenarioAbsent files scenario output line
+IsDueOfRun files scenario t _ output line = ⊥
+
+-- a text of a model, or that it has no topology of the name in the words
+abbrev pub IsDueOfText : List (List ℕ) → List (List ℕ) → Model → Status → List ℕ → List ℕ → Type 0
+IsDueOfText words names model Done output line = IsText words names model output × (line ≡ [])
+IsDueOfText words names model NoTopology output line =
     ((topology : List ℕ) × NamesTopology words topology names × LacksTopology model topology × (line ≡ no_topology_line topology)) × (output ≡ [])
-IsDueOf words names model _ output line = ⊥
+IsDueOfText words names model _ output line = ⊥
+
+-- a run over the topology in the words
+pub record IsDueOfReached (words names : List (List ℕ)) (files : FilesRun) (model : Model) (status : Status) (output line : List ℕ) : Type 0 where
+  pub topology : List ℕ
+  pub scenario : List ℕ
+  pub asked : IsRun words topology scenario names
+  pub at : ℕ
+  pub there : IsTopology model topology at
+  pub due : IsDueOfRun files scenario (tables_of model at) status output line
+
+-- what words that ask for these files have to write of a model
+abbrev pub IsDueOf : List (List ℕ) → List (List ℕ) → FilesRun → Model → Status → List ℕ → List ℕ → Type 0
+IsDueOf words names files model status output line =
+    (AllWereRead files × IsDueOfText words names model status output line) ⊎ IsDueOfReached words names files model status output line
 
 -- what they have to write for a source whose files and includes break no rule
-abbrev pub IsDueFor : List (List ℕ) → List (List ℕ) → Source → Status → List ℕ → List ℕ → Type 0
-IsDueFor words names source Refused output line = SaysBroken (ModelBroken source) source.names output line
-IsDueFor words names source status output line = IsUnbroken (ModelBroken source) × ((model : Model) × Defined source model × IsDueOf words names model status output line)
+abbrev pub IsDueFor : List (List ℕ) → List (List ℕ) → FilesRun → Source → Status → List ℕ → List ℕ → Type 0
+IsDueFor words names files source status output line =
+    ((status ≡ Refused) × AllWereRead files × SaysBroken (ModelBroken source) source.names output line)
+    ⊎ (IsUnbroken (ModelBroken source) × ((model : Model) × Defined source model × IsDueOf words names files model status output line))
 
 -- what has to be written for each status, where every write succeeds
 abbrev pub IsDue : List (List ℕ) → FilesRun → Status → List ℕ → List ℕ → Type 0

@@ -1,4 +1,4 @@
-ghost use Rattle.std.specs.Prelude.{◌≡◌, [], map, true, List, ℕ, IfOk};
+ghost use Rattle.std.specs.Prelude.{◌≡◌, [], map, true, List, ℕ, Some, IfOk, slice_get};
 ghost use Rattle.std.specs.String.{string_bytes};
 ghost use Rattle.fp_names.specs.Named.{PartsAreNamed};
 ghost use Rattle.fp_source_machines.specs.Ordered.{MachinesAreOrdered};
@@ -7,12 +7,15 @@ ghost use Rattle.fp_source_types.specs.Named.{DefinitionsAreNamed, FieldsAreName
 ghost use Rattle.fp_gather.specs.FilesRun.{files_run};
 ghost use Rattle.fp_gather.specs.gathering.Gathered.{name_of as name_in};
 ghost use Rattle.fp_tables.specs.Positions.{lists_are_short};
-ghost use Rattle.fp_main.specs.Lines.{refusal_line as line_of};
-ghost use Rattle.fp_main.specs.Output.{IsDue, IsDueFor, IsDueOf, IsTopologyText};
-ghost use Rattle.fp_main.specs.declared.status.Status.TheVariants.{Done, Refused};
-ghost use Rattle.fp_main.specs.Words.{IsWrong, Names, Spells};
+ghost use Rattle.fp_tables.specs.Sound.{IsSound, IsSoundWith};
+ghost use Rattle.fp_tables.specs.declared.topology.Topology.{Topology};
+ghost use Rattle.fp_main.specs.Lines.{no_topology_line as lacking_line, refusal_line as line_of};
+ghost use Rattle.fp_main.specs.Output.{IsDue, IsDueFor, IsDueOf, IsDueOfText, IsTopologyText};
+ghost use Rattle.fp_main.specs.declared.status.Status.TheVariants.{Done, NoTopology, Refused};
+ghost use Rattle.fp_main.specs.Words.{IsCheck, IsWrong, Names, Spells};
 
 use crate::lines::{no_file_line, no_topology_line, read_fault_line, refusal_line, usage_line};
+use crate::running::answer_run;
 use crate::status::Status;
 use crate::topologies::topology_named;
 use crate::words::{TopologyText, Wanted, read_words};
@@ -27,11 +30,13 @@ use fp_gather::{Halt, gather, in_files_read, name_of, names_are_names, places_in
 use fp_listing::{listing, port_lines};
 use fp_machine_sites::{machines_are_ordered, part_machines_are_ordered};
 use fp_model::resolve;
-use fp_outside::Files;
+use fp_outside::{Files, Gate};
 use fp_source_types::listed_items_have_constants;
 use fp_tables::Model;
 use fp_tree::Source;
 use std::alloc::Global;
+use std::sync::Wait;
+use std::thread::Threads;
 
 /// What a call has to write, and its status where every write succeeds.
 #[derive(Drop)]
@@ -42,7 +47,7 @@ pub struct Due {
 }
 
 /// A status that has a line.
-fn said(alloc: Global, status: Status, line: Row<u8>) -> Due
+pub fn said(alloc: Global, status: Status, line: Row<u8>) -> Due
     ensures { result ≡ record { status = status; output = []; line = line } }
 {
     Due {
@@ -63,18 +68,46 @@ fn done(alloc: Global, output: Row<u8>) -> Due
     }
 }
 
+/// What is due where a model has no topology of the name.
+pub fn no_topology(alloc: Global, name: &str) -> Result<Due, NoMemory>
+    ensures { IfOk result (λ due. due ≡ record { status = NoTopology; output = []; line = lacking_line name.now }) }
+{
+    let line = no_topology_line(alloc, name)?;
+    Ok(said(alloc, Status::NoTopology, line))
+}
+
 /// What is due of the model of a source that breaks no rule: what is wanted of it, or that it has no such topology.
-fn answer_model(alloc: Global, model: &Model, wanted: Wanted) -> Result<Due, NoMemory>
-    requires { lists_are_short model.now ≡ true }
-    ensures { (words names : List (List ℕ)) → Spells words wanted.entry names → IfOk result (λ due. IsDueOf words names model.now due.status due.output due.line) }
+fn answer_model<R, F, G>(
+    rt: &R,
+    alloc: Global,
+    model: Model,
+    wanted: Wanted,
+    files: &mut F,
+    gate: &G,
+) -> Result<Due, NoMemory>
+where
+    R: Threads + Wait + Sync,
+    F: Files,
+    G: Gate,
+    requires sound { IsSound model }
+    requires sound_with { (t : ℕ) (o : Topology) → slice_get model.topologies t ≡ Some o → IsSoundWith model o }
+    ensures { (words names : List (List ℕ)) → Spells words wanted.entry names → IfOk result (λ due. IsDueOf words names (files_run F.told F.faults F.misses files.old files.new) model due.status due.output due.line) }
 {
     match wanted {
-        Wanted::Listing => {
-            let output = listing(alloc, model)?;
-            Ok(done(alloc, output))
+        Wanted::Listing => answer_check(alloc, &model),
+        Wanted::OfTopology { text, name } => answer_topology(alloc, &model, text, name),
+        Wanted::Run { name, scenario } => {
+            answer_run(rt, alloc, model, name, scenario, files, gate)
         }
-        Wanted::OfTopology { text, name } => answer_topology(alloc, model, text, name),
     }
+}
+
+/// What is due for the listing of a model.
+fn answer_check(alloc: Global, model: &Model) -> Result<Due, NoMemory>
+    ensures { (words names : List (List ℕ)) → IsCheck words names → IfOk result (λ due. IsDueOfText words names model.now due.status due.output due.line) }
+{
+    let output = listing(alloc, model)?;
+    Ok(done(alloc, output))
 }
 
 /// What is due for a text of the topology of a name.
@@ -85,17 +118,14 @@ fn answer_topology(
     name: &str,
 ) -> Result<Due, NoMemory>
     requires { lists_are_short model.now ≡ true }
-    ensures { (words names : List (List ℕ)) → Names text words name.now names → IfOk result (λ due. IsDueOf words names model.now due.status due.output due.line) }
+    ensures { (words names : List (List ℕ)) → Names text words name.now names → IfOk result (λ due. IsDueOfText words names model.now due.status due.output due.line) }
 {
     match topology_named(model, name) {
         Some(topology) => {
             let output = topology_text(alloc, model, text, topology)?;
             Ok(done(alloc, output))
         }
-        None => {
-            let line = no_topology_line(alloc, name)?;
-            Ok(said(alloc, Status::NoTopology, line))
-        }
+        None => no_topology(alloc, name),
     }
 }
 
@@ -124,28 +154,45 @@ fn refused(alloc: Global, source: &Source, refusal: Refusal) -> Result<Due, NoMe
 }
 
 /// What is due for a source whose files and includes break no rule: what its model gives, or the rule that is broken first.
-fn answer_source(alloc: Global, source: &Source, wanted: Wanted) -> Result<Due, NoMemory>
+fn answer_source<R, F, G>(
+    rt: &R,
+    alloc: Global,
+    source: &Source,
+    wanted: Wanted,
+    files: &mut F,
+    gate: &G,
+) -> Result<Due, NoMemory>
+where
+    R: Threads + Wait + Sync,
+    F: Files,
+    G: Gate,
     requires names { DefinitionsAreNamed source.now }
     requires fields { FieldsAreNamed source.now }
     requires parts { PartsAreNamed source.now }
     requires enumerations { EnumsHaveConstants source.now }
     requires machines { MachinesAreOrdered source.now }
-    ensures { (words names : List (List ℕ)) → Spells words wanted.entry names → IfOk result (λ due. IsDueFor words names source.now due.status due.output due.line) }
+    ensures { (words names : List (List ℕ)) → Spells words wanted.entry names → IfOk result (λ due. IsDueFor words names (files_run F.told F.faults F.misses files.old files.new) source.now due.status due.output due.line) }
 {
     match resolve(alloc, source) {
-        Ok(model) => answer_model(alloc, &model, wanted),
+        Ok(model) => answer_model(rt, alloc, model, wanted, files, gate),
         Err(Stop::Broken(refusal)) => refused(alloc, source, refusal),
         Err(Stop::NoMemory) => Err(NoMemory),
     }
 }
 
 /// What is due for words that ask for this, with the files of these names.
-fn answer_files<F: Files>(
+fn answer_files<R, F, G>(
+    rt: &R,
     alloc: Global,
     wanted: Wanted,
     names: &[String],
     files: &mut F,
+    gate: &G,
 ) -> Result<Due, NoMemory>
+where
+    R: Threads + Wait + Sync,
+    F: Files,
+    G: Gate,
     ensures { (words : List (List ℕ)) → Spells words wanted.entry (map string_bytes names.now) → IfOk result (λ due. IsDue words (files_run F.told F.faults F.misses files.old files.new) due.status due.output due.line) }
 {
     // for the file in which a rule is broken
@@ -165,7 +212,7 @@ fn answer_files<F: Files>(
     machines_are_ordered();
     part_machines_are_ordered();
     match gather(alloc, names, files) {
-        Ok(source) => answer_source(alloc, &source, wanted),
+        Ok(source) => answer_source(rt, alloc, &source, wanted, files, gate),
         Err(Halt::Broken { refusal, file }) => {
             let line = refusal_line(alloc, file.as_str(), refusal)?;
             Ok(said(alloc, Status::Refused, line))
@@ -183,12 +230,22 @@ fn answer_files<F: Files>(
 }
 
 /// What is due for the words.
-pub fn answer<F: Files>(alloc: Global, words: &[String], files: &mut F) -> Result<Due, NoMemory>
+pub fn answer<R, F, G>(
+    rt: &R,
+    alloc: Global,
+    words: &[String],
+    files: &mut F,
+    gate: &G,
+) -> Result<Due, NoMemory>
+where
+    R: Threads + Wait + Sync,
+    F: Files,
+    G: Gate,
     ensures unread { (word : ℕ) → IsWrong (map string_bytes words.now) word → files.new ≡ files.old }
     ensures due { IfOk result (λ due. IsDue (map string_bytes words.now) (files_run F.told F.faults F.misses files.old files.new) due.status due.output due.line) }
 {
     match read_words(words) {
-        Ok(command) => answer_files(alloc, command.wanted, command.files, files),
+        Ok(command) => answer_files(rt, alloc, command.wanted, command.files, files, gate),
         Err(word) => {
             let line = usage_line(alloc, word)?;
             Ok(said(alloc, Status::Usage, line))

@@ -5,6 +5,7 @@ mod answer;
 mod deliver;
 mod laws;
 mod lines;
+mod running;
 mod serving;
 mod status;
 mod topologies;

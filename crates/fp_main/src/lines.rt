@@ -1,8 +1,8 @@
 ghost use Rattle.std.specs.Prelude.{◌≡◌, ◌++◌, codes, IfOk, OnOk};
 ghost use Rattle.std.specs.Prelude.{decimal};
-ghost use Rattle.fp_main.specs.Lines.{usage_line, refusal_line, read_fault_line, no_file_line, no_topology_line};
+ghost use Rattle.fp_main.specs.Lines.{usage_line, refusal_line, read_fault_line, no_file_line, no_topology_line, scenario_line};
 
-use fp_base::{NoMemory, Refusal, Row};
+use fp_base::{NoMemory, PathStop, Refusal, Row};
 use itoa::{Buffer, Integer};
 use std::alloc::Global;
 
@@ -73,6 +73,20 @@ pub fn refusal_line(alloc: Global, name: &str, refusal: Refusal) -> Result<Row<u
     push_number(&mut line, refusal.place.column)?;
     push_text(&mut line, ": ")?;
     push_text(&mut line, refusal.rule.text())?;
+    push_text(&mut line, "\n")?;
+    Ok(line)
+}
+
+/// The line of a rule that the scenario in the file of this name breaks, at its path.
+pub fn scenario_line(alloc: Global, file: &str, stop: &PathStop) -> Result<Row<u8>, NoMemory>
+    ensures { IfOk result (λ line. line ≡ scenario_line file.now stop.now.path stop.now.rule) }
+{
+    let mut line = Row::new(alloc);
+    push_text(&mut line, file)?;
+    push_text(&mut line, ":")?;
+    push_text(&mut line, stop.path.as_str())?;
+    push_text(&mut line, ": ")?;
+    push_text(&mut line, stop.rule.text())?;
     push_text(&mut line, "\n")?;
     Ok(line)
 }

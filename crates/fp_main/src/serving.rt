@@ -4,8 +4,8 @@ ghost use Rattle.fp_main.specs.Delivery.{sink_run};
 ghost use Rattle.fp_gather.specs.FilesRun.{files_run};
 ghost use Rattle.fp_main.specs.Output.{Output};
 ghost use Rattle.fp_main.specs.Words.{IsWrong};
-ghost use Rattle.fp_main.specs.Causes.{UsageMeans, ReadFaultMeans, NoFileMeans, RefusedMeans, NoTopologyMeans, DoneMeans, WriteFaultMeans, NoMemoryMeans, IsNoRun};
-ghost use Rattle.fp_main.specs.Causes.{UsageComes, ReadFaultComes, NoFileComes, RefusedComes, NoTopologyComes, DoneComes, WriteFaultComes};
+ghost use Rattle.fp_main.specs.Causes.{UsageMeans, ReadFaultMeans, NoFileMeans, RefusedMeans, NoTopologyMeans, DoneMeans, StuckMeans, SpentMeans, AssertedMeans, WriteFaultMeans, NoMemoryMeans};
+ghost use Rattle.fp_main.specs.Causes.{UsageComes, ReadFaultComes, NoFileComes, RefusedComes, NoTopologyComes, DoneComes, ScenarioRefusedComes, RunComes, WriteFaultComes};
 
 use crate::answer::answer;
 use crate::deliver::deliver;
@@ -20,20 +20,28 @@ use std::thread::Threads;
 const NO_MEMORY: &str = "fpp: no memory\n";
 
 /// What is due for the words and the files, written.
-fn write_answer<F: Files, O: Sink, E: Sink>(
+fn write_answer<R, F, O, E, G>(
+    rt: &R,
     alloc: Global,
     words: &[String],
     files: &mut F,
     out: &mut O,
     diag: &mut E,
+    gate: &G,
 ) -> Status
+where
+    R: Threads + Wait + Sync,
+    F: Files,
+    O: Sink,
+    E: Sink,
+    G: Gate,
     ensures unread { (word : ℕ) → IsWrong (map string_bytes words.now) word → files.new ≡ files.old }
     ensures output { Output
         (map string_bytes words.now) (files_run F.told F.faults F.misses files.old files.new)
         (sink_run O.told O.faults out.old out.new) (sink_run E.told E.faults diag.old diag.new)
         result }
 {
-    match answer(alloc, words, files) {
+    match answer(rt, alloc, words, files, gate) {
         Ok(due) => deliver(
             due.status,
             due.output.as_slice(),
@@ -46,15 +54,16 @@ fn write_answer<F: Files, O: Sink, E: Sink>(
 }
 
 /// Does what the words, without the program's name, ask for: `out` gets the text, and `diag` the one line that says why a call
-/// ended otherwise. The output is made whole before its first byte is written. `rt` and `gate` are for runs.
+/// ended otherwise. The output is made whole before its first byte is written. A run has a thread of `rt` for each of its actors, which
+/// meet at `gate`.
 pub fn serve<R, F, O, E, G>(
-    _rt: &R,
+    rt: &R,
     alloc: Global,
     words: &[String],
     files: &mut F,
     out: &mut O,
     diag: &mut E,
-    _gate: &G,
+    gate: &G,
 ) -> Status
 where
     R: Threads + Wait + Sync,
@@ -96,6 +105,18 @@ where
         (map string_bytes words.now) (files_run F.told F.faults F.misses files.old files.new)
         (sink_run O.told O.faults out.old out.new) (sink_run E.told E.faults diag.old diag.new)
         result }
+    ensures stuck { StuckMeans
+        (map string_bytes words.now) (files_run F.told F.faults F.misses files.old files.new)
+        (sink_run O.told O.faults out.old out.new) (sink_run E.told E.faults diag.old diag.new)
+        result }
+    ensures spent { SpentMeans
+        (map string_bytes words.now) (files_run F.told F.faults F.misses files.old files.new)
+        (sink_run O.told O.faults out.old out.new) (sink_run E.told E.faults diag.old diag.new)
+        result }
+    ensures asserted { AssertedMeans
+        (map string_bytes words.now) (files_run F.told F.faults F.misses files.old files.new)
+        (sink_run O.told O.faults out.old out.new) (sink_run E.told E.faults diag.old diag.new)
+        result }
     ensures write_fault { WriteFaultMeans
         (map string_bytes words.now) (files_run F.told F.faults F.misses files.old files.new)
         (sink_run O.told O.faults out.old out.new) (sink_run E.told E.faults diag.old diag.new)
@@ -103,7 +124,6 @@ where
     ensures no_memory { NoMemoryMeans
         (sink_run O.told O.faults out.old out.new) (sink_run E.told E.faults diag.old diag.new)
         result }
-    ensures no_run { IsNoRun result }
 
     // When each comes, unless memory is refused or a write fails.
     ensures usage_comes { UsageComes (map string_bytes words.now) result }
@@ -122,11 +142,18 @@ where
         (map string_bytes words.now) (files_run F.told F.faults F.misses files.old files.new)
         (sink_run O.told O.faults out.old out.new) (sink_run E.told E.faults diag.old diag.new)
         result }
+    ensures scenario_refused_comes { ScenarioRefusedComes
+        (map string_bytes words.now) (files_run F.told F.faults F.misses files.old files.new)
+        result }
+    ensures run_comes { RunComes
+        (map string_bytes words.now) (files_run F.told F.faults F.misses files.old files.new)
+        (sink_run O.told O.faults out.old out.new) (sink_run E.told E.faults diag.old diag.new)
+        result }
     ensures write_fault_comes { WriteFaultComes
         (sink_run O.told O.faults out.old out.new) (sink_run E.told E.faults diag.old diag.new)
         result }
 {
     // for the clauses that say when a status comes
     one_reading();
-    write_answer(alloc, words, files, out, diag)
+    write_answer(rt, alloc, words, files, out, diag, gate)
 }

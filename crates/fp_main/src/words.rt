@@ -19,6 +19,8 @@ pub enum Wanted<'a> {
     Listing,
     /// A text of the topology of this name.
     OfTopology { text: TopologyText, name: &'a str },
+    /// The log of a run over the topology of this name, by the scenario in the file of that one.
+    Run { name: &'a str, scenario: &'a str },
 }
 
 /// What the words ask for, of the model that the source in some files defines.
@@ -37,6 +39,8 @@ pub fn read_words(words: &[String]) -> Result<Command<'_>, u64>
         Some((command, rest)) => {
             if command.as_str() == "check" {
                 read_check(rest)
+            } else if command.as_str() == "run" {
+                read_run(rest)
             } else {
                 match text_of(command.as_str()) {
                     Some(text) => read_topology(text, rest),
@@ -84,6 +88,34 @@ fn read_topology(text: TopologyText, rest: &[String]) -> Result<Command<'_>, u64
             } else {
                 let name = topology.as_str();
                 let wanted = Wanted::OfTopology { text, name };
+                Ok(Command { wanted, files })
+            }
+        }
+    }
+}
+
+/// What follows the word `run`.
+fn read_run(rest: &[String]) -> Result<Command<'_>, u64>
+    ensures { ReadsWords (codes "run" ∷ map string_bytes rest.now) result }
+{
+    match rest.split_first() {
+        None => Err(2),
+        Some((topology, rest)) => read_run_over(topology.as_str(), rest),
+    }
+}
+
+/// What follows the word `run` and the name of a topology.
+fn read_run_over<'a>(name: &'a str, rest: &'a [String]) -> Result<Command<'a>, u64>
+    ensures { ReadsWords (codes "run" ∷ name.now ∷ map string_bytes rest.now) result }
+{
+    match rest.split_first() {
+        None => Err(3),
+        Some((scenario, files)) => {
+            if files.is_empty() {
+                Err(4)
+            } else {
+                let scenario = scenario.as_str();
+                let wanted = Wanted::Run { name, scenario };
                 Ok(Command { wanted, files })
             }
         }

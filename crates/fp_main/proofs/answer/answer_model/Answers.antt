@@ -1,10 +1,15 @@
-use Rattle.std.proofs.Common.{subst}
-use Rattle.fp_main.proofs.Dues.{due_listing}
+use Rattle.std.proofs.Common.{inl, refl, subst}
+use Rattle.fp_base.proofs.Options.{if_ok_then}
 use Rattle.fp_main.specs.Words.{Spells}
 use Rattle.fp_main.specs.declared.words.Wanted.{Wanted}
 use Rattle.fp_main.proofs.answer.answer_model.Goals as goal
 
-pub returns-in_ok-output-in-Listing : goal.returns-in_ok-output-in-Listing
-returns-in_ok-output-in-Listing c words names spelled =
-    due_listing words names c.args.model.now c.done.result c.in_ok-output-in-Listing.output c.done.ensures c.in_ok-output-in-Listing.ensures
-    (subst (λ (wanted : Wanted). Spells words wanted names) c.in-Listing.is spelled)
+pub returns-in-Listing : goal.returns-in-Listing
+returns-in-Listing g c words names spelled =
+    if_ok_then c.answer_check.result _ _ (λ due d. inl ((refl, refl), d))
+    (c.answer_check.ensures words names (subst (λ (wanted : Wanted). Spells words wanted names) c.in-Listing.is spelled))
+
+pub returns-in-OfTopology : goal.returns-in-OfTopology
+returns-in-OfTopology g c words names spelled =
+    if_ok_then c.answer_topology.result _ _ (λ due d. inl ((refl, refl), d))
+    (c.answer_topology.ensures words names (subst (λ (wanted : Wanted). Spells words wanted names) c.in-OfTopology.is spelled))

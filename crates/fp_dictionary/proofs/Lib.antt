@@ -1,0 +1,7 @@
+mod Definitions
+mod Floats
+mod Items
+mod Ordering
+mod Pieces
+mod Sides
+mod Texts

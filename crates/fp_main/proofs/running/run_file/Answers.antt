@@ -1,0 +1,24 @@
+use Rattle.fp_gather.specs.FilesRun.{files_run}
+use Rattle.fp_main.specs.Output.{tables_of}
+use Rattle.fp_main.proofs.Scenarios.{due_scenario_absent, due_scenario_unread, scenario_absent, scenario_read, scenario_unread}
+use Rattle.fp_main.proofs.running.run_file.Goals as goal
+
+pub returns-in-Ok-Some : goal.returns-in-Ok-Some
+returns-in-Ok-Some g c =
+    c.run_text.ensures (files_run g.F.Files.told g.F.Files.faults g.F.Files.misses c.args.files.now c.read.new.self)
+    (scenario_read (files_run g.F.Files.told g.F.Files.faults g.F.Files.misses c.args.files.now c.read.new.self) c.args.scenario.now c.as_slice.result.now c.in-Ok-Some.text c.in-Ok-Some.field-0
+    c.in-Ok-Some.field-0-is c.as_slice.ensures c.in-Ok-Some.ensures.faults c.in-Ok-Some.ensures.misses c.in-Ok-Some.ensures.bytes)
+
+pub returns-in_ok-line-in-Ok-None : goal.returns-in_ok-line-in-Ok-None
+returns-in_ok-line-in-Ok-None g c =
+    due_scenario_absent (files_run g.F.Files.told g.F.Files.faults g.F.Files.misses c.args.files.now c.read.new.self) c.args.scenario.now (tables_of c.args.model c.args.topology)
+    c.said.result _ c.said.ensures c.in_ok-line-in-Ok-None.ensures c.in-Ok-None.ensures.faults
+    (scenario_absent (files_run g.F.Files.told g.F.Files.faults g.F.Files.misses c.args.files.now c.read.new.self) c.args.scenario.now c.in-Ok-None.field-0
+    c.in-Ok-None.field-0-is c.in-Ok-None.ensures.misses c.in-Ok-None.ensures.bytes)
+
+pub returns-in_ok-line-in-Err-Failed : goal.returns-in_ok-line-in-Err-Failed
+returns-in_ok-line-in-Err-Failed g c =
+    due_scenario_unread (files_run g.F.Files.told g.F.Files.faults g.F.Files.misses c.args.files.now c.read.new.self) c.args.scenario.now (tables_of c.args.model c.args.topology)
+    c.said-in_ok-line-in-Err-Failed.result _ c.said-in_ok-line-in-Err-Failed.ensures c.in_ok-line-in-Err-Failed.ensures
+    (scenario_unread (files_run g.F.Files.told g.F.Files.faults g.F.Files.misses c.args.files.now c.read.new.self) c.args.scenario.now c.in-Err-Failed.field-0 c.in-Err-Failed.field-0-is c.in-Err-Failed.ensures.faults)
+    c.in-Err-Failed.ensures.misses

@@ -1,0 +1,123 @@
+ghost use Rattle.std.specs.Prelude.{◌≡◌, ℕ, List, Some, IfOk, slice_get};
+ghost use Rattle.fp_gather.specs.FilesRun.{FilesRun, files_run};
+ghost use Rattle.fp_tables.specs.Sound.{IsSound, IsSoundFor, IsSoundWith};
+ghost use Rattle.fp_tables.specs.declared.topology.Topology.{Topology};
+ghost use Rattle.fp_main.specs.Output.{IsDueOf, IsDueOfRun, IsScenarioRead, tables_of};
+ghost use Rattle.fp_main.specs.Statuses.{status_of};
+ghost use Rattle.fp_main.specs.Words.{IsRun};
+
+use crate::answer::{Due, no_topology, said};
+use crate::lines::{no_file_line, read_fault_line, scenario_line};
+use crate::status::Status;
+use crate::topologies::topology_named;
+use fp_base::{NoMemory, Row};
+use fp_events::Finish;
+use fp_outside::{Files, Gate, ReadRefusal};
+use fp_scenario::ScenarioStop;
+use fp_scenario_run::{Logged, run_scenario};
+use fp_tables::Model;
+use std::alloc::Global;
+use std::sync::Wait;
+use std::thread::Threads;
+
+/// The status of a call whose run ended so.
+fn status_of(finish: Finish) -> Status
+    ensures { result ≡ status_of finish }
+{
+    match finish {
+        Finish::Complete => Status::Done,
+        Finish::Stuck => Status::Stuck,
+        Finish::Spent => Status::Spent,
+        Finish::Asserted => Status::Asserted,
+    }
+}
+
+/// What is due for a run that came to its end.
+fn ended(alloc: Global, logged: Logged) -> Due
+    ensures { result ≡ record { status = status_of logged.finish; output = logged.log; line = [] } }
+{
+    let Logged { log, finish } = logged;
+    Due {
+        status: status_of(finish),
+        output: log,
+        line: Row::new(alloc),
+    }
+}
+
+/// What is due of a topology and the text of a scenario, which stands in the file of this name.
+fn run_text<R: Threads + Wait + Sync, G: Gate>(
+    rt: &R,
+    alloc: Global,
+    model: Model,
+    topology: u32,
+    scenario: &str,
+    text: &[u8],
+    gate: &G,
+) -> Result<Due, NoMemory>
+    requires sound { IsSoundFor model (Some topology) }
+    ensures { (files : FilesRun) → IsScenarioRead files scenario.now text.now → IfOk result (λ due. IsDueOfRun files scenario.now (tables_of model topology) due.status due.output due.line) }
+{
+    match run_scenario(rt, alloc, model, topology, text, gate) {
+        Ok(logged) => Ok(ended(alloc, logged)),
+        Err(ScenarioStop::Broken(stop)) => {
+            let line = scenario_line(alloc, scenario, &stop)?;
+            Ok(said(alloc, Status::Refused, line))
+        }
+        Err(ScenarioStop::NoMemory) => Err(NoMemory),
+    }
+}
+
+/// What is due of a topology and the scenario in the file of this name.
+fn run_file<R, F, G>(
+    rt: &R,
+    alloc: Global,
+    model: Model,
+    topology: u32,
+    scenario: &str,
+    files: &mut F,
+    gate: &G,
+) -> Result<Due, NoMemory>
+where
+    R: Threads + Wait + Sync,
+    F: Files,
+    G: Gate,
+    requires sound { IsSoundFor model (Some topology) }
+    ensures { IfOk result (λ due. IsDueOfRun (files_run F.told F.faults F.misses files.old files.new) scenario.now (tables_of model topology) due.status due.output due.line) }
+{
+    match files.read(alloc, scenario) {
+        Ok(Some(text)) => run_text(rt, alloc, model, topology, scenario, text.as_slice(), gate),
+        Ok(None) => {
+            let line = no_file_line(alloc, scenario)?;
+            Ok(said(alloc, Status::NoFile, line))
+        }
+        Err(ReadRefusal::Failed) => {
+            let line = read_fault_line(alloc, scenario)?;
+            Ok(said(alloc, Status::ReadFault, line))
+        }
+        Err(ReadRefusal::NoMemory) => Err(NoMemory),
+    }
+}
+
+/// What is due for a run over the topology of a name. The scenario is read only where the model has it.
+pub fn answer_run<R, F, G>(
+    rt: &R,
+    alloc: Global,
+    model: Model,
+    name: &str,
+    scenario: &str,
+    files: &mut F,
+    gate: &G,
+) -> Result<Due, NoMemory>
+where
+    R: Threads + Wait + Sync,
+    F: Files,
+    G: Gate,
+    requires sound { IsSound model }
+    requires sound_with { (t : ℕ) (o : Topology) → slice_get model.topologies t ≡ Some o → IsSoundWith model o }
+    ensures { (words names : List (List ℕ)) → IsRun words name.now scenario.now names → IfOk result (λ due. IsDueOf words names (files_run F.told F.faults F.misses files.old files.new) model due.status due.output due.line) }
+{
+    match topology_named(&model, name) {
+        Some(topology) => run_file(rt, alloc, model, topology, scenario, files, gate),
+        None => no_topology(alloc, name),
+    }
+}
