@@ -1,4 +1,4 @@
-ghost use Rattle.std.specs.Prelude.{◌≡◌, ℕ, List, Some, IfOk, slice_get};
+ghost use Rattle.std.specs.Prelude.{◌≡◌, [], ℕ, List, Some, IfOk, slice_get};
 ghost use Rattle.fp_gather.specs.FilesRun.{FilesRun, files_run};
 ghost use Rattle.fp_tables.specs.Sound.{IsSound, IsSoundFor, IsSoundWith};
 ghost use Rattle.fp_tables.specs.declared.topology.Topology.{Topology};
