@@ -77,10 +77,8 @@ module _ (files : FilesRun) (scenario : List ℕ) (t : Described) where
       subst IsDueHere (sym is)
       (record { text = text; read = read; rule = stop.rule; path = stop.path; broken = subst (IsRefused t text) broken refused; silent = refl; said = said })
 
-  pub due_scenario_absent : (due : Due) (line : List ℕ) → due ≡ record { status = NoFile; output = []; line = line } → line ≡ no_file_line scenario
-      → NoFault files → HadMiss files × Holds files scenario None → IsDueHere due
-  due_scenario_absent due line is said sound absent = subst IsDueHere (sym is) (record { sound = sound; missed = absent.0; absent = absent.1; silent = refl; said = said })
+  pub due_scenario_absent : (due : Due) → due ≡ record { status = NoFile; output = []; line = no_file_line scenario } → NoFault files → HadMiss files × Holds files scenario None → IsDueHere due
+  due_scenario_absent due is sound absent = subst IsDueHere (sym is) (record { sound = sound; missed = absent.0; absent = absent.1; silent = refl; said = refl })
 
-  pub due_scenario_unread : (due : Due) (line : List ℕ) → due ≡ record { status = ReadFault; output = []; line = line } → line ≡ read_fault_line scenario
-      → HadFault files → NoMiss files → IsDueHere due
-  due_scenario_unread due line is said fault found = subst IsDueHere (sym is) (record { fault = fault; found = found; silent = refl; said = said })
+  pub due_scenario_unread : (due : Due) → due ≡ record { status = ReadFault; output = []; line = read_fault_line scenario } → HadFault files → NoMiss files → IsDueHere due
+  due_scenario_unread due is fault found = subst IsDueHere (sym is) (record { fault = fault; found = found; silent = refl; said = refl })

@@ -2,6 +2,8 @@ ghost use Rattle.std.specs.Prelude.{◌≡◌, [], ℕ, List, Some, IfOk, slice_
 ghost use Rattle.fp_gather.specs.FilesRun.{FilesRun, files_run};
 ghost use Rattle.fp_tables.specs.Sound.{IsSound, IsSoundFor, IsSoundWith};
 ghost use Rattle.fp_tables.specs.declared.topology.Topology.{Topology};
+ghost use Rattle.fp_main.specs.Lines.{no_file_line as absent_line, read_fault_line as unread_line};
+ghost use Rattle.fp_main.specs.declared.status.Status.TheVariants.{NoFile, ReadFault};
 ghost use Rattle.fp_main.specs.Output.{IsDueOf, IsDueOfRun, IsScenarioRead, tables_of};
 ghost use Rattle.fp_main.specs.Statuses.{status_of};
 ghost use Rattle.fp_main.specs.Words.{IsRun};
@@ -67,6 +69,22 @@ fn run_text<R: Threads + Wait + Sync, G: Gate>(
     }
 }
 
+/// What is due where the scenario's file isn't there.
+fn no_file(alloc: Global, scenario: &str) -> Result<Due, NoMemory>
+    ensures { IfOk result (λ due. due ≡ record { status = NoFile; output = []; line = absent_line scenario.now }) }
+{
+    let line = no_file_line(alloc, scenario)?;
+    Ok(said(alloc, Status::NoFile, line))
+}
+
+/// What is due where it could not be read.
+fn read_fault(alloc: Global, scenario: &str) -> Result<Due, NoMemory>
+    ensures { IfOk result (λ due. due ≡ record { status = ReadFault; output = []; line = unread_line scenario.now }) }
+{
+    let line = read_fault_line(alloc, scenario)?;
+    Ok(said(alloc, Status::ReadFault, line))
+}
+
 /// What is due of a topology and the scenario in the file of this name.
 fn run_file<R, F, G>(
     rt: &R,
@@ -86,14 +104,8 @@ where
 {
     match files.read(alloc, scenario) {
         Ok(Some(text)) => run_text(rt, alloc, model, topology, scenario, text.as_slice(), gate),
-        Ok(None) => {
-            let line = no_file_line(alloc, scenario)?;
-            Ok(said(alloc, Status::NoFile, line))
-        }
-        Err(ReadRefusal::Failed) => {
-            let line = read_fault_line(alloc, scenario)?;
-            Ok(said(alloc, Status::ReadFault, line))
-        }
+        Ok(None) => no_file(alloc, scenario),
+        Err(ReadRefusal::Failed) => read_fault(alloc, scenario),
         Err(ReadRefusal::NoMemory) => Err(NoMemory),
     }
 }

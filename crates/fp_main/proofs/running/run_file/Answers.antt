@@ -1,3 +1,4 @@
+use Rattle.fp_base.proofs.Options.{if_ok_then}
 use Rattle.fp_gather.specs.FilesRun.{files_run}
 use Rattle.fp_main.specs.Output.{tables_of}
 use Rattle.fp_main.proofs.Scenarios.{due_scenario_absent, due_scenario_unread, scenario_absent, scenario_read, scenario_unread}
@@ -9,16 +10,18 @@ returns-in-Ok-Some g c =
     (scenario_read (files_run g.F.Files.told g.F.Files.faults g.F.Files.misses c.args.files.now c.read.new.self) c.args.scenario.now c.as_slice.result.now c.in-Ok-Some.text c.in-Ok-Some.field-0
     c.in-Ok-Some.field-0-is c.as_slice.ensures c.in-Ok-Some.ensures.faults c.in-Ok-Some.ensures.misses c.in-Ok-Some.ensures.bytes)
 
-pub returns-in_ok-line-in-Ok-None : goal.returns-in_ok-line-in-Ok-None
-returns-in_ok-line-in-Ok-None g c =
-    due_scenario_absent (files_run g.F.Files.told g.F.Files.faults g.F.Files.misses c.args.files.now c.read.new.self) c.args.scenario.now (tables_of c.args.model c.args.topology)
-    c.said.result _ c.said.ensures c.in_ok-line-in-Ok-None.ensures c.in-Ok-None.ensures.faults
+pub returns-in-Ok-None : goal.returns-in-Ok-None
+returns-in-Ok-None g c =
+    if_ok_then c.no_file.result _ _
+    (λ due is. due_scenario_absent (files_run g.F.Files.told g.F.Files.faults g.F.Files.misses c.args.files.now c.read.new.self) c.args.scenario.now (tables_of c.args.model c.args.topology)
+    due is c.in-Ok-None.ensures.faults
     (scenario_absent (files_run g.F.Files.told g.F.Files.faults g.F.Files.misses c.args.files.now c.read.new.self) c.args.scenario.now c.in-Ok-None.field-0
-    c.in-Ok-None.field-0-is c.in-Ok-None.ensures.misses c.in-Ok-None.ensures.bytes)
+    c.in-Ok-None.field-0-is c.in-Ok-None.ensures.misses c.in-Ok-None.ensures.bytes)) c.no_file.ensures
 
-pub returns-in_ok-line-in-Err-Failed : goal.returns-in_ok-line-in-Err-Failed
-returns-in_ok-line-in-Err-Failed g c =
-    due_scenario_unread (files_run g.F.Files.told g.F.Files.faults g.F.Files.misses c.args.files.now c.read.new.self) c.args.scenario.now (tables_of c.args.model c.args.topology)
-    c.said-in_ok-line-in-Err-Failed.result _ c.said-in_ok-line-in-Err-Failed.ensures c.in_ok-line-in-Err-Failed.ensures
+pub returns-in-Err-Failed : goal.returns-in-Err-Failed
+returns-in-Err-Failed g c =
+    if_ok_then c.read_fault.result _ _
+    (λ due is. due_scenario_unread (files_run g.F.Files.told g.F.Files.faults g.F.Files.misses c.args.files.now c.read.new.self) c.args.scenario.now (tables_of c.args.model c.args.topology)
+    due is
     (scenario_unread (files_run g.F.Files.told g.F.Files.faults g.F.Files.misses c.args.files.now c.read.new.self) c.args.scenario.now c.in-Err-Failed.field-0 c.in-Err-Failed.field-0-is c.in-Err-Failed.ensures.faults)
-    c.in-Err-Failed.ensures.misses
+    c.in-Err-Failed.ensures.misses) c.read_fault.ensures
