@@ -1,0 +1,4 @@
+mod Entries
+pub mod Floats
+mod Given
+mod Targets
