@@ -10,7 +10,7 @@ use Rattle.fp_tables.specs.declared.kind.Form.{Form}
 use Rattle.fp_tables.specs.declared.kind.Form.TheVariants as form
 use Rattle.fp_tables.specs.declared.kind.Field.{Field}
 use Rattle.fp_tables.specs.declared.kind.TypeDef.{TypeDef}
-use Rattle.serde_json.specs.Data.{Data, null, number, unsigned, negative}
+use Rattle.serde_json.specs.Data.{null, number, unsigned, negative}
 use Rattle.fp_dictionary_types.specs.Values.{number_data}
 use Rattle.fp_exact_numbers.specs.Exact.{exact_number}
 
