@@ -1,0 +1,5 @@
+mod Alike
+mod AlikeActs
+mod AlikeCalls
+mod Paired
+mod Spelling

@@ -1,0 +1,12 @@
+//! The run of a scenario over a topology of a model, on threads, and its log.
+#![tactic(auto)]
+
+mod logging;
+mod planning;
+mod running;
+mod scenario;
+
+pub use logging::log_of;
+pub use planning::program_of;
+pub use running::run_on_threads;
+pub use scenario::{Logged, run_scenario};
