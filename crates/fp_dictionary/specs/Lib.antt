@@ -1,0 +1,4 @@
+pub mod Members
+pub mod Dictionary
+pub mod Printed
+pub mod Placed
