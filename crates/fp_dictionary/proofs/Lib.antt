@@ -1,4 +1,5 @@
 mod Definitions
+mod Entries
 mod Floats
 mod Items
 mod Ordering

@@ -126,10 +126,14 @@ module _ (types : List TypeDef) where
   abbrev pub event_data : Instance → Event → Data
   event_data i e = object_of (event_entries i e)
 
-  abbrev pub channel_entries : Instance → Channel → List Entry
-  channel_entries i t =
+  -- what each channel has
+  abbrev pub channel_head : Instance → Channel → List Entry
+  channel_head i t =
       (codes "name", name_in i t.name) ∷ (codes "type", descriptor types t.kind) ∷ (codes "id", natural (i.base + t.id))
-      ∷ (codes "telemetryUpdate", string (update_word t)) ∷ optional (codes "format") string t.format ++ limit_entries t.limits ++ annotation t.note
+      ∷ (codes "telemetryUpdate", string (update_word t)) ∷ []
+
+  abbrev pub channel_entries : Instance → Channel → List Entry
+  channel_entries i t = channel_head i t ++ (optional (codes "format") string t.format ++ limit_entries t.limits ++ annotation t.note)
 
   abbrev pub channel_data : Instance → Channel → Data
   channel_data i t = object_of (channel_entries i t)

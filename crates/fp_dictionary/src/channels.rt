@@ -2,10 +2,10 @@ ghost use Rattle.std.specs.Prelude.{◌≡◌, ◌∷◌, List, codes, false, ma
 ghost use Rattle.std.specs.List.{list_any};
 ghost use Rattle.fp_tables.specs.declared.component.Limit.{Limit};
 ghost use Rattle.serde_json.specs.Written.{has_float};
-ghost use Rattle.serde_json.specs.Data.{string};
+ghost use Rattle.serde_json.specs.Data.{no_members, string};
 ghost use Rattle.serde_json.specs.View.{view};
 ghost use Rattle.fp_dictionary_types.specs.Objects.{held, optional, with_entries};
-ghost use Rattle.fp_dictionary.specs.Members.{channel_data, color, color_entry, limit_entries, on_side, side, side_data, side_entries, update_word};
+ghost use Rattle.fp_dictionary.specs.Members.{channel_data, channel_head, color, color_entry, limit_entries, on_side, side, side_data, side_entries, update_word};
 
 use crate::formals::put_name;
 use crate::lists::{Listed, number_in};
@@ -49,15 +49,28 @@ fn channel_value(
     ensures said { IfOk result (λ v. view v ≡ channel_data types.now instance.now channel.now) }
     ensures no_float { IfOk result (λ v. has_float (view v) ≡ false) }
 {
+    let mut object = channel_head(alloc, types, instance, channel)?;
+    put_format(&mut object, alloc, &channel.format)?;
+    put_limits(&mut object, alloc, channel.limits.as_slice())?;
+    object.put_annotation(alloc, &channel.note)?;
+    Ok(object.into_value())
+}
+
+/// What each channel has.
+fn channel_head(
+    alloc: Global,
+    types: &[TypeDef],
+    instance: &Instance,
+    channel: &Channel,
+) -> Result<Object, NoMemory>
+    ensures { IfOk result (λ object. held object ≡ with_entries (channel_head types.now instance.now channel.now) no_members) }
+{
     let mut object = Object::new(alloc);
     put_name(&mut object, alloc, instance, &channel.name)?;
     object.put(alloc, "type", descriptor(alloc, types, channel.kind)?)?;
     object.put_natural(alloc, "id", number_in(instance, channel.id))?;
     object.put_text(alloc, "telemetryUpdate", update_word(channel))?;
-    put_format(&mut object, alloc, &channel.format)?;
-    put_limits(&mut object, alloc, channel.limits.as_slice())?;
-    object.put_annotation(alloc, &channel.note)?;
-    Ok(object.into_value())
+    Ok(object)
 }
 
 fn update_word(channel: &Channel) -> &'static str

@@ -8,9 +8,11 @@ use std::alloc::Global;
 /// How many calls there are behind the first.
 const MORE_CALLS: u32 = 99;
 
-const HEAD: &str = "{\"steps\":20000,\"callers\":[{\"name\":\"k\",\"do\":[{\"call\":\"Gen.w0.feed\",\"with\":[0]}";
+const HEAD: &str =
+    "{\"steps\":20000,\"callers\":[{\"name\":\"k\",\"do\":[{\"call\":\"Gen.w0.feed\",\"with\":[0]}";
 
-const HANDLERS: &str = "]}],\"handlers\":[{\"of\":\"Gen.W\",\"on\":\"port feed\",\"do\":[{\"call\":\"next\",\"with\":[{\"$\":\"a\"}]}]},{\"of\":\"Gen.w";
+const HANDLERS: &str =
+    "]}],\"handlers\":[{\"of\":\"Gen.W\",\"on\":\"port feed\",\"do\":[{\"call\":\"next\",\"with\":[{\"$\":\"a\"}]}]},{\"of\":\"Gen.w";
 
 /// The scenario with so many instances in a chain.
 pub fn scenario_text(alloc: Global, count: u32) -> Result<Row<u8>, NoMemory>

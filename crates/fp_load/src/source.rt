@@ -5,7 +5,8 @@ use fp_base::{NoMemory, Row};
 use fp_logtext::{push_number, push_text};
 use std::alloc::Global;
 
-const COMPONENT: &str = "module Gen {\n  port P(a: U32)\n  active component W { async input port feed: P block; output port next: P }\n";
+const COMPONENT: &str =
+    "module Gen {\n  port P(a: U32)\n  active component W { async input port feed: P block; output port next: P }\n";
 
 /// The source with so many instances in a chain.
 pub fn source_text(alloc: Global, count: u32) -> Result<Row<u8>, NoMemory>

@@ -136,7 +136,8 @@ pub fn walk_files<F: Files>(
     progress: &mut Progress,
     names: &[String],
 ) -> Result<Row<Row<Member>>, Halt>
-    ensures { (before : Walked) → Knows progress.old before → Comes (files_run F.told F.faults F.misses files.old files.new) (λ told. WalksFiles told (map string_bytes names.now)) before progress.new result }
+    ensures told { F.told files.new ≡ F.told files.old }
+    ensures comes { (before : Walked) → Knows progress.old before → Comes (files_run F.told F.faults F.misses files.old files.new) (λ told. WalksFiles told (map string_bytes names.now)) before progress.new result }
 {
     let mut units = Row::new(alloc);
     for name in names {
