@@ -9,20 +9,20 @@ use Rattle.fp_main.specs.declared.answer.Due.{Due}
 use Rattle.fp_main.proofs.answer.answer_files.Goals as goal
 
 pub answer_source-requires-clause-names : goal.answer_source-requires-clause-names
-answer_source-requires-clause-names g c = definitions_named c.names_are_names.ensures _ _ c.in-Ok.source c.in-Ok.ensures.gathers
+answer_source-requires-clause-names g c κs within = definitions_named c.names_are_names.ensures _ _ c.in-Ok.source c.in-Ok.ensures.gathers
 
 pub answer_source-requires-clause-fields : goal.answer_source-requires-clause-fields
-answer_source-requires-clause-fields g c = fields_named c.names_are_names.ensures _ _ c.in-Ok.source c.in-Ok.ensures.gathers
+answer_source-requires-clause-fields g c κs within = fields_named c.names_are_names.ensures _ _ c.in-Ok.source c.in-Ok.ensures.gathers
 
 pub answer_source-requires-clause-parts : goal.answer_source-requires-clause-parts
-answer_source-requires-clause-parts g c = parts_named c.names_are_names.ensures _ _ c.in-Ok.source c.in-Ok.ensures.gathers
+answer_source-requires-clause-parts g c κs within = parts_named c.names_are_names.ensures _ _ c.in-Ok.source c.in-Ok.ensures.gathers
 
 pub answer_source-requires-clause-enumerations : goal.answer_source-requires-clause-enumerations
-answer_source-requires-clause-enumerations g c =
+answer_source-requires-clause-enumerations g c κs within =
     enumerations_listed c.enumerations_have_constants.ensures c.part_enumerations_have_constants.ensures c.listed_items_have_constants.ensures _ _ c.in-Ok.source c.in-Ok.ensures.gathers
 
 pub answer_source-requires-clause-machines : goal.answer_source-requires-clause-machines
-answer_source-requires-clause-machines g c = machines_ordered c.machines_are_ordered.ensures c.part_machines_are_ordered.ensures _ _ c.in-Ok.source c.in-Ok.ensures.gathers
+answer_source-requires-clause-machines g c κs within = machines_ordered c.machines_are_ordered.ensures c.part_machines_are_ordered.ensures _ _ c.in-Ok.source c.in-Ok.ensures.gathers
 
 pub returns-in-Ok : goal.returns-in-Ok
 returns-in-Ok g c words spelled =
@@ -41,12 +41,12 @@ returns-in_ok-line-in-Err-Broken g c words spelled =
 
 pub returns-in_ok-line-in-Err-NoFile : goal.returns-in_ok-line-in-Err-NoFile
 returns-in_ok-line-in-Err-NoFile g c words spelled =
-    subst (λ (due : Due). IsDue words (files_run g.F.Files.told g.F.Files.faults g.F.Files.misses c.args.files.now c.gather.new.files) due.status due.output due.line) (sym c.said-in_ok-line-in-Err-NoFile.ensures)
+    subst (λ (due : Due). IsDue words (files_run g.F.Files.told g.F.Files.faults g.F.Files.misses c.args.files.now c.gather.new.files) due.status due.output due.line) (sym c.said-in-Err-NoFile.ensures)
     (inl (due_no_file words _ _ (spelled_asks words _ _ spelled) _ c.in-Err-NoFile.name _ c.in-Err-NoFile.field-0-is c.in-Err-NoFile.ensures.gathers
     (c.in_ok-line-in-Err-NoFile.ensures ∙ ap no_file_line c.as_str-in-Err-NoFile.ensures)))
 
 pub returns-in_ok-line-in-Err-ReadFault : goal.returns-in_ok-line-in-Err-ReadFault
 returns-in_ok-line-in-Err-ReadFault g c words spelled =
-    subst (λ (due : Due). IsDue words (files_run g.F.Files.told g.F.Files.faults g.F.Files.misses c.args.files.now c.gather.new.files) due.status due.output due.line) (sym c.said-in_ok-line-in-Err-ReadFault.ensures)
+    subst (λ (due : Due). IsDue words (files_run g.F.Files.told g.F.Files.faults g.F.Files.misses c.args.files.now c.gather.new.files) due.status due.output due.line) (sym c.said-in-Err-ReadFault.ensures)
     (inl (due_read_fault words _ _ (spelled_asks words _ _ spelled) _ c.in-Err-ReadFault.name _ c.in-Err-ReadFault.field-0-is c.in-Err-ReadFault.ensures.gathers
     (c.in_ok-line-in-Err-ReadFault.ensures ∙ ap read_fault_line c.as_str-in-Err-ReadFault.ensures)))

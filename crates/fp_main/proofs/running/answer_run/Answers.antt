@@ -8,7 +8,7 @@ pub topology_named-requires : goal.topology_named-requires
 topology_named-requires g c = c.requires.sound.lists.lists_are_short
 
 pub run_file-requires-clause-sound : goal.run_file-requires-clause-sound
-run_file-requires-clause-sound g c = sound_at c.args.model c.args.name.now c.in-Some.topology c.requires.sound c.requires.sound_with c.in-Some.ensures
+run_file-requires-clause-sound g c κs within = sound_at c.args.model c.args.name.now c.in-Some.topology c.requires.sound c.requires.sound_with c.in-Some.ensures
 
 pub returns-in-Some : goal.returns-in-Some
 returns-in-Some g c words names run =
