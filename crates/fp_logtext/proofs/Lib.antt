@@ -4,3 +4,4 @@ pub mod Naming
 pub mod Runs
 pub mod Numbers
 pub mod WorkedTexts
+pub mod Pushed

@@ -128,7 +128,8 @@ fn dispatcher_name<'a>(model: &'a Model, dispatchers: &[u32], at: usize) -> Opti
     instance_name(model, *dispatchers.get(at)?)
 }
 
-fn push_finish(finish: Finish, log: &mut Row<u8>) -> Result<(), NoMemory>
+/// Adds the last line.
+pub fn push_finish(finish: Finish, log: &mut Row<u8>) -> Result<(), NoMemory>
     ensures { OnOk result (log.new ≡ log.old ++ finish_text finish) }
 {
     let line = match finish {

@@ -1,2 +1,2 @@
-pub mod Logged
 pub mod Planned
+pub mod Told

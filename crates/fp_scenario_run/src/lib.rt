@@ -1,6 +1,7 @@
-//! The run of a scenario over a topology of a model, on threads, and its log.
+//! The run of a scenario over a topology of a model, on threads, and what is told of it.
 #![tactic(auto)]
 
+mod counting;
 mod logging;
 mod planning;
 mod running;
@@ -9,4 +10,4 @@ mod scenario;
 pub use logging::log_of;
 pub use planning::program_of;
 pub use running::run_on_threads;
-pub use scenario::{Logged, run_scenario};
+pub use scenario::{RunText, Told, run_scenario};

@@ -1,6 +1,6 @@
 use Rattle.std.specs.Prelude.{codes}
 use Rattle.fp_listing.specs.Listing.{instance_head, queue_size, priority_text}
-use Rattle.fp_listing.proofs.Pushed.{first, next, last}
+use Rattle.fp_logtext.proofs.Pushed.{first, next, last}
 use Rattle.fp_listing.proofs.items.push_instance.Goals as goal
 
 pub returns : goal.returns

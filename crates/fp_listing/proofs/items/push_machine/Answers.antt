@@ -2,7 +2,7 @@ use Rattle.std.proofs.Common.{ap}
 use Rattle.std.specs.Prelude.{codes, flat_map}
 use Rattle.std.specs.List.{enumerate_from}
 use Rattle.fp_listing.specs.Listing.{vertex_line}
-use Rattle.fp_listing.proofs.Pushed.{first, next, same, last_same}
+use Rattle.fp_logtext.proofs.Pushed.{first, next, same, last_same}
 use Rattle.fp_listing.proofs.items.push_machine.Goals as goal
 
 pub returns : goal.returns

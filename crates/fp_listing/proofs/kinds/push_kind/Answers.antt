@@ -2,7 +2,7 @@ use Rattle.std.proofs.Common.{◌≡◌, ◌++◌, OnOk, subst, sym}
 use Rattle.std.specs.Prelude.{codes, decimal}
 use Rattle.fp_tables.specs.declared.kind.Kind.{Kind}
 use Rattle.fp_listing.specs.Kinds.{kind_text}
-use Rattle.fp_listing.proofs.Pushed.{first, next, last}
+use Rattle.fp_logtext.proofs.Pushed.{first, next, last}
 use Rattle.fp_listing.proofs.kinds.push_kind.Goals as goal
 
 pub returns-in_ok-push_text-in-Str-2 : goal.returns-in_ok-push_text-in-Str-2

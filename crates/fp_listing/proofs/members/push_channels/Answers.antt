@@ -1,5 +1,5 @@
 use Rattle.fp_listing.specs.Members.{channel_line}
-use Rattle.fp_listing.proofs.Pushed.{one_item}
+use Rattle.fp_logtext.proofs.Pushed.{one_item}
 use Rattle.fp_listing.proofs.members.push_channels.Goals as goal
 
 pub loop-channel-preserved : goal.loop-channel-preserved

@@ -2,7 +2,7 @@ use Rattle.std.proofs.Common.{ap, ◌∙◌}
 use Rattle.std.specs.Prelude.{codes, flat_map}
 use Rattle.std.specs.List.{enumerate_from}
 use Rattle.fp_listing.specs.Members.{queueing_word, member_port, command_line, param_line, event_line, channel_line, match_line, running_line}
-use Rattle.fp_listing.proofs.Pushed.{first, next, same, last_same}
+use Rattle.fp_logtext.proofs.Pushed.{first, next, same, last_same}
 use Rattle.fp_listing.proofs.members.push_component.Goals as goal
 
 pub returns : goal.returns

@@ -3,7 +3,7 @@ use Rattle.std.specs.Prelude.{codes, slice_get}
 use Rattle.fp_base.specs.Rendered.{quoted}
 use Rattle.fp_logtext.specs.Names.{or_nothing}
 use Rattle.fp_listing.specs.Members.{event_head, severities, throttle_text}
-use Rattle.fp_listing.proofs.Pushed.{first, next, last_same}
+use Rattle.fp_logtext.proofs.Pushed.{first, next, last_same}
 use Rattle.fp_listing.proofs.members.push_event_text.Goals as goal
 
 pub returns : goal.returns

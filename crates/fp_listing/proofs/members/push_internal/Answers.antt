@@ -1,7 +1,7 @@
 use Rattle.std.proofs.Common.{ap, ◌∙◌}
 use Rattle.std.specs.Prelude.{codes}
 use Rattle.fp_listing.specs.Kinds.{formals_text, queue_text}
-use Rattle.fp_listing.proofs.Pushed.{first, next, same, last}
+use Rattle.fp_logtext.proofs.Pushed.{first, next, same, last}
 use Rattle.fp_listing.proofs.members.push_internal.Goals as goal
 
 pub returns : goal.returns

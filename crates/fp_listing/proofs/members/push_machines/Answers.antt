@@ -1,5 +1,5 @@
 use Rattle.fp_listing.specs.Members.{running_line}
-use Rattle.fp_listing.proofs.Pushed.{one_item}
+use Rattle.fp_logtext.proofs.Pushed.{one_item}
 use Rattle.fp_listing.proofs.members.push_machines.Goals as goal
 
 pub loop-running-preserved : goal.loop-running-preserved

@@ -1,7 +1,7 @@
 use Rattle.std.specs.Prelude.{codes}
 use Rattle.fp_listing.specs.Kinds.{queue_text}
 use Rattle.fp_listing.specs.Members.{machine_name}
-use Rattle.fp_listing.proofs.Pushed.{first, next, same, last}
+use Rattle.fp_logtext.proofs.Pushed.{first, next, same, last}
 use Rattle.fp_listing.proofs.members.push_running_text.Goals as goal
 
 pub returns : goal.returns

@@ -1,6 +1,6 @@
 use Rattle.std.proofs.Common.{ℕ, ◌+◌, ap}
 use Rattle.std.specs.Prelude.{codes, decimal}
-use Rattle.fp_load.proofs.Pushed.{first, last, same}
+use Rattle.fp_logtext.proofs.Pushed.{first, last, same}
 use Rattle.fp_load.proofs.scenario.push_call.Goals as goal
 
 pub returns : goal.returns

@@ -1,6 +1,6 @@
 use Rattle.std.proofs.Common.{◌+◌, arith}
 use Rattle.fp_load.specs.Load.{call_text}
-use Rattle.fp_load.proofs.Pushed.{all_below, one_more}
+use Rattle.fp_load.proofs.Below.{all_below, one_more}
 use Rattle.fp_load.proofs.scenario.push_calls.Goals as goal
 
 pub numbers-preserved : goal.numbers-preserved

@@ -1,5 +1,5 @@
 use Rattle.std.specs.Prelude.{codes, decimal}
-use Rattle.fp_load.proofs.Pushed.{first, last, next}
+use Rattle.fp_logtext.proofs.Pushed.{first, last, next}
 use Rattle.fp_load.proofs.source.push_member.Goals as goal
 
 pub returns : goal.returns
