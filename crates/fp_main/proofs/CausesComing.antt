@@ -1,5 +1,5 @@
 -- When each status comes, from what a call writes.
-use Rattle.std.proofs.Common.{◌≡◌, ◌<◌, ◌⊎◌, ℕ, List, ◌∷◌, Option, Some, None, codes, inl, inr, refl, sym, ◌∙◌, subst, arith, drop, take-append-drop}
+use Rattle.std.proofs.Common.{◌≡◌, ◌<◌, ◌⊎◌, ℕ, List, [], ◌∷◌, Option, Some, None, codes, inl, inr, refl, sym, ◌∙◌, subst, arith}
 use Rattle.std.proofs.lemmas.Option.{none-some}
 use Rattle.fp_base.proofs.Options.{same_some}
 use Rattle.fp_base.specs.declared.rule.Rule.{Rule}
@@ -9,17 +9,20 @@ use Rattle.fp_base.specs.Least.{IsUnbroken}
 use Rattle.fp_outside.specs.Counts.{Rose, last_count}
 use Rattle.fp_outside.specs.declared.files.HeldFile.{HeldFile}
 use Rattle.fp_gather.proofs.Absent.{gone_not_stopped}
-use Rattle.fp_main.specs.Causes.{AreTables, Asked, AsksForNoRun, DoneComes, EndsAs, IsEnd, IsThere, NoFileComes, NoTopologyComes, ReadFaultComes, RefusedComes, RunAsked, RunComes, ScenarioRefusedComes, Sound, SoundSink, UsageComes, WriteFaultComes}
+use Rattle.fp_main.specs.Causes.{AreTables, Asked, AsksForNoRun, DoneComes, EndsAs, IsEnd, IsThere, MakeComes, NoFileComes, NoTopologyComes, ReadFaultComes, RefusedComes, RunAsked, RunComes, ScenarioRefusedComes, Sound, SoundSink, UsageComes, WriteFaultComes}
 use Rattle.fp_main.specs.Delivery.{SinkRun, Delivered}
 use Rattle.fp_gather.specs.FilesRun.{FilesRun, Holds, IsHeld}
-use Rattle.fp_main.specs.Output.{DueNoFile, DueNoTopology, DueReadFault, DueRefused, DueRun, DueScenarioAbsent, DueScenarioRefused, DueScenarioUnread, DueText, DueUsage, IsDue, IsRead, IsText, Output, Reaches, tables_of}
+use Rattle.fp_main.specs.Output.{DueNoFile, DueNoTopology, DueReadFault, DueRefused, DueRun, DueScenarioAbsent, DueScenarioRefused, DueScenarioUnread, DueOfLoad, DueText, DueUsage, IsDue, IsDueOfFiles, IsRead, IsText, Output, Reaches, load_run, tables_of}
 use Rattle.fp_main.specs.Statuses.{status_of}
 use Rattle.fp_main.specs.Topologies.{HasTopology, IsTopology, LacksTopology}
-use Rattle.fp_main.specs.Words.{AsksFor, IsForm, IsRun, IsWrong, NamesTopology, Spells, word_of}
+use Rattle.fp_main.specs.Words.{AsksFor, IsMake, IsRun, IsWrong, NamesTopology, load_words, word_of}
 use Rattle.fp_gather.specs.gathering.Gathered.{source_of}
 use Rattle.fp_main.specs.Broken.{SourceBroken}
-use Rattle.fp_main.proofs.Dues.{spelled_asks}
-use Rattle.fp_main.proofs.Wording.{check_names_nothing, same_run, text_is_no_run}
+use Rattle.fp_main.specs.Lines.{no_memory_line}
+use Rattle.fp_main.proofs.Loads.{asked_not_wrong, form_not_wrong}
+use Rattle.fp_main.proofs.Wording.{check_names_nothing, make_asks_nothing, same_make, same_run, text_is_no_run}
+use Rattle.fp_scenario_run.specs.declared.scenario.RunText.{RunText}
+use Rattle.fp_scenario_run.specs.declared.scenario.RunText.TheVariants.{Log, Counts}
 use Rattle.fp_model.specs.Defined.{Defined}
 use Rattle.fp_events.specs.declared.event.Finish.{Finish}
 use Rattle.fp_events.specs.declared.event.Finish.TheVariants as finish
@@ -27,22 +30,10 @@ use Rattle.fp_scenario_run.specs.Planned.{BreaksNoRule, BreaksRule}
 use Rattle.fp_tables.specs.Lookup.{Described}
 use Rattle.fp_tables.specs.declared.model.Model.{Model}
 use Rattle.fp_gather.specs.gathering.Walks.{NoFile as IsMissing, NoReadFault, Outcome, Stops, Walked, WalksFiles, Went, nothing_read}
-use Rattle.fp_main.specs.declared.words.Wanted.{Wanted}
 use Rattle.fp_main.specs.declared.status.Status.{Status}
 use Rattle.fp_main.specs.declared.status.Status.TheVariants.{Done, Refused, Usage, ReadFault, WriteFault, NoFile, Stuck, Spent, Asserted, NoMemory, NoTopology}
 
 -- ---- what excludes what
-
--- words that ask for files are not wrong
-pub asked_not_wrong : (words names : List (List ℕ)) (word : ℕ) → AsksFor words names → IsWrong words word → ⊥
-asked_not_wrong words names word asked wrong =
-    elim wrong.ends [
-      | inl e ↦ e.1 (drop word words, subst IsForm (sym (take-append-drop word words)) (names, asked))
-      | inr e ↦ e.1 (names, asked)
-    ]
-
-pub read_not_wrong : (words : List (List ℕ)) (wanted : Wanted) (names : List (List ℕ)) (word : ℕ) → Spells words wanted names → IsWrong words word → ⊥
-read_not_wrong words wanted names word spelled wrong = asked_not_wrong words names word (spelled_asks words wanted names spelled) wrong
 
 -- words that name a topology name one, and ask for the same files
 same_topology : (words a b : List (List ℕ)) (t u : List ℕ) → NamesTopology words t a → NamesTopology words u b → (t ≡ u) × (a ≡ b)
@@ -113,9 +104,9 @@ Holding P (Stops stopped) = ⊥
 -- ---- what is due
 
 -- what is to be shown of each that may be due
-record Cases (words : List (List ℕ)) (files : FilesRun) (output line : List ℕ) (P : Status → Type 0) : Type 0 where
+record Cases (told : RunText) (words : List (List ℕ)) (files : FilesRun) (output line : List ℕ) (P : Status → Type 0) : Type 0 where
   text : DueText words files output line → P Done
-  run : (end : Finish) → DueRun end words files output line → P (status_of end)
+  run : (end : Finish) → DueRun told end words files output line → P (status_of end)
   refused : DueRefused words files output line → P Refused
   rule : DueScenarioRefused words files output line → P Refused
   lacking : DueNoTopology words files output line → P NoTopology
@@ -124,10 +115,10 @@ record Cases (words : List (List ℕ)) (files : FilesRun) (output line : List �
   unread : DueScenarioUnread words files output line → P ReadFault
   absent : DueNoFile words files output line → P NoFile
   missed : DueScenarioAbsent words files output line → P NoFile
-  memory : P NoMemory
+  memory : (output ≡ []) × (line ≡ no_memory_line) → P NoMemory
 
-module _ (words : List (List ℕ)) (files : FilesRun) (output line : List ℕ) (P : Status → Type 0) (cases : Cases words files output line P) where
-  due_cases : (due : Status) → IsDue words files due output line → P due
+module _ (told : RunText) (words : List (List ℕ)) (files : FilesRun) (output line : List ℕ) (P : Status → Type 0) (cases : Cases told words files output line P) where
+  due_cases : (due : Status) → IsDueOfFiles told words files due output line → P due
   due_cases Done (inl d) = cases.text d
   due_cases Done (inr d) = cases.run finish.Complete d
   due_cases Refused (inl d) = cases.refused d
@@ -137,7 +128,7 @@ module _ (words : List (List ℕ)) (files : FilesRun) (output line : List ℕ) (
   due_cases ReadFault (inr d) = cases.unread d
   due_cases NoFile (inl d) = cases.absent d
   due_cases NoFile (inr d) = cases.missed d
-  due_cases NoMemory d = cases.memory
+  due_cases NoMemory d = cases.memory d
   due_cases WriteFault d = absurd d
   due_cases Stuck d = cases.run finish.Stuck d
   due_cases Spent d = cases.run finish.Spent d
@@ -154,20 +145,28 @@ ends_as wanted due output line out diag status (inl whole) (inr e) = inr (inr (w
 ends_as wanted due output line out diag status (inr (inl failed)) e = inr (inl failed.ends)
 ends_as wanted due output line out diag status (inr (inr failed)) e = inr (inl failed.ends)
 
-module _ (one_way : ReadOneWay) (words : List (List ℕ)) (files : FilesRun) (out diag : SinkRun) (status : Status) (o : Output words files out diag status) where
+-- what is written of words of a form with files, and of wrong words, and its status
+record OutputOf (told : RunText) (words : List (List ℕ)) (files : FilesRun) (out diag : SinkRun) (status : Status) : Type 0 where
+  due : Status
+  output : List ℕ
+  line : List ℕ
+  called : IsDueOfFiles told words files due output line
+  delivered : Delivered due output line out diag status
+
+module _ (one_way : ReadOneWay) (told : RunText) (words : List (List ℕ)) (files : FilesRun) (out diag : SinkRun) (status : Status) (o : OutputOf told words files out diag status) where
   -- this is due in each case
   abbrev CasesOf : Status → Type 0
-  CasesOf wanted = Cases words files o.output o.line (IsEither wanted)
+  CasesOf wanted = Cases told words files o.output o.line (IsEither wanted)
 
   ends : (wanted : Status) → CasesOf wanted → EndsAs wanted status
-  ends wanted cases = ends_as wanted o.due o.output o.line out diag status o.delivered (due_cases words files o.output o.line (IsEither wanted) cases o.due o.called)
+  ends wanted cases = ends_as wanted o.due o.output o.line out diag status o.delivered (due_cases told words files o.output o.line (IsEither wanted) cases o.due o.called)
 
   -- wrong words reach no run
   not_wrong : (scenario : List ℕ) (word : ℕ) → Reaches words files scenario → IsWrong words word → ⊥
   not_wrong scenario word r wrong = asked_not_wrong words r.names word (inr (r.topology, inr (scenario, r.asked))) wrong
 
-  pub usage_comes : UsageComes words status
-  usage_comes word wrong = ends Usage (record {
+  usage_of : UsageComes words status
+  usage_of word wrong = ends Usage (record {
     text = λ d. absurd (asked_not_wrong words d.read.names word d.read.asked wrong);
     run = λ end d. absurd (not_wrong d.scenario word d.reached wrong);
     refused = λ d. absurd (asked_not_wrong words d.read.names word d.read.asked wrong);
@@ -178,11 +177,11 @@ module _ (one_way : ReadOneWay) (words : List (List ℕ)) (files : FilesRun) (ou
     unread = λ d. absurd (not_wrong d.scenario word d.reached wrong);
     absent = λ d. absurd (asked_not_wrong words d.names word d.asked wrong);
     missed = λ d. absurd (not_wrong d.scenario word d.reached wrong);
-    memory = inr refl;
+    memory = λ d. inr refl;
   })
 
-  pub read_fault_comes : ReadFaultComes files status
-  read_fault_comes rose = ends ReadFault (record {
+  read_fault_of : ReadFaultComes files status
+  read_fault_of rose = ends ReadFault (record {
     text = λ d. absurd (rose_not_stayed _ _ rose d.read.read.sound);
     run = λ end d. absurd (rose_not_stayed _ _ rose d.gives.read.sound);
     refused = λ d. absurd (rose_not_stayed _ _ rose d.read.read.sound);
@@ -193,7 +192,7 @@ module _ (one_way : ReadOneWay) (words : List (List ℕ)) (files : FilesRun) (ou
     unread = λ d. inl refl;
     absent = λ d. absurd (rose_not_stayed _ _ rose d.absent.sound);
     missed = λ d. absurd (rose_not_stayed _ _ rose d.says.sound);
-    memory = inr refl;
+    memory = λ d. inr refl;
   })
 
   no_file_missed : files.misses_before < files.misses_after → EndsAs NoFile status
@@ -208,7 +207,7 @@ module _ (one_way : ReadOneWay) (words : List (List ℕ)) (files : FilesRun) (ou
     unread = λ d. absurd (rose_not_stayed _ _ rose d.says.found);
     absent = λ d. inl refl;
     missed = λ d. inl refl;
-    memory = inr refl;
+    memory = λ d. inr refl;
   })
 
   -- what was read is what the files tell
@@ -239,7 +238,7 @@ module _ (one_way : ReadOneWay) (words : List (List ℕ)) (files : FilesRun) (ou
     unread = λ d. absurd (stayed _ _ sound.0 sound.1 d.says.fault);
     absent = λ d. inl refl;
     missed = λ d. inl refl;
-    memory = inr refl;
+    memory = λ d. inr refl;
   })
 
   -- a file that isn't there ends the reading
@@ -247,8 +246,8 @@ module _ (one_way : ReadOneWay) (words : List (List ℕ)) (files : FilesRun) (ou
   not_absent walked units output line asked d =
       gone_not_stopped walked units (IsMissing d.name) (agrees one_way words files (Went walked units) asked d.names (Stops (IsMissing d.name)) d.asked d.absent.stopped tt tt)
 
-  pub refused_comes : RefusedComes words files status
-  refused_comes walked units f asked broken sound = ends Refused (record {
+  refused_of : RefusedComes words files status
+  refused_of walked units f asked broken sound = ends Refused (record {
     text = λ d. absurd (d.unbroken f (holds_as (λ w s. SourceBroken w s f) (Went walked units) d.walked d.source asked tt d.read broken));
     run = λ end d. absurd (whole d.scenario d.reached);
     refused = λ d. inl refl;
@@ -259,7 +258,7 @@ module _ (one_way : ReadOneWay) (words : List (List ℕ)) (files : FilesRun) (ou
     unread = λ d. absurd (stayed _ _ sound.0 sound.1 d.says.fault);
     absent = λ d. absurd (not_absent walked units o.output o.line asked d);
     missed = λ d. absurd (whole d.scenario d.reached);
-    memory = inr refl;
+    memory = λ d. inr refl;
   })
     where
       whole : (scenario : List ℕ) → Reaches words files scenario → ⊥
@@ -277,8 +276,8 @@ module _ (one_way : ReadOneWay) (words : List (List ℕ)) (files : FilesRun) (ou
   not_lacking walked units output line asked there d =
       d.lacking (holds_as (λ w s. IsThere words s) (Went walked units) d.walked d.source asked tt d.read there d.topology d.read.names d.model d.named d.defined)
 
-  pub no_topology_comes : NoTopologyComes words files status
-  no_topology_comes walked units name names asked unbroken named missing sound = ends NoTopology (record {
+  no_topology_of : NoTopologyComes words files status
+  no_topology_of walked units name names asked unbroken named missing sound = ends NoTopology (record {
     text =
         λ d. absurd (lacking_no_text words d.read.names names name d.model o.output named
         (holds_as (λ w s. (model : Model) → Defined s model → LacksTopology model name) (Went walked units) d.walked d.source asked tt d.read missing d.model d.defined) d.text);
@@ -291,7 +290,7 @@ module _ (one_way : ReadOneWay) (words : List (List ℕ)) (files : FilesRun) (ou
     unread = λ d. absurd (none d.scenario d.reached);
     absent = λ d. absurd (not_absent walked units o.output o.line asked d);
     missed = λ d. absurd (none d.scenario d.reached);
-    memory = inr refl;
+    memory = λ d. inr refl;
   })
     where
       none : (scenario : List ℕ) → Reaches words files scenario → ⊥
@@ -313,7 +312,7 @@ module _ (one_way : ReadOneWay) (words : List (List ℕ)) (files : FilesRun) (ou
     unread = λ d. absurd (no_run d.reached.topology d.scenario d.reached.names d.reached.asked);
     absent = λ d. absurd (not_absent walked units o.output o.line asked d);
     missed = λ d. absurd (no_run d.reached.topology d.scenario d.reached.names d.reached.asked);
-    memory = inr refl;
+    memory = λ d. inr refl;
   })
 
   -- ---- runs that the words ask for, by what the files tell
@@ -339,8 +338,8 @@ module _ (one_way : ReadOneWay) (words : List (List ℕ)) (files : FilesRun) (ou
 
     module _ (P : Status → Type 0) where
       -- what is left to be shown where a run is asked for
-      run_cases : ((end : Finish) → DueRun end words files o.output o.line → P (status_of end)) → (DueScenarioRefused words files o.output o.line → P Refused)
-          → (DueScenarioAbsent words files o.output o.line → P NoFile) → P NoMemory → Cases words files o.output o.line P
+      run_cases : ((end : Finish) → DueRun told end words files o.output o.line → P (status_of end)) → (DueScenarioRefused words files o.output o.line → P Refused)
+          → (DueScenarioAbsent words files o.output o.line → P NoFile) → P NoMemory → Cases told words files o.output o.line P
       run_cases run rule missed memory = record {
         text = λ d. absurd (run_no_text words d.read.names asked.names asked.topology scenario d.model o.output asked.run d.text);
         run = run;
@@ -352,7 +351,7 @@ module _ (one_way : ReadOneWay) (words : List (List ℕ)) (files : FilesRun) (ou
         unread = λ d. absurd (stayed _ _ sound.0 sound.1 d.says.fault);
         absent = λ d. absurd (not_absent asked.walked asked.units o.output o.line asked.asked d);
         missed = missed;
-        memory = memory;
+        memory = λ d. memory;
       }
 
     no_scenario : Holds files scenario None → EndsAs NoFile status
@@ -368,7 +367,7 @@ module _ (one_way : ReadOneWay) (words : List (List ℕ)) (files : FilesRun) (ou
       scenario_ends : ((t : Described) → AreTables (source_of asked.walked asked.units) asked.topology t → (rule : Rule) × (path : List ℕ) × BreaksRule t text rule path) → EndsAs Refused status
       scenario_ends breaks = ends Refused (run_cases (IsEither Refused) (λ end d. absurd (broken end d)) (λ d. inl refl) (λ d. absurd (not_missed d)) (inr refl))
         where
-          broken : (end : Finish) → DueRun end words files o.output o.line → ⊥
+          broken : (end : Finish) → DueRun told end words files o.output o.line → ⊥
           broken end d =
               let same : d.gives.text ≡ text = same_some (holds_as_told d.scenario (Some d.gives.text) (Some text) d.reached d.gives.read.held held) in
               let b = breaks (tables_of d.reached.model d.reached.at) (tables_as d.scenario d.reached) in
@@ -377,7 +376,7 @@ module _ (one_way : ReadOneWay) (words : List (List ℕ)) (files : FilesRun) (ou
       -- one of the ends of runs is due, or memory was refused
       run_due : ((t : Described) → AreTables (source_of asked.walked asked.units) asked.topology t → BreaksNoRule t text) → IsEnd o.due ⊎ (o.due ≡ NoMemory)
       run_due whole =
-          due_cases words files o.output o.line (λ s. IsEnd s ⊎ (s ≡ NoMemory))
+          due_cases told words files o.output o.line (λ s. IsEnd s ⊎ (s ≡ NoMemory))
           (run_cases (λ s. IsEnd s ⊎ (s ≡ NoMemory)) (λ end d. inl (is_end end)) (λ d. absurd (unbroken d)) (λ d. absurd (not_missed d)) (inr refl)) o.due o.called
         where
           is_end : (end : Finish) → IsEnd (status_of end)
@@ -392,17 +391,78 @@ module _ (one_way : ReadOneWay) (words : List (List ℕ)) (files : FilesRun) (ou
               whole (tables_of d.reached.model d.reached.at) (tables_as d.scenario d.reached) d.says.rule d.says.path
               (subst (λ (x : List ℕ). BreaksRule (tables_of d.reached.model d.reached.at) x d.says.rule d.says.path) same d.says.broken)
 
-  pub no_file_comes : NoFileComes words files status
-  no_file_comes = (no_file_missed, no_file_told, λ scenario asked gone sound. no_scenario scenario asked sound gone)
-
-  pub scenario_refused_comes : ScenarioRefusedComes words files status
-  scenario_refused_comes scenario text asked held breaks sound = scenario_ends scenario asked sound text held breaks
+  scenario_refused_of : ScenarioRefusedComes words files status
+  scenario_refused_of scenario text asked held breaks sound = scenario_ends scenario asked sound text held breaks
 
   -- where no write failed the status is no write fault
   no_fault : SoundSink out → SoundSink diag → Delivered o.due o.output o.line out diag status → status ≡ o.due
   no_fault a b (inl whole) = whole.ends
   no_fault a b (inr (inl failed)) = absurd (stayed _ _ a.0 a.1 failed.fault)
   no_fault a b (inr (inr failed)) = absurd (stayed _ _ b.0 b.1 failed.fault)
+
+  not_due : IsDueOfFiles told words files WriteFault o.output o.line → ⊥
+  not_due d = d
+
+  done_of : DoneComes words files out diag status
+  done_of walked units asked no_run unbroken there sound out_sound diag_sound =
+      elim (done_ends walked units asked no_run unbroken there sound) [
+        | inl e ↦ inl e
+        | inr f ↦ without f
+      ]
+    where
+      without : (status ≡ WriteFault) ⊎ (status ≡ NoMemory) → (status ≡ Done) ⊎ (status ≡ NoMemory)
+      without (inl e) = absurd (not_due (subst (λ (s : Status). IsDueOfFiles told words files s o.output o.line) (sym (no_fault out_sound diag_sound o.delivered) ∙ e) o.called))
+      without (inr e) = inr e
+
+  run_of : RunComes words files out diag status
+  run_of scenario text asked held whole sound out_sound diag_sound =
+      subst (λ (s : Status). IsEnd s ⊎ (s ≡ NoMemory)) (sym (no_fault out_sound diag_sound o.delivered)) (run_due scenario asked sound text held whole)
+
+-- ---- what is written of words and files
+
+module _ (one_way : ReadOneWay) (words : List (List ℕ)) (files : FilesRun) (out diag : SinkRun) (status : Status) (o : Output words files out diag status) where
+  -- where it isn't due of the load
+  over : (DueOfLoad words files o.due o.output o.line → ⊥) → OutputOf Log words files out diag status
+  over other = go o.called
+    where
+      go : IsDue words files o.due o.output o.line → OutputOf Log words files out diag status
+      go (inl d) = record { due = o.due; output = o.output; line = o.line; called = d; delivered = o.delivered }
+      go (inr load) = absurd (other load)
+
+  over_files : (names : List (List ℕ)) → AsksFor words names → OutputOf Log words files out diag status
+  over_files names asked = over (λ load. make_asks_nothing words names load.instances load.asked asked)
+
+  pub usage_comes : UsageComes words status
+  usage_comes word wrong = usage_of one_way Log words files out diag status (over (λ load. form_not_wrong words word (inr (load.instances, load.asked)) wrong)) word wrong
+
+  pub read_fault_comes : ReadFaultComes files status
+  read_fault_comes rose = read_fault_of one_way Log words files out diag status (over (λ load. rose_not_stayed _ _ rose load.unread.0)) rose
+
+  pub no_file_comes : NoFileComes words files status
+  no_file_comes = (
+    λ rose. no_file_missed one_way Log words files out diag status (over (λ load. rose_not_stayed _ _ rose load.unread.1)) rose,
+    λ name asked sound. no_file_told one_way Log words files out diag status (over_files asked.names asked.asked) name asked sound,
+    λ scenario asked gone sound. no_scenario one_way Log words files out diag status (over_files asked.asked.names asked.asked.asked) scenario asked sound gone,
+  )
+
+  pub refused_comes : RefusedComes words files status
+  refused_comes walked units f asked broken sound = refused_of one_way Log words files out diag status (over_files asked.names asked.asked) walked units f asked broken sound
+
+  pub no_topology_comes : NoTopologyComes words files status
+  no_topology_comes walked units name names asked unbroken named missing sound =
+      no_topology_of one_way Log words files out diag status (over_files asked.names asked.asked) walked units name names asked unbroken named missing sound
+
+  pub scenario_refused_comes : ScenarioRefusedComes words files status
+  scenario_refused_comes scenario text asked held breaks sound =
+      scenario_refused_of one_way Log words files out diag status (over_files asked.asked.names asked.asked.asked) scenario text asked held breaks sound
+
+  pub done_comes : DoneComes words files out diag status
+  done_comes walked units asked no_run unbroken there sound out_sound diag_sound =
+      done_of one_way Log words files out diag status (over_files asked.names asked.asked) walked units asked no_run unbroken there sound out_sound diag_sound
+
+  pub run_comes : RunComes words files out diag status
+  run_comes scenario text asked held whole sound out_sound diag_sound =
+      run_of one_way Log words files out diag status (over_files asked.asked.names asked.asked.asked) scenario text asked held whole sound out_sound diag_sound
 
   write_fault_of : Delivered o.due o.output o.line out diag status → (out.faults_before < out.faults_after) ⊎ (diag.faults_before < diag.faults_after) → status ≡ WriteFault
   write_fault_of (inl whole) (inl rose) = absurd (rose_not_stayed _ _ rose whole.out_sound)
@@ -413,20 +473,44 @@ module _ (one_way : ReadOneWay) (words : List (List ℕ)) (files : FilesRun) (ou
   pub write_fault_comes : WriteFaultComes out diag status
   write_fault_comes rose = write_fault_of o.delivered rose
 
-  not_due : IsDue words files WriteFault o.output o.line → ⊥
-  not_due d = d
+  -- words that ask for the load have nothing due of files, but that memory was refused
+  module _ (instances : ℕ) (asked : IsMake words instances) where
+    abbrev OfLoad : Status → Type 0
+    OfLoad s = IsDueOfFiles (Counts instances) load_words (load_run instances) s o.output o.line
 
-  pub done_comes : DoneComes words files out diag status
-  done_comes walked units asked no_run unbroken there sound out_sound diag_sound =
-      elim (done_ends walked units asked no_run unbroken there sound) [
-        | inl e ↦ inl e
-        | inr f ↦ without f
-      ]
-    where
-      without : (status ≡ WriteFault) ⊎ (status ≡ NoMemory) → (status ≡ Done) ⊎ (status ≡ NoMemory)
-      without (inl e) = absurd (not_due (subst (λ (s : Status). IsDue words files s o.output o.line) (sym (no_fault out_sound diag_sound o.delivered) ∙ e) o.called))
-      without (inr e) = inr e
+    nothing_asked : (names : List (List ℕ)) → AsksFor words names → ⊥
+    nothing_asked names files_asked = make_asks_nothing words names instances asked files_asked
 
-  pub run_comes : RunComes words files out diag status
-  run_comes scenario text asked held whole sound out_sound diag_sound =
-      subst (λ (s : Status). IsEnd s ⊎ (s ≡ NoMemory)) (sym (no_fault out_sound diag_sound o.delivered)) (run_due scenario asked sound text held whole)
+    nothing_reached : (scenario : List ℕ) → Reaches words files scenario → ⊥
+    nothing_reached scenario r = nothing_asked r.names (inr (r.topology, inr (scenario, r.asked)))
+
+    memory_alone : Cases Log words files o.output o.line OfLoad
+    memory_alone = record {
+      text = λ d. absurd (nothing_asked d.read.names d.read.asked);
+      run = λ end d. absurd (nothing_reached d.scenario d.reached);
+      refused = λ d. absurd (nothing_asked d.read.names d.read.asked);
+      rule = λ d. absurd (nothing_reached d.scenario d.reached);
+      lacking = λ d. absurd (nothing_asked d.read.names d.read.asked);
+      usage = λ d. absurd (form_not_wrong words d.word (inr (instances, asked)) d.wrong);
+      fault = λ d. absurd (nothing_asked d.names d.asked);
+      unread = λ d. absurd (nothing_reached d.scenario d.reached);
+      absent = λ d. absurd (nothing_asked d.names d.asked);
+      missed = λ d. absurd (nothing_reached d.scenario d.reached);
+      memory = λ d. d;
+    }
+
+    over_load : OutputOf (Counts instances) load_words (load_run instances) out diag status
+    over_load = record { due = o.due; output = o.output; line = o.line; called = go o.called; delivered = o.delivered }
+      where
+        go : IsDue words files o.due o.output o.line → OfLoad o.due
+        go (inl d) = due_cases Log words files o.output o.line OfLoad memory_alone o.due d
+        go (inr load) =
+            subst (λ (n : ℕ). IsDueOfFiles (Counts n) load_words (load_run n) o.due o.output o.line) (same_make words load.instances instances load.asked asked) load.due
+
+  pub make_comes : MakeComes words out diag status
+  make_comes instances asked = record {
+    refused = refused_of one_way (Counts instances) load_words (load_run instances) out diag status (over_load instances asked);
+    no_topology = no_topology_of one_way (Counts instances) load_words (load_run instances) out diag status (over_load instances asked);
+    scenario_refused = scenario_refused_of one_way (Counts instances) load_words (load_run instances) out diag status (over_load instances asked);
+    run = run_of one_way (Counts instances) load_words (load_run instances) out diag status (over_load instances asked);
+  }

@@ -1,5 +1,8 @@
 -- What is due for words with a form, from what gathering, resolving and running answer.
-use Rattle.std.proofs.Common.{◌≡◌, ℕ, List, [], ◌∷◌, Option, Some, None, Ok, Err, inl, inr, refl, sym, ap, ◌∙◌, subst}
+use Rattle.std.proofs.Common.{◌≡◌, ℕ, List, [], ◌∷◌, Option, Some, None, Result, Ok, Err, IfOk, codes, inl, inr, lit<, refl, sym, ap, ◌∙◌, subst}
+use Rattle.fp_load.specs.Held.{both_files}
+use Rattle.fp_load.specs.Load.{scenario_text, source_text}
+use Rattle.fp_load.specs.declared.files.LoadFiles.{LoadFiles}
 use Rattle.fp_outside.specs.declared.files.HeldFile.{HeldFile}
 use Rattle.fp_base.specs.declared.refusal.Refusal.{Refusal}
 use Rattle.fp_base.specs.Least.{IsLeast, IsUnbroken}
@@ -23,9 +26,11 @@ use Rattle.fp_main.proofs.SourcePhases.{behind_least, first_least}
 use Rattle.fp_main.specs.Broken.{SourceBroken}
 use Rattle.fp_main.specs.Lines.{no_file_line, no_topology_line, read_fault_line, refusal_line}
 use Rattle.fp_listing.specs.Listing.{Listing}
-use Rattle.fp_main.specs.Output.{AllWereRead, DueNoFile, DueReadFault, DueRefused, IsDue, IsDueFor, IsDueOfReached, IsDueOfRun, IsDueOfText, IsTopologyText, Reaches, SaysBroken, tables_of}
+use Rattle.fp_main.specs.Output.{AllWereRead, DueNoFile, DueReadFault, DueRefused, IsDue, IsDueFor, IsDueOf, IsDueOfFiles, IsDueOfReached, IsDueOfRun, IsDueOfText, IsTopologyText, Reaches, SaysBroken, load_run, tables_of}
 use Rattle.fp_main.specs.Topologies.{IsTopology, LacksTopology}
-use Rattle.fp_main.specs.Words.{AsksFor, IsCheck, Names, NamesTopology, Spells}
+use Rattle.fp_main.specs.Words.{AsksFor, IsCheck, IsMake, IsRun, Names, NamesTopology, Spells, load_words}
+use Rattle.fp_scenario_run.specs.declared.scenario.RunText.{RunText}
+use Rattle.fp_scenario_run.specs.declared.scenario.RunText.TheVariants.{Log, Counts}
 use Rattle.fp_main.specs.declared.words.Wanted.{Wanted}
 use Rattle.fp_main.specs.declared.words.Wanted.TheVariants.{Listing as Listed, OfTopology, Run}
 use Rattle.fp_main.specs.declared.words.TopologyText.{TopologyText}
@@ -50,12 +55,17 @@ source_least : (walked : Walked) (source : Source) (o : Option Refusal) → IsUn
 source_least walked source o clean l = behind_least walked source (phases source) clean o l
 
 -- words that spell what is wanted ask for their files
-pub spelled_asks : (words : List (List ℕ)) (wanted : Wanted) (names : List (List ℕ)) → Spells words wanted names → AsksFor words names
-spelled_asks words Listed names check = inl check
-spelled_asks words (OfTopology text name) names named = inr (name.now, inl (text, named))
-spelled_asks words (Run name scenario) names run = inr (name.now, inr (scenario.now, run))
+pub spelled_asks : (told : RunText) (words : List (List ℕ)) (wanted : Wanted) (names : List (List ℕ)) → Spells told words wanted names → AsksFor words names
+spelled_asks told words Listed names check = inl check
+spelled_asks told words (OfTopology text name) names named = inr (name.now, inl (text, named))
+spelled_asks told words (Run asked) names run = inr (asked.topology.now, inr (asked.scenario.now, run.1))
 
 module _ (words names : List (List ℕ)) where
+  -- what is told of a run
+  pub as_told : {E : Type 0} (files : FilesRun) (model : Model) (r : Result Due E) (text told : RunText) → text ≡ told
+      → IfOk r (λ due. IsDueOf text words names files model due.status due.output due.line) → IfOk r (λ due. IsDueOf told words names files model due.status due.output due.line)
+  as_told files model r text told same = subst (λ (x : RunText). IfOk r (λ due. IsDueOf x words names files model due.status due.output due.line)) same
+
   -- what is due of a model
   pub due_listing : (model : Model) (due : Due) (text : List ℕ) → due ≡ record { status = Done; output = text; line = [] } → text ≡ Listing model → IsCheck words names
       → IsDueOfText words names model due.status due.output due.line
@@ -71,11 +81,11 @@ module _ (words names : List (List ℕ)) where
   due_no_topology model due topology is lacking named =
       subst (λ (d : Due). IsDueOfText words names model d.status d.output d.line) (sym is) ((topology, named, lacking, refl), refl)
 
-  pub due_refused : (files : FilesRun) (source : Source) (refusal : Refusal) (due : Due) → AllWereRead files
+  pub due_refused : (told : RunText) (files : FilesRun) (source : Source) (refusal : Refusal) (due : Due) → AllWereRead files
       → due ≡ record { status = Refused; output = []; line = refusal_line (name_of source.names refusal.place.file) refusal.place refusal.rule }
-      → IsLeast (ModelBroken source) (Some refusal) → IsDueFor words names files source due.status due.output due.line
-  due_refused files source refusal due all is first =
-      subst (λ (d : Due). IsDueFor words names files source d.status d.output d.line) (sym is)
+      → IsLeast (ModelBroken source) (Some refusal) → IsDueFor told words names files source due.status due.output due.line
+  due_refused told files source refusal due all is first =
+      subst (λ (d : Due). IsDueFor told words names files source d.status d.output d.line) (sym is)
       (inl (refl, all, record { refusal = refusal; first = first; silent = refl; said = refl }))
 
 -- a rule that is broken in the source stands in one of the files that were read
@@ -102,24 +112,24 @@ model_among among places placed names files walked source f read broken =
     go (inr (inr (inr (inr (b, last), calm), still), quiet)) = behind b
 
 -- what a run writes that the words reach
-due_run : (words : List (List ℕ)) (files : FilesRun) (scenario : List ℕ) (reached : Reaches words files scenario) (status : Status) (output line : List ℕ)
-    → IsDueOfRun files scenario (tables_of reached.model reached.at) status output line → IsDue words files status output line
-due_run words files scenario reached Done output line d = inr (record { scenario = scenario; reached = reached; gives = d })
-due_run words files scenario reached Stuck output line d = record { scenario = scenario; reached = reached; gives = d }
-due_run words files scenario reached Spent output line d = record { scenario = scenario; reached = reached; gives = d }
-due_run words files scenario reached Asserted output line d = record { scenario = scenario; reached = reached; gives = d }
-due_run words files scenario reached Refused output line d = inr (record { scenario = scenario; reached = reached; says = d })
-due_run words files scenario reached ReadFault output line d = inr (record { scenario = scenario; reached = reached; says = d })
-due_run words files scenario reached NoFile output line d = inr (record { scenario = scenario; reached = reached; says = d })
-due_run words files scenario reached Usage output line d = absurd d
-due_run words files scenario reached WriteFault output line d = absurd d
-due_run words files scenario reached NoMemory output line d = absurd d
-due_run words files scenario reached NoTopology output line d = absurd d
+due_run : (told : RunText) (words : List (List ℕ)) (files : FilesRun) (scenario : List ℕ) (reached : Reaches words files scenario) (status : Status) (output line : List ℕ)
+    → IsDueOfRun told files scenario (tables_of reached.model reached.at) status output line → IsDueOfFiles told words files status output line
+due_run told words files scenario reached Done output line d = inr (record { scenario = scenario; reached = reached; gives = d })
+due_run told words files scenario reached Stuck output line d = record { scenario = scenario; reached = reached; gives = d }
+due_run told words files scenario reached Spent output line d = record { scenario = scenario; reached = reached; gives = d }
+due_run told words files scenario reached Asserted output line d = record { scenario = scenario; reached = reached; gives = d }
+due_run told words files scenario reached Refused output line d = inr (record { scenario = scenario; reached = reached; says = d })
+due_run told words files scenario reached ReadFault output line d = inr (record { scenario = scenario; reached = reached; says = d })
+due_run told words files scenario reached NoFile output line d = inr (record { scenario = scenario; reached = reached; says = d })
+due_run told words files scenario reached Usage output line d = absurd d
+due_run told words files scenario reached WriteFault output line d = absurd d
+due_run told words files scenario reached NoMemory output line d = absurd d
+due_run told words files scenario reached NoTopology output line d = absurd d
 
-module _ (words names : List (List ℕ)) (files : FilesRun) (asked : AsksFor words names) where
+module _ (told : RunText) (words names : List (List ℕ)) (files : FilesRun) (asked : AsksFor words names) where
   -- a text of a model of files that break no rule
   due_text : (walked : Walked) (source : Source) (read : AreRead names files walked source) (model : Model) (status : Status) (output line : List ℕ)
-      → IsUnbroken (SourceBroken walked source) → Defined source model → IsDueOfText words names model status output line → IsDue words files status output line
+      → IsUnbroken (SourceBroken walked source) → Defined source model → IsDueOfText words names model status output line → IsDueOfFiles told words files status output line
   due_text walked source read model Done output line unbroken defined d = inl (record {
     walked = walked;
     source = source;
@@ -174,7 +184,7 @@ module _ (words names : List (List ℕ)) (files : FilesRun) (asked : AsksFor wor
   -- a run over a topology of the source's model
   due_reached : (walked : Walked) (source : Source) (units : List (List Member)) (model : Model) (status : Status) (output line : List ℕ)
       → source ≡ source_of walked units → WalksFiles files.told names nothing_read (Went walked units) → IsUnbroken (SourceBroken walked source) → Defined source model
-      → IsDueOfReached words names files model status output line → IsDue words files status output line
+      → IsDueOfReached told words names files model status output line → IsDueOfFiles told words files status output line
   due_reached walked source units model status output line made read unbroken defined d =
       let reached : Reaches words files d.scenario = record {
         names = names;
@@ -189,14 +199,14 @@ module _ (words names : List (List ℕ)) (files : FilesRun) (asked : AsksFor wor
         at = d.at;
         there = d.there;
       } in
-      due_run words files d.scenario reached status output line d.due
+      due_run told words files d.scenario reached status output line d.due
 
   -- files that break no rule of tokens, of the grammar or of includes; what is read behind them are the same files
   due_behind : InFilesRead → PlacesInFiles → FaultsStand
       → (walked : Walked) (source : Source) (units : List (List Member)) (status : Status) (output line : List ℕ) → WalksFiles files.told names nothing_read (Went walked units)
-      → source ≡ source_of walked units → IsUnbroken (FilesBroken walked) → IsDueFor words names files source status output line → IsDue words files status output line
+      → source ≡ source_of walked units → IsUnbroken (FilesBroken walked) → IsDueFor told words names files source status output line → IsDueOfFiles told words files status output line
   due_behind among places placed walked source units status output line read made clean (inl (is, all, d)) =
-      subst (λ (s : Status). IsDue words files s output line) (sym is)
+      subst (λ (s : Status). IsDueOfFiles told words files s output line) (sym is)
       (inl (due_says among places placed walked source (record { sound = all.0; found = all.1; units = units; read = read; made = made }) output line clean d))
   due_behind among places placed walked source units status output line read made clean (inr (unbroken, (model, defined, inl (all, d)))) =
       due_text walked source (record { sound = all.0; found = all.1; units = units; read = read; made = made }) model status output line
@@ -234,16 +244,36 @@ module _ (words names : List (List ℕ)) (files : FilesRun) (asked : AsksFor wor
 -- ---- the files of the whole call
 
 -- what was told before, and read behind files of which each was read, is what the whole read
-module _ {F : Type 0} (told : F → Option (List HeldFile)) (faults misses : F → ℕ) (before between after : F) where
-  whole_is : told between ≡ told before → NoFault (files_run told faults misses before between) → NoMiss (files_run told faults misses before between)
-      → files_run told faults misses between after ≡ files_run told faults misses before after
+module _ (told : RunText) {F : Type 0} (held : F → Option (List HeldFile)) (faults misses : F → ℕ) (before between after : F) where
+  whole_is : held between ≡ held before → NoFault (files_run held faults misses before between) → NoMiss (files_run held faults misses before between)
+      → files_run held faults misses between after ≡ files_run held faults misses before after
   whole_is same sound found i = record { told = same i; faults_before = sound i; faults_after = faults after; misses_before = found i; misses_after = misses after }
 
   -- files that break no rule of tokens, of the grammar or of includes
   pub due_source : (words names : List (List ℕ)) → AsksFor words names → InFilesRead → PlacesInFiles → FaultsStand
-      → (source : Source) (status : Status) (output line : List ℕ) → told between ≡ told before → Gathers names (files_run told faults misses before between) (Ok source)
-      → IsDueFor words names (files_run told faults misses between after) source status output line → IsDue words (files_run told faults misses before after) status output line
+      → (source : Source) (status : Status) (output line : List ℕ) → held between ≡ held before → Gathers names (files_run held faults misses before between) (Ok source)
+      → IsDueFor told words names (files_run held faults misses between after) source status output line → IsDueOfFiles told words (files_run held faults misses before after) status output line
   due_source words names asked among places placed source status output line same g d =
-      subst (λ (files : FilesRun). IsDue words files status output line) (whole_is same g.1.sound g.1.found)
-      (due_behind words names (files_run told faults misses between after) asked among places placed g.0 source g.1.units status output line
+      subst (λ (files : FilesRun). IsDueOfFiles told words files status output line) (whole_is same g.1.sound g.1.found)
+      (due_behind told words names (files_run held faults misses between after) asked among places placed g.0 source g.1.units status output line
       (subst (λ (t : Option (List HeldFile)). WalksFiles t names nothing_read (Went g.0 g.1.units)) (sym same) g.1.read) g.1.made g.2 d)
+
+-- ---- the load
+
+-- the words that stand for the load ask for a run of it
+pub load_asked : (file : List ℕ) → file ≡ codes "make.fpp" → IsRun load_words (codes "Gen.T") (codes "make.json") (file ∷ [])
+load_asked file is = record { words_are = ap (λ (f : List ℕ). codes "run" ∷ codes "Gen.T" ∷ codes "make.json" ∷ f ∷ []) (sym is); some = lit< tt }
+
+-- what files hold that are those of the load
+abbrev pub holding : LoadFiles → FilesRun
+holding files = record { told = Some (both_files files.source files.scenario); faults_before = 0; faults_after = 0; misses_before = 0; misses_after = 0 }
+
+pub load_due : {E : Type 0} (instances : ℕ) (files : LoadFiles) (r : Result Due E) → files ≡ record { source = source_text instances; scenario = scenario_text instances }
+    → IfOk r (λ due. IsDueOfFiles (Counts instances) load_words (holding files) due.status due.output due.line)
+    → IfOk r (λ due. IsDueOfFiles (Counts instances) load_words (load_run instances) due.status due.output due.line)
+load_due instances files r are = subst (λ (f : LoadFiles). IfOk r (λ due. IsDueOfFiles (Counts instances) load_words (holding f) due.status due.output due.line)) are
+
+-- where the words ask for the load, what is due of it is due
+pub due_load : (words : List (List ℕ)) (files : FilesRun) (instances : ℕ) (due : Due) → IsMake words instances → AllWereRead files
+    → IsDueOfFiles (Counts instances) load_words (load_run instances) due.status due.output due.line → IsDue words files due.status due.output due.line
+due_load words files instances due asked unread d = inr (record { instances = instances; asked = asked; unread = unread; due = d })

@@ -1,8 +1,10 @@
 pub mod CausesComing
 pub mod CausesMeant
+pub mod Counting
 pub mod Dues
 pub mod Finding
 pub mod Givens
+pub mod Loads
 pub mod Scenarios
 pub mod SourcePhases
 pub mod Wording

@@ -14,11 +14,12 @@ use Rattle.fp_events.specs.declared.event.Finish.{Finish}
 use Rattle.fp_events.specs.declared.event.Finish.TheVariants as finish
 use Rattle.fp_scenario.specs.declared.scenario.ScenarioStop.{ScenarioStop}
 use Rattle.fp_scenario.specs.declared.scenario.ScenarioStop.TheVariants as stopped
-use Rattle.fp_scenario_run.specs.Logged.{IsLogOfText}
+use Rattle.fp_scenario_run.specs.Told.{IsToldBy}
+use Rattle.fp_scenario_run.specs.declared.scenario.RunText.{RunText}
 use Rattle.fp_scenario_run.specs.Planned.{BreaksNoRule, IsRefused}
 use Rattle.fp_gather.specs.FilesRun.{FilesRun, HadFault, HadMiss, Holds, IsHeld, NoFault, NoMiss}
 use Rattle.fp_main.specs.Lines.{no_file_line, read_fault_line, scenario_line}
-use Rattle.fp_main.specs.Output.{GivesLog, IsDueOfRun, IsScenarioRead}
+use Rattle.fp_main.specs.Output.{GivesRun, IsDueOfRun, IsScenarioRead}
 use Rattle.fp_main.specs.Statuses.{status_of}
 use Rattle.fp_main.specs.Topologies.{IsTopology}
 use Rattle.fp_main.specs.declared.answer.Due.{Due}
@@ -56,20 +57,20 @@ module _ (files : FilesRun) (scenario : List ℕ) where
 
 -- ---- what is due
 
-module _ (files : FilesRun) (scenario : List ℕ) (t : Described) where
+module _ (told : RunText) (files : FilesRun) (scenario : List ℕ) (t : Described) where
   abbrev pub IsDueHere : Due → Type 0
-  IsDueHere due = IsDueOfRun files scenario t due.status due.output due.line
+  IsDueHere due = IsDueOfRun told files scenario t due.status due.output due.line
 
-  by_end : (finish : Finish) (output line : List ℕ) → GivesLog finish files scenario t output line → IsDueOfRun files scenario t (status_of finish) output line
+  by_end : (finish : Finish) (output line : List ℕ) → GivesRun told finish files scenario t output line → IsDueOfRun told files scenario t (status_of finish) output line
   by_end finish.Complete output line d = d
   by_end finish.Stuck output line d = d
   by_end finish.Spent output line d = d
   by_end finish.Asserted output line d = d
 
-  pub due_log : (due : Due) (log text : List ℕ) (end : Finish) → due ≡ record { status = status_of end; output = log; line = [] } → IsScenarioRead files scenario text
-      → BreaksNoRule t text → IsLogOfText t text log end → IsDueHere due
-  due_log due log text end is read whole logged =
-      subst IsDueHere (sym is) (by_end end log [] (record { text = text; read = read; whole = whole; logged = logged; silent = refl }))
+  pub due_told : (due : Due) (output text : List ℕ) (end : Finish) → due ≡ record { status = status_of end; output = output; line = [] } → IsScenarioRead files scenario text
+      → BreaksNoRule t text → IsToldBy t told text output end → IsDueHere due
+  due_told due output text end is read whole tells =
+      subst IsDueHere (sym is) (by_end end output [] (record { text = text; read = read; whole = whole; tells = tells; silent = refl }))
 
   pub due_scenario_broken : (due : Due) (s : ScenarioStop) (stop : PathStop) (text line : List ℕ) → due ≡ record { status = Refused; output = []; line = line }
       → line ≡ scenario_line scenario stop.path stop.rule → s ≡ stopped.Broken stop → IsRefused t text s → IsScenarioRead files scenario text → IsDueHere due

@@ -1,8 +1,9 @@
 -- Words that have a form, and words that have none.
-use Rattle.std.proofs.Common.{◌≡◌, ◌<◌, ◌==◌, ℕ, List, [], ◌∷◌, ◌++◌, length, codes, Bool, true, false, refl, map, ◌∙◌, inl, inr, lit<, arith, sym, subst, eq-eqb, eqb→eq, T, Result}
+use Rattle.std.proofs.Common.{◌≡◌, ◌<◌, ◌≤◌, ◌+◌, ◌==◌, ℕ, List, [], ◌∷◌, ◌++◌, length, codes, decimal, Bool, true, false, refl, map, ◌∙◌, inl, inr, lit<, arith, sym, subst, eq-eqb, eqb→eq, T, Result}
+use Rattle.std.proofs.lemmas.Fmt.{decimal_injective}
 use Rattle.std.specs.Str.{bytes_eq}
 use Rattle.std.proofs.lemmas.Slice.Eq.{bytes_eq-Decides}
-use Rattle.fp_main.specs.Words.{AsksFor, BeginsForm, IsCheck, IsForm, IsRun, IsWrong, Names, NamesTopology, ReadsWords, word_of}
+use Rattle.fp_main.specs.Words.{AsksFor, BeginsForm, IsCheck, IsForm, IsMake, IsRun, IsWrong, Names, NamesTopology, ReadsWords, most_instances, word_of}
 use Rattle.fp_main.specs.declared.words.Command.{Command}
 use Rattle.fp_main.specs.declared.words.TopologyText.{TopologyText}
 use Rattle.fp_main.specs.declared.words.TopologyText.TheVariants.{Connections, Dictionary}
@@ -26,6 +27,16 @@ run_is_no_text Dictionary e = apart (codes "run") (codes "dict") refl e
 run_is_no_check : codes "run" ≡ codes "check" → ⊥
 run_is_no_check e = apart (codes "run") (codes "check") refl e
 
+make_is_no_text : (text : TopologyText) → codes "make" ≡ word_of text → ⊥
+make_is_no_text Connections e = apart (codes "make") (codes "ports") refl e
+make_is_no_text Dictionary e = apart (codes "make") (codes "dict") refl e
+
+make_is_no_check : codes "make" ≡ codes "check" → ⊥
+make_is_no_check e = apart (codes "make") (codes "check") refl e
+
+make_is_no_run : codes "make" ≡ codes "run" → ⊥
+make_is_no_run e = apart (codes "make") (codes "run") refl e
+
 pub check_names_nothing : (words names files : List (List ℕ)) (topology : List ℕ) → IsCheck words names → NamesTopology words topology files → ⊥
 check_names_nothing words names files topology check (inl (text, named)) =
     check_is_no_text text (head_same (codes "check") (word_of text) names (topology ∷ files) (sym check.words_are ∙ named.words_are))
@@ -47,6 +58,22 @@ same_run words a b t u s r x y = (second (sym x.words_are ∙ y.words_are), thir
 
     rest : codes "run" ∷ t ∷ s ∷ a ≡ codes "run" ∷ u ∷ r ∷ b → a ≡ b
     rest h = cc
+
+-- words that ask for the load ask for no files
+pub make_asks_nothing : (words files : List (List ℕ)) (instances : ℕ) → IsMake words instances → AsksFor words files → ⊥
+make_asks_nothing words files instances make (inl check) =
+    make_is_no_check (head_same (codes "make") (codes "check") (decimal instances ∷ []) files (sym make.words_are ∙ check.words_are))
+make_asks_nothing words files instances make (inr (topology, inl (text, named))) =
+    make_is_no_text text (head_same (codes "make") (word_of text) (decimal instances ∷ []) (topology ∷ files) (sym make.words_are ∙ named.words_are))
+make_asks_nothing words files instances make (inr (topology, inr (scenario, run))) =
+    make_is_no_run (head_same (codes "make") (codes "run") (decimal instances ∷ []) (topology ∷ scenario ∷ files) (sym make.words_are ∙ run.words_are))
+
+-- and for one number of instances
+pub same_make : (words : List (List ℕ)) (n m : ℕ) → IsMake words n → IsMake words m → n ≡ m
+same_make words n m a b = decimal_injective n m (omega (arith, a.few)) (omega (arith, b.few)) (second (sym a.words_are ∙ b.words_are))
+  where
+    second : codes "make" ∷ decimal n ∷ [] ≡ codes "make" ∷ decimal m ∷ [] → decimal n ≡ decimal m
+    second h = cc
 
 -- so many words with none behind them
 none_behind : (word other : List ℕ) (files : List (List ℕ)) → word ∷ [] ≡ other ∷ files → 0 < length files → ⊥
@@ -81,51 +108,65 @@ names_a text topology = record { words_are = refl; some = lit< tt }
 run_a : (topology scenario : List ℕ) → IsRun (codes "run" ∷ topology ∷ scenario ∷ codes "a" ∷ []) topology scenario (codes "a" ∷ [])
 run_a topology scenario = record { words_are = refl; some = lit< tt }
 
+make_one : IsMake (codes "make" ∷ codes "1" ∷ []) 1
+make_one = record { words_are = refl; some = lit< tt; few = omega arith }
+
 none_begins : BeginsForm []
-none_begins = (codes "check" ∷ codes "a" ∷ [], (codes "a" ∷ [], inl check_a))
+none_begins = (codes "check" ∷ codes "a" ∷ [], inl (codes "a" ∷ [], inl check_a))
 
 check_begins : BeginsForm (codes "check" ∷ [])
-check_begins = (codes "a" ∷ [], (codes "a" ∷ [], inl check_a))
+check_begins = (codes "a" ∷ [], inl (codes "a" ∷ [], inl check_a))
 
 text_begins : (text : TopologyText) → BeginsForm (word_of text ∷ [])
-text_begins text = (codes "T" ∷ codes "a" ∷ [], (codes "a" ∷ [], inr (codes "T", inl (text, names_a text (codes "T")))))
+text_begins text = (codes "T" ∷ codes "a" ∷ [], inl (codes "a" ∷ [], inr (codes "T", inl (text, names_a text (codes "T")))))
 
 topology_begins : (text : TopologyText) (topology : List ℕ) → BeginsForm (word_of text ∷ topology ∷ [])
-topology_begins text topology = (codes "a" ∷ [], (codes "a" ∷ [], inr (topology, inl (text, names_a text topology))))
+topology_begins text topology = (codes "a" ∷ [], inl (codes "a" ∷ [], inr (topology, inl (text, names_a text topology))))
 
 run_begins : BeginsForm (codes "run" ∷ [])
-run_begins = (codes "T" ∷ codes "s" ∷ codes "a" ∷ [], (codes "a" ∷ [], inr (codes "T", inr (codes "s", run_a (codes "T") (codes "s")))))
+run_begins = (codes "T" ∷ codes "s" ∷ codes "a" ∷ [], inl (codes "a" ∷ [], inr (codes "T", inr (codes "s", run_a (codes "T") (codes "s")))))
 
 run_over_begins : (topology : List ℕ) → BeginsForm (codes "run" ∷ topology ∷ [])
-run_over_begins topology = (codes "s" ∷ codes "a" ∷ [], (codes "a" ∷ [], inr (topology, inr (codes "s", run_a topology (codes "s")))))
+run_over_begins topology = (codes "s" ∷ codes "a" ∷ [], inl (codes "a" ∷ [], inr (topology, inr (codes "s", run_a topology (codes "s")))))
 
 scenario_begins : (topology scenario : List ℕ) → BeginsForm (codes "run" ∷ topology ∷ scenario ∷ [])
-scenario_begins topology scenario = (codes "a" ∷ [], (codes "a" ∷ [], inr (topology, inr (scenario, run_a topology scenario))))
+scenario_begins topology scenario = (codes "a" ∷ [], inl (codes "a" ∷ [], inr (topology, inr (scenario, run_a topology scenario))))
+
+make_begins : BeginsForm (codes "make" ∷ [])
+make_begins = (codes "1" ∷ [], inr (1, make_one))
+
+count_begins : (count : List ℕ) (instances : ℕ) → 0 < instances → instances ≤ most_instances → count ≡ decimal instances → BeginsForm (codes "make" ∷ count ∷ [])
+count_begins count instances some few is =
+    ([], inr (instances, record { words_are = subst (λ (w : List ℕ). codes "make" ∷ w ∷ [] ≡ codes "make" ∷ decimal instances ∷ []) (sym is) refl; some = some; few = few }))
 
 -- ---- what is no form
 
 -- no form has these words
 module _ (words : List (List ℕ)) (check : (files : List (List ℕ)) → IsCheck words files → ⊥)
     (text : (wanted : TopologyText) (topology : List ℕ) (files : List (List ℕ)) → Names wanted words topology files → ⊥)
-    (run : (topology scenario : List ℕ) (files : List (List ℕ)) → IsRun words topology scenario files → ⊥) where
+    (run : (topology scenario : List ℕ) (files : List (List ℕ)) → IsRun words topology scenario files → ⊥)
+    (make : (instances : ℕ) → IsMake words instances → ⊥) where
   no_asks : (files : List (List ℕ)) → AsksFor words files → ⊥
   no_asks files (inl asked) = check files asked
   no_asks files (inr (topology, inl (wanted, named))) = text wanted topology files named
   no_asks files (inr (topology, inr (scenario, asked))) = run topology scenario files asked
 
   no_form : IsForm words → ⊥
-  no_form form = no_asks form.0 form.1
+  no_form (inl (files, asked)) = no_asks files asked
+  no_form (inr (instances, asked)) = make instances asked
 
 none_is_none : IsForm [] → ⊥
 none_is_none =
     no_form [] (λ files c. none_alone (codes "check") files c.words_are) (λ text topology files n. none_alone (word_of text) (topology ∷ files) n.words_are)
     (λ topology scenario files r. none_alone (codes "run") (topology ∷ scenario ∷ files) r.words_are)
+    (λ instances m. none_alone (codes "make") (decimal instances ∷ []) m.words_are)
 
 one_is_none : (word : List ℕ) → IsForm (word ∷ []) → ⊥
 one_is_none word =
     no_form (word ∷ []) (λ files c. none_behind word (codes "check") files c.words_are c.some)
     (λ text topology files n. one_alone word (word_of text) topology files n.words_are)
     (λ topology scenario files r. one_alone word (codes "run") topology (scenario ∷ files) r.words_are)
+    (λ instances m. one_alone word (codes "make") (decimal instances) [] m.words_are)
 
 topology_is_none : (text : TopologyText) (topology : List ℕ) → IsForm (word_of text ∷ topology ∷ []) → ⊥
 topology_is_none text topology =
@@ -133,12 +174,14 @@ topology_is_none text topology =
     (λ files c. check_is_no_text text (sym (head_same (word_of text) (codes "check") (topology ∷ []) files c.words_are)))
     (λ other name files n. one_behind (word_of text) topology (word_of other) name files n.words_are n.some)
     (λ name scenario files r. two_alone (word_of text) topology (codes "run") name scenario files r.words_are)
+    (λ instances m. make_is_no_text text (sym (head_same (word_of text) (codes "make") (topology ∷ []) (decimal instances ∷ []) m.words_are)))
 
 run_over_is_none : (topology : List ℕ) → IsForm (codes "run" ∷ topology ∷ []) → ⊥
 run_over_is_none topology =
     no_form (codes "run" ∷ topology ∷ []) (λ files c. run_is_no_check (head_same (codes "run") (codes "check") (topology ∷ []) files c.words_are))
     (λ text name files n. run_is_no_text text (head_same (codes "run") (word_of text) (topology ∷ []) (name ∷ files) n.words_are))
     (λ name scenario files r. two_alone (codes "run") topology (codes "run") name scenario files r.words_are)
+    (λ instances m. make_is_no_run (sym (head_same (codes "run") (codes "make") (topology ∷ []) (decimal instances ∷ []) m.words_are)))
 
 scenario_is_none : (topology scenario : List ℕ) → IsForm (codes "run" ∷ topology ∷ scenario ∷ []) → ⊥
 scenario_is_none topology scenario =
@@ -146,23 +189,46 @@ scenario_is_none topology scenario =
     (λ files c. run_is_no_check (head_same (codes "run") (codes "check") (topology ∷ scenario ∷ []) files c.words_are))
     (λ text name files n. run_is_no_text text (head_same (codes "run") (word_of text) (topology ∷ scenario ∷ []) (name ∷ files) n.words_are))
     (λ name other files r. two_behind (codes "run") topology scenario (codes "run") name other files r.words_are r.some)
+    (λ instances m. make_is_no_run (sym (head_same (codes "run") (codes "make") (topology ∷ scenario ∷ []) (decimal instances ∷ []) m.words_are)))
 
-other_begins_none : (word : List ℕ) (words : List (List ℕ)) → (word ≡ codes "check" → ⊥) → (word ≡ codes "run" → ⊥) → ((text : TopologyText) → word ≡ word_of text → ⊥)
-    → BeginsForm (word ∷ words) → ⊥
-other_begins_none word words no_check no_run no_text begins =
+-- a count of another text, and one with words behind it
+count_is_none : (count : List ℕ) (more : List (List ℕ)) → ((n : ℕ) → 0 < n → n ≤ most_instances → count ≡ decimal n → ⊥) → IsForm (codes "make" ∷ count ∷ more) → ⊥
+count_is_none count more other =
+    no_form (codes "make" ∷ count ∷ more) (λ files c. make_is_no_check (head_same (codes "make") (codes "check") (count ∷ more) files c.words_are))
+    (λ text topology files n. make_is_no_text text (head_same (codes "make") (word_of text) (count ∷ more) (topology ∷ files) n.words_are))
+    (λ topology scenario files r. make_is_no_run (head_same (codes "make") (codes "run") (count ∷ more) (topology ∷ scenario ∷ files) r.words_are))
+    (λ instances m. other instances m.some m.few (second instances m.words_are))
+  where
+    second : (instances : ℕ) → codes "make" ∷ count ∷ more ≡ codes "make" ∷ decimal instances ∷ [] → count ≡ decimal instances
+    second instances h = cc
+
+further_is_none : (count word : List ℕ) (more : List (List ℕ)) → IsForm (codes "make" ∷ count ∷ word ∷ more) → ⊥
+further_is_none count word more =
+    no_form (codes "make" ∷ count ∷ word ∷ more) (λ files c. make_is_no_check (head_same (codes "make") (codes "check") (count ∷ word ∷ more) files c.words_are))
+    (λ text topology files n. make_is_no_text text (head_same (codes "make") (word_of text) (count ∷ word ∷ more) (topology ∷ files) n.words_are))
+    (λ topology scenario files r. make_is_no_run (head_same (codes "make") (codes "run") (count ∷ word ∷ more) (topology ∷ scenario ∷ files) r.words_are))
+    (λ instances m. third instances m.words_are)
+  where
+    third : (instances : ℕ) → codes "make" ∷ count ∷ word ∷ more ≡ codes "make" ∷ decimal instances ∷ [] → ⊥
+    third instances h = cc
+
+other_begins_none : (word : List ℕ) (words : List (List ℕ)) → (word ≡ codes "check" → ⊥) → (word ≡ codes "run" → ⊥) → (word ≡ codes "make" → ⊥)
+    → ((text : TopologyText) → word ≡ word_of text → ⊥) → BeginsForm (word ∷ words) → ⊥
+other_begins_none word words no_check no_run no_make no_text begins =
     no_form (word ∷ words ++ begins.0) (λ files c. no_check (head_same word (codes "check") (words ++ begins.0) files c.words_are))
     (λ text topology files n. no_text text (head_same word (word_of text) (words ++ begins.0) (topology ∷ files) n.words_are))
-    (λ topology scenario files r. no_run (head_same word (codes "run") (words ++ begins.0) (topology ∷ scenario ∷ files) r.words_are)) begins.1
+    (λ topology scenario files r. no_run (head_same word (codes "run") (words ++ begins.0) (topology ∷ scenario ∷ files) r.words_are))
+    (λ instances m. no_make (head_same word (codes "make") (words ++ begins.0) (decimal instances ∷ []) m.words_are)) begins.1
 
 -- ---- the first word that doesn't fit or is missing
 
 missing_command : IsWrong [] 1
 missing_command = record { counted = lit< tt; begun = none_begins; ends = inr (refl, none_is_none) }
 
-other_command : (word : List ℕ) (words : List (List ℕ)) → (word ≡ codes "check" → ⊥) → (word ≡ codes "run" → ⊥) → ((text : TopologyText) → word ≡ word_of text → ⊥)
-    → IsWrong (word ∷ words) 1
-other_command word words no_check no_run no_text =
-    record { counted = lit< tt; begun = none_begins; ends = inl (omega arith, other_begins_none word [] no_check no_run no_text) }
+other_command : (word : List ℕ) (words : List (List ℕ)) → (word ≡ codes "check" → ⊥) → (word ≡ codes "run" → ⊥) → (word ≡ codes "make" → ⊥)
+    → ((text : TopologyText) → word ≡ word_of text → ⊥) → IsWrong (word ∷ words) 1
+other_command word words no_check no_run no_make no_text =
+    record { counted = lit< tt; begun = none_begins; ends = inl (omega arith, other_begins_none word [] no_check no_run no_make no_text) }
 
 missing_file : IsWrong (codes "check" ∷ []) 2
 missing_file = record { counted = lit< tt; begun = check_begins; ends = inr (refl, one_is_none (codes "check")) }
@@ -181,6 +247,17 @@ missing_scenario topology = record { counted = lit< tt; begun = run_over_begins 
 
 missing_scenario_file : (topology scenario : List ℕ) → IsWrong (codes "run" ∷ topology ∷ scenario ∷ []) 4
 missing_scenario_file topology scenario = record { counted = lit< tt; begun = scenario_begins topology scenario; ends = inr (refl, scenario_is_none topology scenario) }
+
+missing_count : IsWrong (codes "make" ∷ []) 2
+missing_count = record { counted = lit< tt; begun = make_begins; ends = inr (refl, one_is_none (codes "make")) }
+
+other_count : (count : List ℕ) (more : List (List ℕ)) → ((n : ℕ) → 0 < n → n ≤ most_instances → count ≡ decimal n → ⊥) → IsWrong (codes "make" ∷ count ∷ more) 2
+other_count count more other = record { counted = lit< tt; begun = make_begins; ends = inl (omega arith, λ begins. count_is_none count begins.0 other begins.1) }
+
+further_word : (count word : List ℕ) (more : List (List ℕ)) (instances : ℕ) → 0 < instances → instances ≤ most_instances → count ≡ decimal instances
+    → IsWrong (codes "make" ∷ count ∷ word ∷ more) 3
+further_word count word more instances some few is =
+    record { counted = lit< tt; begun = count_begins count instances some few is; ends = inl (omega arith, λ begins. further_is_none count word begins.0 begins.1) }
 
 -- ---- the same, of words that stand for their bytes
 
@@ -217,14 +294,42 @@ module _ {S : Type 0} (bytes : S → List ℕ) where
   check_of [] some = absurd (some refl)
   check_of (file ∷ files) some = record { words_are = refl; some = omega arith }
 
-  pub other_command_of : (words : List S) (word : S) (files : List S) (first second third : List ℕ) (is_check is_run : Bool)
-      → words ≡ word ∷ files → first ≡ bytes word → is_check ≡ bytes_eq first (codes "check") → is_check ≡ false
-      → second ≡ bytes word → is_run ≡ bytes_eq second (codes "run") → is_run ≡ false
-      → third ≡ bytes word → ((text : TopologyText) → third ≡ word_of text → ⊥) → IsWrong (map bytes words) 1
-  other_command_of words word files first second third is_check is_run e one check no_check two run no_run three no_text_there =
+  pub other_command_of : (words : List S) (word : S) (files : List S) (read : List ℕ) (is_check is_run is_make : Bool)
+      → words ≡ word ∷ files → read ≡ bytes word → is_check ≡ bytes_eq read (codes "check") → is_check ≡ false
+      → is_run ≡ bytes_eq read (codes "run") → is_run ≡ false → is_make ≡ bytes_eq read (codes "make") → is_make ≡ false
+      → ((text : TopologyText) → read ≡ word_of text → ⊥) → IsWrong (map bytes words) 1
+  other_command_of words word files read is_check is_run is_make e is check no_check run no_run make no_make no_text_there =
       subst (λ (ws : List S). IsWrong (map bytes ws) 1) (sym e)
-      (other_command (bytes word) (map bytes files) (differs (codes "check") first (bytes word) is_check one check no_check)
-      (differs (codes "run") second (bytes word) is_run two run no_run) (λ text h. no_text_there text (three ∙ h)))
+      (other_command (bytes word) (map bytes files) (differs (codes "check") read (bytes word) is_check is check no_check)
+      (differs (codes "run") read (bytes word) is_run is run no_run) (differs (codes "make") read (bytes word) is_make is make no_make) (λ text h. no_text_there text (is ∙ h)))
+
+  -- behind the word `make`
+  pub missing_count_of : (words : List S) → length words ≡ 0 → IsWrong (codes "make" ∷ map bytes words) 2
+  missing_count_of [] e = missing_count
+  missing_count_of (word ∷ words) e = absurd (omega (arith, e))
+
+  module _ (words more : List S) (count : S) (read : List ℕ) (split : words ≡ count ∷ more) (is : read ≡ bytes count) where
+    at_words : (P : List (List ℕ) → Type 0) → P (codes "make" ∷ read ∷ map bytes more) → P (codes "make" ∷ map bytes words)
+    at_words P h =
+        subst (λ (ws : List S). P (codes "make" ∷ map bytes ws)) (sym split) (subst (λ (w : List ℕ). P (codes "make" ∷ w ∷ map bytes more)) is h)
+
+    pub other_count_of : ((n : ℕ) → 0 < n → n ≤ most_instances → read ≡ decimal n → ⊥) → IsWrong (codes "make" ∷ map bytes words) 2
+    other_count_of other = at_words (λ ws. IsWrong ws 2) (other_count read (map bytes more) other)
+
+    module _ (instances : ℕ) (some : 0 < instances) (few : instances ≤ most_instances) (spelled : read ≡ decimal instances) where
+      pub make_of : length more ≡ 0 → IsMake (codes "make" ∷ map bytes words) instances
+      make_of none = at_words (λ ws. IsMake ws instances) (go more none)
+        where
+          go : (more : List S) → length more ≡ 0 → IsMake (codes "make" ∷ read ∷ map bytes more) instances
+          go [] e = record { words_are = subst (λ (w : List ℕ). codes "make" ∷ read ∷ [] ≡ codes "make" ∷ w ∷ []) spelled refl; some = some; few = few }
+          go (word ∷ words) e = absurd (omega (arith, e))
+
+      pub further_word_of : (length more ≡ 0 → ⊥) → IsWrong (codes "make" ∷ map bytes words) 3
+      further_word_of left = at_words (λ ws. IsWrong ws 3) (go more left)
+        where
+          go : (more : List S) → (length more ≡ 0 → ⊥) → IsWrong (codes "make" ∷ read ∷ map bytes more) 3
+          go [] left = absurd (left refl)
+          go (word ∷ words) left = further_word read (bytes word) (map bytes words) instances some few spelled
 
   -- behind the word `run`
   pub missing_run_topology_of : (words : List S) → length words ≡ 0 → IsWrong (codes "run" ∷ map bytes words) 2

@@ -13,16 +13,18 @@ use Rattle.fp_tables.specs.Lookup.{Described}
 use Rattle.fp_events.specs.declared.event.Finish.{Finish}
 use Rattle.fp_events.specs.declared.event.Finish.TheVariants as finish
 use Rattle.fp_events.specs.declared.event.Finish.TheVariants.{Complete}
-use Rattle.fp_scenario_run.specs.Logged.{IsLogOfText}
+use Rattle.fp_scenario_run.specs.Told.{IsToldBy}
+use Rattle.fp_scenario_run.specs.declared.scenario.RunText.{RunText}
+use Rattle.fp_scenario_run.specs.declared.scenario.RunText.TheVariants.{Log, Counts}
 use Rattle.fp_scenario_run.specs.Planned.{BreaksNoRule, BreaksRule}
 use Rattle.fp_main.specs.Delivery.{SinkRun, Adds, OutFailed, DiagFailed}
 use Rattle.fp_main.specs.Delivery as delivery
 use Rattle.fp_gather.specs.FilesRun.{FilesRun, HadFault, HadMiss, NoFault, NoMiss, Holds}
 use Rattle.fp_main.specs.Broken.{SourceBroken}
 use Rattle.fp_main.specs.Lines.{usage_line, refusal_line, read_fault_line, no_file_line, no_topology_line, no_memory_line, scenario_line}
-use Rattle.fp_main.specs.Output.{IsRead, IsDue, IsScenarioRead, IsText, Reaches, tables_of}
+use Rattle.fp_main.specs.Output.{IsRead, IsDue, IsScenarioRead, IsText, Reaches, load_run, tables_of}
 use Rattle.fp_main.specs.Topologies.{HasTopology, IsTopology, LacksTopology}
-use Rattle.fp_main.specs.Words.{AsksFor, IsRun, IsWrong, NamesTopology}
+use Rattle.fp_main.specs.Words.{AsksFor, IsMake, IsRun, IsWrong, NamesTopology, load_words}
 use Rattle.fp_gather.specs.gathering.Gathered.{IsAbsent, IsUnread, StandsAmong, name_of, names_read, source_of}
 use Rattle.fp_gather.specs.gathering.Walks.{NoFile as IsMissing, Outcome, Stops, Walked, WalksFiles, Went, nothing_read}
 use Rattle.fp_main.specs.declared.status.Status.{Status}
@@ -51,6 +53,10 @@ pub record Asked (words : List (List ℕ)) (files : FilesRun) (outcome : Outcome
   pub names : List (List ℕ)
   pub asked : AsksFor words names
   pub walks : WalksFiles (Some held) names nothing_read outcome
+
+-- it holds of the words and the files; or the words are `make COUNT`, and it holds of the words and the files of the load, of which counts are told
+abbrev pub OrOfLoad : (RunText → List (List ℕ) → FilesRun → Type 0) → List (List ℕ) → FilesRun → Type 0
+OrOfLoad P words files = P Log words files ⊎ ((instances : ℕ) × IsMake words instances × P (Counts instances) load_words (load_run instances))
 
 -- ---- what stands written
 
@@ -84,7 +90,8 @@ ScenarioRefused words files out diag =
     × ((rule : Rule) × (path : List ℕ) × BreaksRule (tables_of reached.model reached.at) text rule path × Says (scenario_line scenario path rule) out diag)
 
 abbrev pub RefusedMeans : List (List ℕ) → FilesRun → SinkRun → SinkRun → Status → Type 0
-RefusedMeans words files out diag status = status ≡ Refused → SourceRefused words files out diag ⊎ ScenarioRefused words files out diag
+RefusedMeans words files out diag status =
+    status ≡ Refused → OrOfLoad (λ told ws fs. SourceRefused ws fs out diag ⊎ ScenarioRefused ws fs out diag) words files
 
 -- out got the text that the words ask for
 abbrev pub WroteText : List (List ℕ) → FilesRun → SinkRun → Type 0
@@ -92,28 +99,34 @@ WroteText words files out =
     (walked : Walked) × (source : Source) × (read : IsRead words files walked source) × IsUnbroken (SourceBroken walked source)
     × ((model : Model) × Defined source model × ((text : List ℕ) × IsText words read.names model text × Adds text out))
 
--- out got the log of a run of the model's tables and of the program that the scenario stands for, which has this end
-abbrev pub WroteLog : Finish → List (List ℕ) → FilesRun → SinkRun → Type 0
-WroteLog finish words files out =
+-- out got what is to be told of a run of the model's tables and of the program that the scenario stands for, which has this end
+abbrev pub WroteRun : Finish → RunText → List (List ℕ) → FilesRun → SinkRun → Type 0
+WroteRun finish told words files out =
     (scenario text : List ℕ) × (reached : Reaches words files scenario) × IsScenarioRead files scenario text
-    × ((log : List ℕ) × IsLogOfText (tables_of reached.model reached.at) text log finish × Adds log out)
+    × ((written : List ℕ) × IsToldBy (tables_of reached.model reached.at) told text written finish × Adds written out)
 
 abbrev pub DoneMeans : List (List ℕ) → FilesRun → SinkRun → SinkRun → Status → Type 0
-DoneMeans words files out diag status = status ≡ Done → (WroteText words files out ⊎ WroteLog Complete words files out) × Adds [] diag
+DoneMeans words files out diag status =
+    status ≡ Done → OrOfLoad (λ told ws fs. WroteText ws fs out ⊎ WroteRun Complete told ws fs out) words files × Adds [] diag
 
 abbrev pub StuckMeans : List (List ℕ) → FilesRun → SinkRun → SinkRun → Status → Type 0
-StuckMeans words files out diag status = status ≡ Stuck → WroteLog finish.Stuck words files out × Adds [] diag
+StuckMeans words files out diag status = status ≡ Stuck → OrOfLoad (λ told ws fs. WroteRun finish.Stuck told ws fs out) words files × Adds [] diag
 
 abbrev pub SpentMeans : List (List ℕ) → FilesRun → SinkRun → SinkRun → Status → Type 0
-SpentMeans words files out diag status = status ≡ Spent → WroteLog finish.Spent words files out × Adds [] diag
+SpentMeans words files out diag status = status ≡ Spent → OrOfLoad (λ told ws fs. WroteRun finish.Spent told ws fs out) words files × Adds [] diag
 
 abbrev pub AssertedMeans : List (List ℕ) → FilesRun → SinkRun → SinkRun → Status → Type 0
-AssertedMeans words files out diag status = status ≡ Asserted → WroteLog finish.Asserted words files out × Adds [] diag
+AssertedMeans words files out diag status =
+    status ≡ Asserted → OrOfLoad (λ told ws fs. WroteRun finish.Asserted told ws fs out) words files × Adds [] diag
+
+-- no rule of the source is broken, and its model has no topology of the name in the words
+abbrev pub SaidNoTopology : List (List ℕ) → FilesRun → SinkRun → SinkRun → Type 0
+SaidNoTopology words files out diag =
+    (walked : Walked) × (source : Source) × (read : IsRead words files walked source) × (name : List ℕ) × NamesTopology words name read.names
+    × IsUnbroken (SourceBroken walked source) × ((model : Model) × Defined source model × LacksTopology model name) × Says (no_topology_line name) out diag
 
 abbrev pub NoTopologyMeans : List (List ℕ) → FilesRun → SinkRun → SinkRun → Status → Type 0
-NoTopologyMeans words files out diag status =
-    status ≡ NoTopology → (walked : Walked) × (source : Source) × (read : IsRead words files walked source) × (name : List ℕ) × NamesTopology words name read.names
-    × IsUnbroken (SourceBroken walked source) × ((model : Model) × Defined source model × LacksTopology model name) × Says (no_topology_line name) out diag
+NoTopologyMeans words files out diag status = status ≡ NoTopology → OrOfLoad (λ told ws fs. SaidNoTopology ws fs out diag) words files
 
 -- out has a proper front of the output that was due, and diag the line that says so, or a proper front of it; or out has nothing,
 -- and diag a proper front of the line that was due
@@ -201,3 +214,14 @@ NoTopologyComes words files status =
     (walked : Walked) (units : List (List Member)) (name : List ℕ) (names : List (List ℕ))
     → Asked words files (Went walked units) → IsUnbroken (SourceBroken walked (source_of walked units)) → NamesTopology words name names
     → ((model : Model) → Defined (source_of walked units) model → LacksTopology model name) → Sound files → EndsAs NoTopology status
+
+-- what comes of a run of the load, by what its files tell
+pub record LoadComes (files : FilesRun) (out diag : SinkRun) (status : Status) : Type 0 where
+  pub refused : RefusedComes load_words files status
+  pub no_topology : NoTopologyComes load_words files status
+  pub scenario_refused : ScenarioRefusedComes load_words files status
+  pub run : RunComes load_words files out diag status
+
+-- the words are `make COUNT`
+abbrev pub MakeComes : List (List ℕ) → SinkRun → SinkRun → Status → Type 0
+MakeComes words out diag status = (instances : ℕ) → IsMake words instances → LoadComes (load_run instances) out diag status

@@ -20,10 +20,13 @@ use Rattle.fp_tables.specs.Lookup.{Described}
 use Rattle.fp_events.specs.declared.event.Finish.{Finish}
 use Rattle.fp_events.specs.declared.event.Finish.TheVariants as finish
 use Rattle.fp_events.specs.declared.event.Finish.TheVariants.{Complete}
-use Rattle.fp_scenario_run.specs.Logged.{IsLogOfText}
+use Rattle.fp_load.specs.Held.{load_files}
+use Rattle.fp_scenario_run.specs.Told.{IsToldBy}
 use Rattle.fp_scenario_run.specs.Planned.{BreaksNoRule, BreaksRule}
 use Rattle.fp_main.specs.Topologies.{IsTopology, LacksTopology}
-use Rattle.fp_main.specs.Words.{AsksFor, IsCheck, IsRun, IsWrong, Names, NamesTopology}
+use Rattle.fp_scenario_run.specs.declared.scenario.RunText.{RunText}
+use Rattle.fp_scenario_run.specs.declared.scenario.RunText.TheVariants.{Log, Counts}
+use Rattle.fp_main.specs.Words.{AsksFor, IsCheck, IsMake, IsRun, IsWrong, Names, NamesTopology, load_words}
 use Rattle.fp_main.specs.declared.words.TopologyText.{TopologyText}
 use Rattle.fp_main.specs.declared.words.TopologyText.TheVariants.{Connections, Dictionary}
 use Rattle.fp_main.specs.declared.status.Status.{Status}
@@ -142,12 +145,12 @@ pub record IsScenarioRead (files : FilesRun) (scenario text : List ℕ) : Type 0
   pub found : NoMiss files
   pub held : Holds files scenario (Some text)
 
--- the log of a run of the tables by the scenario's text, which has this end
-pub record GivesLog (finish : Finish) (files : FilesRun) (scenario : List ℕ) (t : Described) (output line : List ℕ) : Type 0 where
+-- what is told of a run of the tables by the scenario's text, which has this end
+pub record GivesRun (told : RunText) (finish : Finish) (files : FilesRun) (scenario : List ℕ) (t : Described) (output line : List ℕ) : Type 0 where
   pub text : List ℕ
   pub read : IsScenarioRead files scenario text
   pub whole : BreaksNoRule t text
-  pub logged : IsLogOfText t text output finish
+  pub tells : IsToldBy t told text output finish
   pub silent : line ≡ []
 
 -- a rule of scenarios is broken at a path
@@ -176,10 +179,10 @@ pub record SaysScenarioAbsent (files : FilesRun) (scenario output line : List �
   pub said : line ≡ no_file_line scenario
 
 -- the same, where the words ask for it
-pub record DueRun (finish : Finish) (words : List (List ℕ)) (files : FilesRun) (output line : List ℕ) : Type 0 where
+pub record DueRun (told : RunText) (finish : Finish) (words : List (List ℕ)) (files : FilesRun) (output line : List ℕ) : Type 0 where
   pub scenario : List ℕ
   pub reached : Reaches words files scenario
-  pub gives : GivesLog finish files scenario (tables_of reached.model reached.at) output line
+  pub gives : GivesRun told finish files scenario (tables_of reached.model reached.at) output line
 
 pub record DueScenarioRefused (words : List (List ℕ)) (files : FilesRun) (output line : List ℕ) : Type 0 where
   pub scenario : List ℕ
@@ -199,15 +202,15 @@ pub record DueScenarioAbsent (words : List (List ℕ)) (files : FilesRun) (outpu
 -- ---- what is due of a model and of a source, of which the files are read
 
 -- a run of the tables by the scenario in the file of this name
-abbrev pub IsDueOfRun : FilesRun → List ℕ → Described → Status → List ℕ → List ℕ → Type 0
-IsDueOfRun files scenario t Done output line = GivesLog Complete files scenario t output line
-IsDueOfRun files scenario t Stuck output line = GivesLog finish.Stuck files scenario t output line
-IsDueOfRun files scenario t Spent output line = GivesLog finish.Spent files scenario t output line
-IsDueOfRun files scenario t Asserted output line = GivesLog finish.Asserted files scenario t output line
-IsDueOfRun files scenario t Refused output line = SaysScenarioBroken files scenario t output line
-IsDueOfRun files scenario t ReadFault output line = SaysScenarioUnread files scenario output line
-IsDueOfRun files scenario t NoFile output line = SaysScenarioAbsent files scenario output line
-IsDueOfRun files scenario t _ output line = ⊥
+abbrev pub IsDueOfRun : RunText → FilesRun → List ℕ → Described → Status → List ℕ → List ℕ → Type 0
+IsDueOfRun told files scenario t Done output line = GivesRun told Complete files scenario t output line
+IsDueOfRun told files scenario t Stuck output line = GivesRun told finish.Stuck files scenario t output line
+IsDueOfRun told files scenario t Spent output line = GivesRun told finish.Spent files scenario t output line
+IsDueOfRun told files scenario t Asserted output line = GivesRun told finish.Asserted files scenario t output line
+IsDueOfRun told files scenario t Refused output line = SaysScenarioBroken files scenario t output line
+IsDueOfRun told files scenario t ReadFault output line = SaysScenarioUnread files scenario output line
+IsDueOfRun told files scenario t NoFile output line = SaysScenarioAbsent files scenario output line
+IsDueOfRun told files scenario t _ output line = ⊥
 
 -- a text of a model, or that it has no topology of the name in the words
 abbrev pub IsDueOfText : List (List ℕ) → List (List ℕ) → Model → Status → List ℕ → List ℕ → Type 0
@@ -217,38 +220,53 @@ IsDueOfText words names model NoTopology output line =
 IsDueOfText words names model _ output line = ⊥
 
 -- a run over the topology in the words
-pub record IsDueOfReached (words names : List (List ℕ)) (files : FilesRun) (model : Model) (status : Status) (output line : List ℕ) : Type 0 where
+pub record IsDueOfReached (told : RunText) (words names : List (List ℕ)) (files : FilesRun) (model : Model) (status : Status) (output line : List ℕ) : Type 0 where
   pub topology : List ℕ
   pub scenario : List ℕ
   pub asked : IsRun words topology scenario names
   pub at : ℕ
   pub there : IsTopology model topology at
-  pub due : IsDueOfRun files scenario (tables_of model at) status output line
+  pub due : IsDueOfRun told files scenario (tables_of model at) status output line
 
 -- what words that ask for these files have to write of a model
-abbrev pub IsDueOf : List (List ℕ) → List (List ℕ) → FilesRun → Model → Status → List ℕ → List ℕ → Type 0
-IsDueOf words names files model status output line =
-    (AllWereRead files × IsDueOfText words names model status output line) ⊎ IsDueOfReached words names files model status output line
+abbrev pub IsDueOf : RunText → List (List ℕ) → List (List ℕ) → FilesRun → Model → Status → List ℕ → List ℕ → Type 0
+IsDueOf told words names files model status output line =
+    (AllWereRead files × IsDueOfText words names model status output line) ⊎ IsDueOfReached told words names files model status output line
 
 -- what they have to write for a source whose files and includes break no rule
-abbrev pub IsDueFor : List (List ℕ) → List (List ℕ) → FilesRun → Source → Status → List ℕ → List ℕ → Type 0
-IsDueFor words names files source status output line =
+abbrev pub IsDueFor : RunText → List (List ℕ) → List (List ℕ) → FilesRun → Source → Status → List ℕ → List ℕ → Type 0
+IsDueFor told words names files source status output line =
     ((status ≡ Refused) × AllWereRead files × SaysBroken (ModelBroken source) source.names output line)
-    ⊎ (IsUnbroken (ModelBroken source) × ((model : Model) × Defined source model × IsDueOf words names files model status output line))
+    ⊎ (IsUnbroken (ModelBroken source) × ((model : Model) × Defined source model × IsDueOf told words names files model status output line))
+
+-- what words of a form with files, and wrong words, have to write for each status, where every write succeeds
+abbrev pub IsDueOfFiles : RunText → List (List ℕ) → FilesRun → Status → List ℕ → List ℕ → Type 0
+IsDueOfFiles told words files Done output line = DueText words files output line ⊎ DueRun told Complete words files output line
+IsDueOfFiles told words files Stuck output line = DueRun told finish.Stuck words files output line
+IsDueOfFiles told words files Spent output line = DueRun told finish.Spent words files output line
+IsDueOfFiles told words files Asserted output line = DueRun told finish.Asserted words files output line
+IsDueOfFiles told words files Refused output line = DueRefused words files output line ⊎ DueScenarioRefused words files output line
+IsDueOfFiles told words files Usage output line = DueUsage words files output line
+IsDueOfFiles told words files ReadFault output line = DueReadFault words files output line ⊎ DueScenarioUnread words files output line
+IsDueOfFiles told words files NoFile output line = DueNoFile words files output line ⊎ DueScenarioAbsent words files output line
+IsDueOfFiles told words files NoTopology output line = DueNoTopology words files output line
+IsDueOfFiles told words files NoMemory output line = (output ≡ []) × (line ≡ no_memory_line)
+IsDueOfFiles told words files _ output line = ⊥
+
+-- the files that hold the load, of which no read fails or finds nothing
+abbrev pub load_run : ℕ → FilesRun
+load_run instances = record { told = Some (load_files instances); faults_before = 0; faults_after = 0; misses_before = 0; misses_after = 0 }
+
+-- the words are `make COUNT`, and this is due of a run of the load, of which its counts are told; the files of the call aren't read
+pub record DueOfLoad (words : List (List ℕ)) (files : FilesRun) (status : Status) (output line : List ℕ) : Type 0 where
+  pub instances : ℕ
+  pub asked : IsMake words instances
+  pub unread : AllWereRead files
+  pub due : IsDueOfFiles (Counts instances) load_words (load_run instances) status output line
 
 -- what has to be written for each status, where every write succeeds
 abbrev pub IsDue : List (List ℕ) → FilesRun → Status → List ℕ → List ℕ → Type 0
-IsDue words files Done output line = DueText words files output line ⊎ DueRun Complete words files output line
-IsDue words files Stuck output line = DueRun finish.Stuck words files output line
-IsDue words files Spent output line = DueRun finish.Spent words files output line
-IsDue words files Asserted output line = DueRun finish.Asserted words files output line
-IsDue words files Refused output line = DueRefused words files output line ⊎ DueScenarioRefused words files output line
-IsDue words files Usage output line = DueUsage words files output line
-IsDue words files ReadFault output line = DueReadFault words files output line ⊎ DueScenarioUnread words files output line
-IsDue words files NoFile output line = DueNoFile words files output line ⊎ DueScenarioAbsent words files output line
-IsDue words files NoTopology output line = DueNoTopology words files output line
-IsDue words files NoMemory output line = (output ≡ []) × (line ≡ no_memory_line)
-IsDue words files _ output line = ⊥
+IsDue words files status output line = IsDueOfFiles Log words files status output line ⊎ DueOfLoad words files status output line
 
 -- what a call writes, and its status
 pub record Output (words : List (List ℕ)) (files : FilesRun) (out diag : SinkRun) (status : Status) : Type 0 where

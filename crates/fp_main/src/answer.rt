@@ -10,15 +10,17 @@ ghost use Rattle.fp_tables.specs.Positions.{lists_are_short};
 ghost use Rattle.fp_tables.specs.Sound.{IsSound, IsSoundWith};
 ghost use Rattle.fp_tables.specs.declared.topology.Topology.{Topology};
 ghost use Rattle.fp_main.specs.Lines.{no_topology_line as lacking_line, refusal_line as line_of};
-ghost use Rattle.fp_main.specs.Output.{IsDue, IsDueFor, IsDueOf, IsDueOfText, IsTopologyText};
+ghost use Rattle.fp_main.specs.Output.{IsDue, IsDueFor, IsDueOf, IsDueOfFiles, IsDueOfText, IsTopologyText};
 ghost use Rattle.fp_main.specs.declared.status.Status.TheVariants.{Done, NoTopology, Refused};
-ghost use Rattle.fp_main.specs.Words.{IsCheck, IsWrong, Names, Spells};
+ghost use Rattle.fp_main.specs.Words.{AsksFor, IsCheck, Names, Spells};
+ghost use Rattle.fp_scenario_run.specs.declared.scenario.RunText.{RunText};
 
 use crate::lines::{no_file_line, no_topology_line, read_fault_line, refusal_line, usage_line};
+use crate::making::answer_load;
 use crate::running::answer_run;
 use crate::status::Status;
 use crate::topologies::topology_named;
-use crate::words::{TopologyText, Wanted, read_words};
+use crate::words::{Command, TopologyText, Wanted, read_words};
 use fp_base::{NoMemory, Refusal, Row, Stop};
 use fp_dictionary::dictionary;
 use fp_enum_sites::{enumerations_have_constants, part_enumerations_have_constants};
@@ -91,14 +93,12 @@ where
     G: Gate,
     requires sound { IsSound model }
     requires sound_with { (t : ℕ) (o : Topology) → slice_get model.topologies t ≡ Some o → IsSoundWith model o }
-    ensures { (words names : List (List ℕ)) → Spells words wanted.entry names → IfOk result (λ due. IsDueOf words names (files_run F.told F.faults F.misses files.old files.new) model due.status due.output due.line) }
+    ensures { (told : RunText) (words names : List (List ℕ)) → Spells told words wanted.entry names → IfOk result (λ due. IsDueOf told words names (files_run F.told F.faults F.misses files.old files.new) model due.status due.output due.line) }
 {
     match wanted {
         Wanted::Listing => answer_check(alloc, &model),
         Wanted::OfTopology { text, name } => answer_topology(alloc, &model, text, name),
-        Wanted::Run { name, scenario } => {
-            answer_run(rt, alloc, model, name, scenario, files, gate)
-        }
+        Wanted::Run(run) => answer_run(rt, alloc, model, run, files, gate),
     }
 }
 
@@ -171,7 +171,7 @@ where
     requires parts { PartsAreNamed source.now }
     requires enumerations { EnumsHaveConstants source.now }
     requires machines { MachinesAreOrdered source.now }
-    ensures { (words names : List (List ℕ)) → Spells words wanted.entry names → IfOk result (λ due. IsDueFor words names (files_run F.told F.faults F.misses files.old files.new) source.now due.status due.output due.line) }
+    ensures { (told : RunText) (words names : List (List ℕ)) → Spells told words wanted.entry names → IfOk result (λ due. IsDueFor told words names (files_run F.told F.faults F.misses files.old files.new) source.now due.status due.output due.line) }
 {
     match resolve(alloc, source) {
         Ok(model) => answer_model(rt, alloc, model, wanted, files, gate),
@@ -181,7 +181,7 @@ where
 }
 
 /// What is due for words that ask for this, with the files of these names.
-fn answer_files<R, F, G>(
+pub fn answer_files<R, F, G>(
     rt: &R,
     alloc: Global,
     wanted: Wanted,
@@ -193,7 +193,7 @@ where
     R: Threads + Wait + Sync,
     F: Files,
     G: Gate,
-    ensures { (words : List (List ℕ)) → Spells words wanted.entry (map string_bytes names.now) → IfOk result (λ due. IsDue words (files_run F.told F.faults F.misses files.old files.new) due.status due.output due.line) }
+    ensures { (told : RunText) (words : List (List ℕ)) → Spells told words wanted.entry (map string_bytes names.now) → IfOk result (λ due. IsDueOfFiles told words (files_run F.told F.faults F.misses files.old files.new) due.status due.output due.line) }
 {
     // for the file in which a rule is broken
     in_files_read();
@@ -241,11 +241,15 @@ where
     R: Threads + Wait + Sync,
     F: Files,
     G: Gate,
-    ensures unread { (word : ℕ) → IsWrong (map string_bytes words.now) word → files.new ≡ files.old }
+    ensures unread { ((names : List (List ℕ)) → AsksFor (map string_bytes words.now) names → ⊥) → files.new ≡ files.old }
     ensures due { IfOk result (λ due. IsDue (map string_bytes words.now) (files_run F.told F.faults F.misses files.old files.new) due.status due.output due.line) }
 {
     match read_words(words) {
-        Ok(command) => answer_files(rt, alloc, command.wanted, command.files, files, gate),
+        Ok(Command::OfFiles {
+            wanted,
+            files: names,
+        }) => answer_files(rt, alloc, wanted, names, files, gate),
+        Ok(Command::Make { instances }) => answer_load(rt, alloc, instances, gate),
         Err(word) => {
             let line = usage_line(alloc, word)?;
             Ok(said(alloc, Status::Usage, line))

@@ -5,6 +5,7 @@ mod answer;
 mod deliver;
 mod laws;
 mod lines;
+mod making;
 mod running;
 mod serving;
 mod status;

@@ -1,25 +1,9 @@
-ghost use Rattle.std.specs.Prelude.{◌≡◌, ◌++◌, codes, IfOk, OnOk};
-ghost use Rattle.std.specs.Prelude.{decimal};
+ghost use Rattle.std.specs.Prelude.{◌≡◌, IfOk};
 ghost use Rattle.fp_main.specs.Lines.{usage_line, refusal_line, read_fault_line, no_file_line, no_topology_line, scenario_line};
 
 use fp_base::{NoMemory, PathStop, Refusal, Row};
-use itoa::{Buffer, Integer};
+use fp_logtext::{push_number, push_text};
 use std::alloc::Global;
-
-/// Adds a number in decimal.
-pub fn push_number<I: Integer>(line: &mut Row<u8>, number: I) -> Result<(), NoMemory>
-    ensures { OnOk result (line.new ≡ line.old ++ I.text number) }
-{
-    let mut buffer = Buffer::new();
-    line.extend_from_slice(buffer.format(number).as_bytes())
-}
-
-/// Adds a text.
-pub fn push_text(line: &mut Row<u8>, text: &str) -> Result<(), NoMemory>
-    ensures { OnOk result (line.new ≡ line.old ++ text.now) }
-{
-    line.extend_from_slice(text.as_bytes())
-}
 
 pub fn usage_line(alloc: Global, word: u64) -> Result<Row<u8>, NoMemory>
     ensures { IfOk result (λ line. line ≡ usage_line word) }

@@ -12,11 +12,12 @@ use crate::answer::{Due, no_topology, said};
 use crate::lines::{no_file_line, read_fault_line, scenario_line};
 use crate::status::Status;
 use crate::topologies::topology_named;
+use crate::words::AskedRun;
 use fp_base::{NoMemory, Row};
 use fp_events::Finish;
 use fp_outside::{Files, Gate, ReadRefusal};
 use fp_scenario::ScenarioStop;
-use fp_scenario_run::{Logged, run_scenario};
+use fp_scenario_run::{Told, run_scenario};
 use fp_tables::Model;
 use std::alloc::Global;
 use std::sync::Wait;
@@ -35,34 +36,34 @@ fn status_of(finish: Finish) -> Status
 }
 
 /// What is due for a run that came to its end.
-fn ended(alloc: Global, logged: Logged) -> Due
-    ensures { result ≡ record { status = status_of logged.finish; output = logged.log; line = [] } }
+fn ended(alloc: Global, told: Told) -> Due
+    ensures { result ≡ record { status = status_of told.finish; output = told.text; line = [] } }
 {
-    let Logged { log, finish } = logged;
+    let Told { text, finish } = told;
     Due {
         status: status_of(finish),
-        output: log,
+        output: text,
         line: Row::new(alloc),
     }
 }
 
-/// What is due of a topology and the text of a scenario, which stands in the file of this name.
+/// What is due of a topology and the text of the scenario that stands in the run's file.
 fn run_text<R: Threads + Wait + Sync, G: Gate>(
     rt: &R,
     alloc: Global,
     model: Model,
     topology: u32,
-    scenario: &str,
+    asked: AskedRun,
     text: &[u8],
     gate: &G,
 ) -> Result<Due, NoMemory>
     requires sound { IsSoundFor model (Some topology) }
-    ensures { (files : FilesRun) → IsScenarioRead files scenario.now text.now → IfOk result (λ due. IsDueOfRun files scenario.now (tables_of model topology) due.status due.output due.line) }
+    ensures { (files : FilesRun) → IsScenarioRead files asked.entry.scenario.now text.now → IfOk result (λ due. IsDueOfRun asked.entry.told files asked.entry.scenario.now (tables_of model topology) due.status due.output due.line) }
 {
-    match run_scenario(rt, alloc, model, topology, text, gate) {
-        Ok(logged) => Ok(ended(alloc, logged)),
+    match run_scenario(rt, alloc, model, topology, text, asked.told, gate) {
+        Ok(told) => Ok(ended(alloc, told)),
         Err(ScenarioStop::Broken(stop)) => {
-            let line = scenario_line(alloc, scenario, &stop)?;
+            let line = scenario_line(alloc, asked.scenario, &stop)?;
             Ok(said(alloc, Status::Refused, line))
         }
         Err(ScenarioStop::NoMemory) => Err(NoMemory),
@@ -85,13 +86,13 @@ fn read_fault(alloc: Global, scenario: &str) -> Result<Due, NoMemory>
     Ok(said(alloc, Status::ReadFault, line))
 }
 
-/// What is due of a topology and the scenario in the file of this name.
+/// What is due of a topology and the scenario in the run's file.
 fn run_file<R, F, G>(
     rt: &R,
     alloc: Global,
     model: Model,
     topology: u32,
-    scenario: &str,
+    asked: AskedRun,
     files: &mut F,
     gate: &G,
 ) -> Result<Due, NoMemory>
@@ -100,23 +101,22 @@ where
     F: Files,
     G: Gate,
     requires sound { IsSoundFor model (Some topology) }
-    ensures { IfOk result (λ due. IsDueOfRun (files_run F.told F.faults F.misses files.old files.new) scenario.now (tables_of model topology) due.status due.output due.line) }
+    ensures { IfOk result (λ due. IsDueOfRun asked.entry.told (files_run F.told F.faults F.misses files.old files.new) asked.entry.scenario.now (tables_of model topology) due.status due.output due.line) }
 {
-    match files.read(alloc, scenario) {
-        Ok(Some(text)) => run_text(rt, alloc, model, topology, scenario, text.as_slice(), gate),
-        Ok(None) => no_file(alloc, scenario),
-        Err(ReadRefusal::Failed) => read_fault(alloc, scenario),
+    match files.read(alloc, asked.scenario) {
+        Ok(Some(text)) => run_text(rt, alloc, model, topology, asked, text.as_slice(), gate),
+        Ok(None) => no_file(alloc, asked.scenario),
+        Err(ReadRefusal::Failed) => read_fault(alloc, asked.scenario),
         Err(ReadRefusal::NoMemory) => Err(NoMemory),
     }
 }
 
-/// What is due for a run over the topology of a name. The scenario is read only where the model has it.
+/// What is due for a run that is asked for. The scenario is read only where the model has the topology.
 pub fn answer_run<R, F, G>(
     rt: &R,
     alloc: Global,
     model: Model,
-    name: &str,
-    scenario: &str,
+    asked: AskedRun,
     files: &mut F,
     gate: &G,
 ) -> Result<Due, NoMemory>
@@ -126,10 +126,10 @@ where
     G: Gate,
     requires sound { IsSound model }
     requires sound_with { (t : ℕ) (o : Topology) → slice_get model.topologies t ≡ Some o → IsSoundWith model o }
-    ensures { (words names : List (List ℕ)) → IsRun words name.now scenario.now names → IfOk result (λ due. IsDueOf words names (files_run F.told F.faults F.misses files.old files.new) model due.status due.output due.line) }
+    ensures { (words names : List (List ℕ)) → IsRun words asked.entry.topology.now asked.entry.scenario.now names → IfOk result (λ due. IsDueOf asked.entry.told words names (files_run F.told F.faults F.misses files.old files.new) model due.status due.output due.line) }
 {
-    match topology_named(&model, name) {
-        Some(topology) => run_file(rt, alloc, model, topology, scenario, files, gate),
-        None => no_topology(alloc, name),
+    match topology_named(&model, asked.topology) {
+        Some(topology) => run_file(rt, alloc, model, topology, asked, files, gate),
+        None => no_topology(alloc, asked.topology),
     }
 }

@@ -1,11 +1,11 @@
-ghost use Rattle.std.specs.Prelude.{◌≡◌, ℕ, map};
+ghost use Rattle.std.specs.Prelude.{◌≡◌, ℕ, List, map};
 ghost use Rattle.std.specs.String.{string_bytes};
 ghost use Rattle.fp_main.specs.Delivery.{sink_run};
 ghost use Rattle.fp_gather.specs.FilesRun.{files_run};
 ghost use Rattle.fp_main.specs.Output.{Output};
-ghost use Rattle.fp_main.specs.Words.{IsWrong};
+ghost use Rattle.fp_main.specs.Words.{AsksFor};
 ghost use Rattle.fp_main.specs.Causes.{UsageMeans, ReadFaultMeans, NoFileMeans, RefusedMeans, NoTopologyMeans, DoneMeans, StuckMeans, SpentMeans, AssertedMeans, WriteFaultMeans, NoMemoryMeans};
-ghost use Rattle.fp_main.specs.Causes.{UsageComes, ReadFaultComes, NoFileComes, RefusedComes, NoTopologyComes, DoneComes, ScenarioRefusedComes, RunComes, WriteFaultComes};
+ghost use Rattle.fp_main.specs.Causes.{UsageComes, ReadFaultComes, NoFileComes, RefusedComes, NoTopologyComes, DoneComes, ScenarioRefusedComes, RunComes, MakeComes, WriteFaultComes};
 
 use crate::answer::answer;
 use crate::deliver::deliver;
@@ -35,7 +35,7 @@ where
     O: Sink,
     E: Sink,
     G: Gate,
-    ensures unread { (word : ℕ) → IsWrong (map string_bytes words.now) word → files.new ≡ files.old }
+    ensures unread { ((names : List (List ℕ)) → AsksFor (map string_bytes words.now) names → ⊥) → files.new ≡ files.old }
     ensures output { Output
         (map string_bytes words.now) (files_run F.told F.faults F.misses files.old files.new)
         (sink_run O.told O.faults out.old out.new) (sink_run E.told E.faults diag.old diag.new)
@@ -77,8 +77,8 @@ where
         (sink_run O.told O.faults out.old out.new) (sink_run E.told E.faults diag.old diag.new)
         result }
 
-    // Where words are wrong no file is read.
-    ensures unread { (word : ℕ) → IsWrong (map string_bytes words.now) word → files.new ≡ files.old }
+    // Where words ask for no file, since they are wrong or ask for the load, none is read.
+    ensures unread { ((names : List (List ℕ)) → AsksFor (map string_bytes words.now) names → ⊥) → files.new ≡ files.old }
 
     // What each status means.
     ensures usage { UsageMeans
@@ -147,6 +147,10 @@ where
         result }
     ensures run_comes { RunComes
         (map string_bytes words.now) (files_run F.told F.faults F.misses files.old files.new)
+        (sink_run O.told O.faults out.old out.new) (sink_run E.told E.faults diag.old diag.new)
+        result }
+    ensures make_comes { MakeComes
+        (map string_bytes words.now)
         (sink_run O.told O.faults out.old out.new) (sink_run E.told E.faults diag.old diag.new)
         result }
     ensures write_fault_comes { WriteFaultComes

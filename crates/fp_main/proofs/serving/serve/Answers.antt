@@ -1,6 +1,6 @@
 -- each clause from what is written
 use Rattle.fp_main.proofs.CausesMeant.{usage_means, read_fault_means, no_file_means, refused_means, no_topology_means, done_means, stuck_means, spent_means, asserted_means, write_fault_means, no_memory_means}
-use Rattle.fp_main.proofs.CausesComing.{usage_comes, read_fault_comes, no_file_comes, refused_comes, no_topology_comes, done_comes, scenario_refused_comes, run_comes, write_fault_comes}
+use Rattle.fp_main.proofs.CausesComing.{usage_comes, read_fault_comes, no_file_comes, refused_comes, no_topology_comes, done_comes, scenario_refused_comes, run_comes, make_comes, write_fault_comes}
 use Rattle.fp_main.proofs.serving.serve.Goals as goal
 
 pub returns-clause-usage : goal.returns-clause-usage
@@ -59,6 +59,9 @@ returns-clause-scenario_refused_comes g c = scenario_refused_comes c.one_reading
 
 pub returns-clause-run_comes : goal.returns-clause-run_comes
 returns-clause-run_comes g c = run_comes c.one_reading.ensures _ _ _ _ _ c.write_answer.ensures.output
+
+pub returns-clause-make_comes : goal.returns-clause-make_comes
+returns-clause-make_comes g c = make_comes c.one_reading.ensures _ _ _ _ _ c.write_answer.ensures.output
 
 pub returns-clause-write_fault_comes : goal.returns-clause-write_fault_comes
 returns-clause-write_fault_comes g c = write_fault_comes c.one_reading.ensures _ _ _ _ _ c.write_answer.ensures.output
