@@ -108,7 +108,7 @@ names_a text topology = record { words_are = refl; some = lit< tt }
 run_a : (topology scenario : List ℕ) → IsRun (codes "run" ∷ topology ∷ scenario ∷ codes "a" ∷ []) topology scenario (codes "a" ∷ [])
 run_a topology scenario = record { words_are = refl; some = lit< tt }
 
-make_one : IsMake (codes "make" ∷ codes "1" ∷ []) 1
+make_one : IsMake (codes "make" ∷ decimal 1 ∷ []) 1
 make_one = record { words_are = refl; some = lit< tt; few = omega arith }
 
 none_begins : BeginsForm []
@@ -133,7 +133,7 @@ scenario_begins : (topology scenario : List ℕ) → BeginsForm (codes "run" ∷
 scenario_begins topology scenario = (codes "a" ∷ [], inl (codes "a" ∷ [], inr (topology, inr (scenario, run_a topology scenario))))
 
 make_begins : BeginsForm (codes "make" ∷ [])
-make_begins = (codes "1" ∷ [], inr (1, make_one))
+make_begins = (decimal 1 ∷ [], inr (1, make_one))
 
 count_begins : (count : List ℕ) (instances : ℕ) → 0 < instances → instances ≤ most_instances → count ≡ decimal instances → BeginsForm (codes "make" ∷ count ∷ [])
 count_begins count instances some few is =

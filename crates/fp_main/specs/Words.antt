@@ -66,7 +66,7 @@ pub record IsWrong (words : List (List ℕ)) (number : ℕ) : Type 0 where
 abbrev pub Spells : RunText → List (List ℕ) → Wanted → List (List ℕ) → Type 0
 Spells told words Listing files = IsCheck words files
 Spells told words (OfTopology text name) files = Names text words name.now files
-Spells told words (Run text name scenario) files = (text ≡ told) × IsRun words name.now scenario.now files
+Spells told words (Run asked) files = (asked.told ≡ told) × IsRun words asked.topology.now asked.scenario.now files
 
 -- what is made of the words
 abbrev pub ReadsWords : List (List ℕ) → Result Command ℕ → Type 0

@@ -1,5 +1,6 @@
 mod Alike
 mod AlikeActs
 mod AlikeCalls
+mod Counted
 mod Paired
 mod Spelling

@@ -1,5 +1,5 @@
 -- What is told of a run: its log, or how much went through its queues. FPP has no standard for scenarios. This profile:
-use Rattle.std.specs.Prelude.{◌≡◌, ℕ, Bool, true, false, List, ◌++◌, length, filter, codes, decimal}
+use Rattle.std.specs.Prelude.{◌≡◌, ℕ, Bool, true, false, List, ◌++◌, count_by, codes, decimal}
 use Rattle.std.specs.List.Sorted.{IsSortedBy}
 use Rattle.fp_tables.specs.Lookup.{Described}
 use Rattle.fp_tables.specs.declared.program.Program.{Program}
@@ -24,7 +24,7 @@ is_take _ = false
 
 -- how many entries are of a kind
 abbrev pub count_of : (What → Bool) → List Entry → ℕ
-count_of kind entries = length (filter (λ (e : Entry). kind e.what) entries)
+count_of kind entries = count_by (λ (e : Entry). kind e.what) entries
 
 -- of a load with so many instances: what was put into queues and taken out of them, and the last line of the log
 abbrev pub counts_text : ℕ → List Entry → Finish → List ℕ

@@ -27,13 +27,25 @@ fn is_take(what: &What) -> bool
 fn puts_in(entries: &[Entry]) -> usize
     ensures { result ≡ count_of is_put entries.now }
 {
-    entries.iter().filter(|entry| is_put(&entry.what)).count()
+    let mut puts = 0;
+    for entry in entries {
+        if is_put(&entry.what) {
+            puts += 1;
+        }
+    }
+    puts
 }
 
 fn takes_in(entries: &[Entry]) -> usize
     ensures { result ≡ count_of is_take entries.now }
 {
-    entries.iter().filter(|entry| is_take(&entry.what)).count()
+    let mut takes = 0;
+    for entry in entries {
+        if is_take(&entry.what) {
+            takes += 1;
+        }
+    }
+    takes
 }
 
 /// The counts of a run of the load with so many instances, and its end.

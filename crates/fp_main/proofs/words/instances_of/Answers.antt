@@ -2,8 +2,8 @@ use Rattle.std.proofs.Common.{◌+◌, arith}
 use Rattle.fp_main.proofs.Counting.{all_tried, is_spelled, one_more}
 use Rattle.fp_main.proofs.words.instances_of.Goals as goal
 
-pub numbers-established : goal.numbers-established
-numbers-established c = (omega arith, λ n some few e. omega (arith, some, few))
+pub numbers-init : goal.numbers-init
+numbers-init c = (omega arith, λ n some few e. omega (arith, some, few))
 
 pub numbers-preserved : goal.numbers-preserved
 numbers-preserved c =

@@ -11,4 +11,4 @@ returns-then-is_empty c =
 
 pub returns-else-is_empty : goal.returns-else-is_empty
 returns-else-is_empty c =
-    run_of string_bytes c.args.name.now c.args.rest.now _ _ _ c.in-Some.ensures.cases.0 c.as_str-scenario.ensures.value (some_left _ _ c.is_empty.ensures c.if-is_empty.false)
+    run_of string_bytes c.args.name.now c.args.rest.now _ _ _ c.in-Some.ensures.cases.0 c.as_str.ensures.value (some_left _ _ c.is_empty.ensures c.if-is_empty.false)
