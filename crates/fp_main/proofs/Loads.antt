@@ -2,7 +2,7 @@
 use Rattle.std.proofs.Common.{◌≡◌, ◌⊎◌, ◌<◌, ℕ, List, [], ◌∷◌, codes, inl, inr, lit<, refl, arith, subst, sym, drop, take-append-drop}
 use Rattle.fp_outside.specs.Counts.{Rose, last_count}
 use Rattle.fp_gather.specs.FilesRun.{FilesRun}
-use Rattle.fp_main.specs.Output.{DueNoFile, DueReadFault, DueScenarioAbsent, DueScenarioUnread, IsDueOfFiles, load_run}
+use Rattle.fp_main.specs.Output.{IsDueOfFiles, load_run}
 use Rattle.fp_main.specs.Words.{AsksFor, IsForm, IsRun, IsWrong, load_words}
 use Rattle.fp_main.specs.declared.status.Status.TheVariants.{NoFile, ReadFault}
 use Rattle.fp_scenario_run.specs.declared.scenario.RunText.TheVariants.{Counts}

@@ -47,7 +47,9 @@ pub enum Command<'a> {
         files: &'a [String],
     },
     /// A run of the load with so many instances.
-    Make { instances: u32 },
+    Make {
+        instances: u32,
+    },
 }
 
 /// The command that the words spell, or the number of the first word that doesn't fit or is missing, counted from 1.

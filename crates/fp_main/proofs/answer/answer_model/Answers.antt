@@ -18,4 +18,4 @@ returns-in-OfTopology g c told words names spelled =
 pub returns-in-Run : goal.returns-in-Run
 returns-in-Run g c told words names spelled =
     let asked = subst (λ (wanted : Wanted). Spells told words wanted names) c.in-Run.is spelled in
-    as_told words names _ _ c.answer_run.result c.in-Run.run.told told asked.0 (c.answer_run.ensures words names asked.1)
+    as_told words names _ _ c.answer_run.result _ told asked.0 (c.answer_run.ensures words names asked.1)

@@ -10,4 +10,4 @@ returns-in-Ok g c told words names spelled =
 pub returns-in-Err-Broken : goal.returns-in-Err-Broken
 returns-in-Err-Broken g c told words names spelled =
     if_ok_then c.refused.result _ _
-    (λ due is. due_refused told words names _ c.args.source.now c.in-Err-Broken.refusal due (refl, refl) is (rw c.in-Err-Broken.field-0-is at c.in-Err-Broken.ensures.stop)) c.refused.ensures
+    (λ due is. due_refused words names told _ c.args.source.now c.in-Err-Broken.refusal due (refl, refl) is (rw c.in-Err-Broken.field-0-is at c.in-Err-Broken.ensures.stop)) c.refused.ensures

@@ -1,3 +1,4 @@
+use Rattle.std.proofs.Common.{refl}
 use Rattle.std.specs.String.{string_bytes}
 use Rattle.fp_main.proofs.Wording.{missing_scenario_file_of, missing_scenario_of, none_left, run_of, some_left}
 use Rattle.fp_main.proofs.words.read_run_over.Goals as goal
@@ -11,4 +12,4 @@ returns-then-is_empty c =
 
 pub returns-else-is_empty : goal.returns-else-is_empty
 returns-else-is_empty c =
-    run_of string_bytes c.args.name.now c.args.rest.now _ _ _ c.in-Some.ensures.cases.0 c.as_str.ensures.value (some_left _ _ c.is_empty.ensures c.if-is_empty.false)
+    (refl, run_of string_bytes c.args.name.now c.args.rest.now _ _ _ c.in-Some.ensures.cases.0 c.as_str.ensures.value (some_left _ _ c.is_empty.ensures c.if-is_empty.false))
