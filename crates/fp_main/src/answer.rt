@@ -245,13 +245,10 @@ where
     ensures due { IfOk result (λ due. IsDue (map string_bytes words.now) (files_run F.told F.faults F.misses files.old files.new) due.status due.output due.line) }
 {
     match read_words(words) {
-        Ok(
-            Command::OfFiles {
-                wanted,
-                files: names,
-            },
-        ) => answer_files(rt, alloc, wanted, names, files, gate),
-        Ok(Command::Make { instances }) => answer_load(rt, alloc, instances, gate),
+        Ok(Command::OfFiles(wanted, names)) => {
+            answer_files(rt, alloc, wanted, names, files, gate)
+        }
+        Ok(Command::Make(instances)) => answer_load(rt, alloc, instances, gate),
         Err(word) => {
             let line = usage_line(alloc, word)?;
             Ok(said(alloc, Status::Usage, line))

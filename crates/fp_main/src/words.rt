@@ -41,15 +41,10 @@ pub enum Wanted<'a> {
 /// What the words ask for.
 #[derive(Clone, Copy)]
 pub enum Command<'a> {
-    /// Something of the model that the source in these files defines.
-    OfFiles {
-        wanted: Wanted<'a>,
-        files: &'a [String],
-    },
+    /// Something of the model that the source in the files of these names defines.
+    OfFiles(Wanted<'a>, &'a [String]),
     /// A run of the load with so many instances.
-    Make {
-        instances: u32,
-    },
+    Make(u32),
 }
 
 /// The command that the words spell, or the number of the first word that doesn't fit or is missing, counted from 1.
@@ -97,7 +92,7 @@ fn read_check(files: &[String]) -> Result<Command<'_>, u64>
         Err(2)
     } else {
         let wanted = Wanted::Listing;
-        Ok(Command::OfFiles { wanted, files })
+        Ok(Command::OfFiles(wanted, files))
     }
 }
 
@@ -113,7 +108,7 @@ fn read_topology(text: TopologyText, rest: &[String]) -> Result<Command<'_>, u64
             } else {
                 let name = topology.as_str();
                 let wanted = Wanted::OfTopology { text, name };
-                Ok(Command::OfFiles { wanted, files })
+                Ok(Command::OfFiles(wanted, files))
             }
         }
     }
@@ -144,7 +139,7 @@ fn read_run_over<'a>(name: &'a str, rest: &'a [String]) -> Result<Command<'a>, u
                     scenario: scenario.as_str(),
                     told: RunText::Log,
                 });
-                Ok(Command::OfFiles { wanted, files })
+                Ok(Command::OfFiles(wanted, files))
             }
         }
     }
@@ -160,7 +155,7 @@ fn read_make(rest: &[String]) -> Result<Command<'_>, u64>
             None => Err(2),
             Some(instances) => {
                 if more.is_empty() {
-                    Ok(Command::Make { instances })
+                    Ok(Command::Make(instances))
                 } else {
                     Err(3)
                 }
