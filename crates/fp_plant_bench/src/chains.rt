@@ -44,7 +44,7 @@ pub struct Chain {
 fn instances_of(alloc: Global, count: u32) -> Result<Row<Instance>, NoMemory> {
     let mut instances = Row::new(alloc);
     for number in 0..count {
-        let name = format!(in alloc; "w{number}")?;
+        let name = format!(in alloc; "Gen.w{number}")?;
         instances.push(Instance {
             name: text(alloc, name.as_str())?,
             component: 0,

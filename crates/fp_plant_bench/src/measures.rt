@@ -4,7 +4,9 @@ ghost use Rattle.fp_tables.specs.SoundPrograms.{IsSoundProgram};
 ghost use Rattle.fp_events.specs.Fits.{actor_count as actors_of};
 
 use crate::chains::Chain;
+use crate::load;
 use crate::plain::run_plain;
+use crate::stand::Waiting;
 use crate::ways::{run_alone, run_rounds};
 use fp_actor::actor_count;
 use fp_base::NoMemory;
@@ -20,6 +22,14 @@ use std::thread::Threads;
 use std::time::Instant;
 
 const ROUNDS: usize = 5;
+
+/// What is done with a chain: its entries are counted, its rounds are measured, or its whole run is.
+#[derive(Clone, Copy)]
+enum Task {
+    Count,
+    Rounds,
+    Whole,
+}
 
 /// How a run is made.
 #[derive(Clone, Copy)]
@@ -44,7 +54,7 @@ fn make<R: Threads + Wait + Sync>(
     match way {
         Way::Rounds => run_rounds(rt, alloc, tables, program),
         Way::Alone => run_alone(alloc, tables, program),
-        Way::Plain => Ok(run_plain(rt, alloc, chain)?),
+        Way::Plain => Ok(run_plain(rt, alloc, chain, Waiting::Yields)?),
     }
 }
 
@@ -109,13 +119,14 @@ fn count<R: Threads + Wait + Print + Sync>(
     let plain = make(rt, alloc, Way::Plain, chain, tables, program).map_err(|_| AllocError)?;
     println!(rt;
         "entries by the plant {rounds}, by one thread {alone}, by the plain program {plain}"
-    )
+    )?;
+    load::count(rt, alloc, chain, tables, program)
 }
 
 fn with_actors<R: Threads + Wait + Clock + Print + Sync>(
     rt: &R,
     alloc: Global,
-    measured: bool,
+    task: Task,
     chain: Chain,
     tables: &Tables,
     program: &Program,
@@ -126,10 +137,10 @@ fn with_actors<R: Threads + Wait + Clock + Print + Sync>(
     if actor_count(tables, program) == 0 {
         return println!(rt; "there is no actor");
     }
-    if measured {
-        measure(rt, alloc, chain, tables, program)
-    } else {
-        count(rt, alloc, chain, tables, program)
+    match task {
+        Task::Count => count(rt, alloc, chain, tables, program),
+        Task::Rounds => measure(rt, alloc, chain, tables, program),
+        Task::Whole => load::measure(rt, alloc, chain, tables, program),
     }
 }
 
@@ -142,7 +153,7 @@ fn model_is_sound(alloc: Global, tables: &Tables) -> Result<bool, NoMemory>
 fn with_tables<R: Threads + Wait + Clock + Print + Sync>(
     rt: &R,
     alloc: Global,
-    measured: bool,
+    task: Task,
     chain: Chain,
     tables: &Tables,
     program: &Program,
@@ -155,19 +166,19 @@ fn with_tables<R: Threads + Wait + Clock + Print + Sync>(
     if !sound {
         return println!(rt; "the model isn't sound");
     }
-    with_actors(rt, alloc, measured, chain, tables, program)
+    with_actors(rt, alloc, task, chain, tables, program)
 }
 
 fn with_chain<R: Threads + Wait + Clock + Print + Sync>(
     rt: &R,
     alloc: Global,
-    measured: bool,
+    task: Task,
     chain: Chain,
 ) -> io::Result<()> {
     let model = chain.model(alloc).map_err(|_| AllocError)?;
     let program = chain.program(alloc).map_err(|_| AllocError)?;
     match tables_of(alloc, model).map_err(|_| AllocError)? {
-        Some(tables) => with_tables(rt, alloc, measured, chain, &tables, &program),
+        Some(tables) => with_tables(rt, alloc, task, chain, &tables, &program),
         None => println!(rt; "the model isn't sound"),
     }
 }
@@ -183,16 +194,25 @@ fn keep_memory(alloc: Global) -> io::Result<()> {
     Ok(())
 }
 
-/// Measures runs of few and of many actors.
-pub fn measure_all<R: Threads + Wait + Clock + Print + Sync>(
+/// Measures the rounds of few and of many actors.
+pub fn measure_rounds<R: Threads + Wait + Clock + Print + Sync>(
     rt: &R,
     alloc: Global,
 ) -> io::Result<()> {
     keep_memory(alloc)?;
     for (instances, calls) in [(1, 1_000), (3, 1_000), (15, 400), (60, 100)] {
-        with_chain(rt, alloc, true, chain(instances, calls))?;
+        with_chain(rt, alloc, Task::Rounds, chain(instances, calls))?;
     }
     Ok(())
+}
+
+/// Measures the whole run of the load.
+pub fn measure_load<R: Threads + Wait + Clock + Print + Sync>(
+    rt: &R,
+    alloc: Global,
+) -> io::Result<()> {
+    keep_memory(alloc)?;
+    with_chain(rt, alloc, Task::Whole, chain(60, 100))
 }
 
 /// Counts the entries of a small run that is made each way.
@@ -200,5 +220,5 @@ pub fn count_small<R: Threads + Wait + Clock + Print + Sync>(
     rt: &R,
     alloc: Global,
 ) -> io::Result<()> {
-    with_chain(rt, alloc, false, chain(3, 2))
+    with_chain(rt, alloc, Task::Count, chain(3, 2))
 }

@@ -11,32 +11,49 @@ pub enum Note {
     Done,
 }
 
-/// An instance of the plain program: its queue, and its entries with their stamps and actors.
+/// An entry of the plain program.
+#[derive(Clone, Copy, Drop)]
+pub struct Line {
+    pub stamp: u64,
+    pub actor: u32,
+    pub instance: u32,
+    pub note: Note,
+}
+
+/// An instance of the plain program: its queue, and its entries.
 #[derive(Drop)]
 pub struct Place {
+    instance: u32,
     queue: VecDeque<u32>,
     last: u64,
-    entries: Vec<(u64, u32, Note)>,
+    lines: Vec<Line>,
 }
 
 impl Place {
-    pub fn new(alloc: Global) -> Result<Place, AllocError> {
+    pub fn new(alloc: Global, instance: u32) -> Result<Place, AllocError> {
         let queue = VecDeque::with_capacity(alloc, ROOM)?;
         Ok(Place {
+            instance,
             queue,
             last: 0,
-            entries: Vec::new(alloc),
+            lines: Vec::new(alloc),
         })
     }
 
-    pub fn count(&self) -> usize {
-        self.entries.len()
+    pub fn into_lines(self) -> Vec<Line> {
+        let Place { lines, .. } = self;
+        lines
     }
 
     /// Adds an entry of an actor that has seen a stamp, and gives the entry's.
     pub fn note(&mut self, actor: u32, seen: u64, note: Note) -> Result<u64, AllocError> {
         self.last = self.last.max(seen).saturating_add(1);
-        self.entries.push((self.last, actor, note))?;
+        self.lines.push(Line {
+            stamp: self.last,
+            actor,
+            instance: self.instance,
+            note,
+        })?;
         Ok(self.last)
     }
 

@@ -1,9 +1,9 @@
 use crate::chains::Chain;
-use crate::place::{Note, Place};
+use crate::stand::{Stand, Waiting};
 use std::alloc::{AllocError, Global};
-use std::sync::{Mutex, Wait};
+use std::sync::Wait;
 use std::thread;
-use std::thread::{Threads, yield_now};
+use std::thread::Threads;
 
 /// An actor of the plain program: its number, and whether it had no memory.
 #[derive(Drop)]
@@ -12,60 +12,25 @@ struct Worker {
     failed: bool,
 }
 
-// Puts a number as soon as there is room, and gives the stamp.
-fn put<R: Wait>(
-    rt: &R,
-    place: &Mutex<Place>,
-    actor: u32,
-    seen: u64,
-    number: u32,
-) -> Result<u64, AllocError> {
-    for _ in rt.forever() {
-        let stamp = place.lock(rt).put(actor, seen, number)?;
-        if let Some(stamp) = stamp {
-            return Ok(stamp);
-        }
-        yield_now();
-    }
-    unreachable!()
-}
-
-// Takes a number as soon as there is one, and gives it with the stamp.
-fn take<R: Wait>(
-    rt: &R,
-    place: &Mutex<Place>,
-    actor: u32,
-    seen: u64,
-) -> Result<(u64, u32), AllocError> {
-    for _ in rt.forever() {
-        let taken = place.lock(rt).take(actor, seen)?;
-        if let Some(taken) = taken {
-            return Ok(taken);
-        }
-        yield_now();
-    }
-    unreachable!()
-}
-
-// Hands on a number, where there is a place to hand it on to.
+// Hands on a number, where there is a stand to hand it on to.
 fn hand_on<R: Wait>(
     rt: &R,
-    places: &[Mutex<Place>],
+    stands: &[Stand],
     actor: u32,
     seen: u64,
     number: u32,
 ) -> Result<u64, AllocError> {
-    match places.get(actor as usize) {
-        Some(place) => put(rt, place, actor, seen, number),
+    match stands.get(actor as usize) {
+        Some(stand) => stand.put(rt, actor, seen, number),
         None => Ok(seen),
     }
 }
 
 // All calls of the caller.
-fn call_all<R: Wait>(rt: &R, places: &[Mutex<Place>], calls: u32) -> Result<(), AllocError> {
+fn call_all<R: Wait>(rt: &R, stands: &[Stand], calls: u32) -> Result<(), AllocError> {
     let mut seen = 0;
     for number in 0..calls {
-        seen = hand_on(rt, places, 0, seen, number)?;
+        seen = hand_on(rt, stands, 0, seen, number)?;
     }
     Ok(())
 }
@@ -73,48 +38,43 @@ fn call_all<R: Wait>(rt: &R, places: &[Mutex<Place>], calls: u32) -> Result<(), 
 // An instance takes so many calls, and hands each on.
 fn serve_all<R: Wait>(
     rt: &R,
-    places: &[Mutex<Place>],
-    place: &Mutex<Place>,
+    stands: &[Stand],
+    stand: &Stand,
     actor: u32,
     calls: u32,
 ) -> Result<(), AllocError> {
     let mut seen = 0;
     for _ in 0..calls {
-        let (stamp, number) = take(rt, place, actor, seen)?;
-        let stamp = hand_on(rt, places, actor, stamp, number)?;
-        seen = place.lock(rt).note(actor, stamp, Note::Done)?;
+        let (stamp, number) = stand.take(rt, actor, seen)?;
+        let stamp = hand_on(rt, stands, actor, stamp, number)?;
+        seen = stand.end(rt, actor, stamp)?;
     }
     Ok(())
 }
 
-// The actor 0 is the caller, and each other one serves at the place before its own number.
-fn work<R: Wait>(
-    rt: &R,
-    places: &[Mutex<Place>],
-    actor: u32,
-    calls: u32,
-) -> Result<(), AllocError> {
+// The actor 0 is the caller, and each other one serves at the stand before its own number.
+fn work<R: Wait>(rt: &R, stands: &[Stand], actor: u32, calls: u32) -> Result<(), AllocError> {
     let Some(before) = (actor as usize).checked_sub(1) else {
-        return call_all(rt, places, calls);
+        return call_all(rt, stands, calls);
     };
-    match places.get(before) {
-        Some(place) => serve_all(rt, places, place, actor, calls),
+    match stands.get(before) {
+        Some(stand) => serve_all(rt, stands, stand, actor, calls),
         None => Ok(()),
     }
 }
 
-fn work_part<R: Wait>(rt: &R, places: &[Mutex<Place>], workers: &mut [Worker], calls: u32) {
+fn work_part<R: Wait>(rt: &R, stands: &[Stand], workers: &mut [Worker], calls: u32) {
     for worker in workers {
-        worker.failed = work(rt, places, worker.number, calls).is_err();
+        worker.failed = work(rt, stands, worker.number, calls).is_err();
     }
 }
 
-fn places_of(alloc: Global, chain: Chain) -> Result<Vec<Mutex<Place>>, AllocError> {
-    let mut places = Vec::new(alloc);
-    for _ in 0..chain.instances {
-        places.push(Mutex::new(Place::new(alloc)?))?;
+fn stands_of(alloc: Global, chain: Chain, waiting: Waiting) -> Result<Vec<Stand>, AllocError> {
+    let mut stands = Vec::new(alloc);
+    for instance in 0..chain.instances {
+        stands.push(Stand::new(alloc, instance, waiting)?)?;
     }
-    Ok(places)
+    Ok(stands)
 }
 
 fn workers_of(alloc: Global, chain: Chain) -> Result<Vec<Worker>, AllocError> {
@@ -128,15 +88,16 @@ fn workers_of(alloc: Global, chain: Chain) -> Result<Vec<Worker>, AllocError> {
     Ok(workers)
 }
 
-/// The plain program, with a thread for each actor: how many entries there are.
-pub fn run_plain<R: Threads + Wait + Sync>(
+// The stands after the plain program, with a thread for each actor.
+fn work_all<R: Threads + Wait + Sync>(
     rt: &R,
     alloc: Global,
     chain: Chain,
-) -> Result<usize, AllocError> {
-    let places = places_of(alloc, chain)?;
+    waiting: Waiting,
+) -> Result<Vec<Stand>, AllocError> {
+    let stands = stands_of(alloc, chain, waiting)?;
     let mut workers = workers_of(alloc, chain)?;
-    let shared = places.as_slice();
+    let shared = stands.as_slice();
     let calls = chain.calls;
     thread::for_each_chunk_mut(
         rt,
@@ -147,9 +108,37 @@ pub fn run_plain<R: Threads + Wait + Sync>(
     if workers.iter().any(|worker| worker.failed) {
         return Err(AllocError);
     }
+    Ok(stands)
+}
+
+/// The plain program: how many entries there are.
+pub fn run_plain<R: Threads + Wait + Sync>(
+    rt: &R,
+    alloc: Global,
+    chain: Chain,
+    waiting: Waiting,
+) -> Result<usize, AllocError> {
+    let stands = work_all(rt, alloc, chain, waiting)?;
     let mut count = 0_usize;
-    for place in places {
-        count = count.saturating_add(place.into_inner().count());
+    for stand in stands {
+        count = count.saturating_add(stand.into_lines().len());
     }
     Ok(count)
+}
+
+/// The plain program, whose entries are then put into one list by stamp and then actor: how many there are.
+pub fn run_plain_whole<R: Threads + Wait + Sync>(
+    rt: &R,
+    alloc: Global,
+    chain: Chain,
+    waiting: Waiting,
+) -> Result<usize, AllocError> {
+    let stands = work_all(rt, alloc, chain, waiting)?;
+    let mut all = Vec::new(alloc);
+    for stand in stands {
+        let mut lines = stand.into_lines();
+        all.append(&mut lines)?;
+    }
+    all.sort_by_key(|line| (line.stamp, line.actor))?;
+    Ok(all.len())
 }

@@ -2,10 +2,12 @@ ghost use Rattle.std.specs.Prelude.{◌<◌, Some, IfOk};
 ghost use Rattle.fp_tables.specs.Sound.{IsSoundFor};
 ghost use Rattle.fp_tables.specs.SoundPrograms.{IsSoundProgram};
 ghost use Rattle.fp_events.specs.Fits.{actor_count};
+ghost use Rattle.fp_events.specs.Run.{AreRecords};
 ghost use Rattle.fp_plant.specs.Planted.{AreAll};
 
 use fp_base::{NoMemory, Row};
 use fp_events::Entry;
+use fp_merge::Kept;
 use fp_outside::OpenGate;
 use fp_plant::{Hand, Plant};
 use fp_rounds::run;
@@ -38,6 +40,23 @@ fn ended<'a, R: Threads + Wait + Sync>(
     }
 }
 
+/// What is kept of a run with a thread for each actor.
+pub fn kept_of<R: Threads + Wait + Sync>(
+    rt: &R,
+    alloc: Global,
+    tables: &Tables,
+    program: &Program,
+) -> Result<Kept, NoMemory>
+    requires sound { IsSoundFor tables.now.model (Some tables.now.topology) }
+    requires good { IsSoundProgram tables.now program.now }
+    requires actors { 0 < actor_count tables.now program.now }
+    ensures { IfOk result (λ kept. AreRecords tables.now program.now kept.histories kept.traces) }
+{
+    let (plant, hands) = Plant::open(alloc, tables, program)?;
+    let ended = ended(rt, alloc, &plant, hands)?;
+    plant.close(alloc, ended)
+}
+
 /// A run with a thread for each actor: how many entries there are.
 pub fn run_rounds<R: Threads + Wait + Sync>(
     rt: &R,
@@ -49,9 +68,7 @@ pub fn run_rounds<R: Threads + Wait + Sync>(
     requires good { IsSoundProgram tables.now program.now }
     requires actors { 0 < actor_count tables.now program.now }
 {
-    let (plant, hands) = Plant::open(alloc, tables, program)?;
-    let hands = ended(rt, alloc, &plant, hands)?;
-    let kept = plant.close(alloc, hands)?;
+    let kept = kept_of(rt, alloc, tables, program)?;
     Ok(count_of(kept.histories.as_slice()))
 }
 
