@@ -1,4 +1,4 @@
-ghost use Rattle.std.specs.Prelude.{Some, IfOk, IfErr, OnOk};
+ghost use Rattle.std.specs.Prelude.{◌≡◌, Some, IfOk, IfErr, OnOk};
 ghost use Rattle.fp_tables.specs.Sound.{IsSoundFor};
 ghost use Rattle.fp_tables.specs.SoundPrograms.{IsSoundProgram};
 ghost use Rattle.fp_events.specs.Run.{IsRun};
