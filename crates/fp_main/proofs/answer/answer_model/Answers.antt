@@ -1,5 +1,6 @@
 use Rattle.std.proofs.Common.{inl, refl, subst}
 use Rattle.fp_base.proofs.Options.{if_ok_then}
+use Rattle.fp_gather.specs.FilesRun.{files_run}
 use Rattle.fp_main.specs.Words.{Spells}
 use Rattle.fp_main.specs.declared.words.Wanted.{Wanted}
 use Rattle.fp_main.proofs.Dues.{as_told}
@@ -18,4 +19,5 @@ returns-in-OfTopology g c told words names spelled =
 pub returns-in-Run : goal.returns-in-Run
 returns-in-Run g c told words names spelled =
     let asked = subst (λ (wanted : Wanted). Spells told words wanted names) c.in-Run.is spelled in
-    as_told words names _ _ c.answer_run.result _ told asked.0 (c.answer_run.ensures words names asked.1)
+    as_told words names (files_run g.F.Files.told g.F.Files.faults g.F.Files.misses c.args.files.now c.answer_run.new.files) c.args.model c.answer_run.result _ told asked.0
+    (c.answer_run.ensures words names asked.1)
