@@ -1,6 +1,7 @@
 use fp_base::NoMemory;
 use fp_lexer::lex;
 use fp_parse_states::parse_machine;
+use fp_tree_copies::Copied;
 use std::alloc::Global;
 use std::test::Fail;
 

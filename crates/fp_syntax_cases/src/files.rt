@@ -7,6 +7,7 @@ use fp_case_texts::{Case, push_line, push_span};
 use fp_lexer::lex;
 use fp_parse_parts::{Inside, Members, parse};
 use fp_tree::{Part, Unit};
+use fp_tree_copies::Copied;
 use std::alloc::Global;
 
 fn unit(alloc: Global, source: &[u8]) -> Result<Unit, Stop> {

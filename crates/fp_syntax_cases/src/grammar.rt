@@ -11,6 +11,7 @@ use fp_parse_defs::{parse_def, parse_expr};
 use fp_parse_states::parse_machine;
 use fp_parse_topologies::{parse_instance, parse_topology};
 use fp_tree::{Expr, Instance, Machine, Topology};
+use fp_tree_copies::Copied;
 use std::alloc::Global;
 
 /// No source of a case has more.

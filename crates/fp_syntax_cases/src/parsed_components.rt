@@ -6,6 +6,7 @@ use fp_case_texts::Case;
 use fp_lexer::lex;
 use fp_parse_components::{parse_component, parse_interface};
 use fp_tree::{Component, Interface};
+use fp_tree_copies::Copied;
 use std::alloc::Global;
 
 fn parsed_component(alloc: Global, case: &Case) -> Result<(Component, u32), Stop> {

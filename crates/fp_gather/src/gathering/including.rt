@@ -3,7 +3,7 @@ ghost use Rattle.fp_gather.specs.gathering.Includes.{directory as directory_of, 
 
 use fp_base::{NoMemory, Row, Text};
 use fp_parse_parts::{Inside, Members};
-use fp_tree::{Include, Member, Module, Part, TMember};
+use fp_tree::{Include, Member, Module, Part, Str, TMember};
 use std::alloc::Global;
 
 /// An include, and what it stands in: a file or a module, a component, or a topology.
@@ -172,6 +172,22 @@ fn of_topology_member(
     }
 }
 
+fn copied(alloc: Global, include: &Include) -> Result<Include, NoMemory>
+    ensures { IfOk result (λ copy. copy ≡ include.now) }
+{
+    let text = include.file.text.copy(alloc)?;
+    let note = include.note.copy(alloc)?;
+    let file = Str {
+        text,
+        at: include.file.at,
+    };
+    Ok(Include {
+        file,
+        at: include.at,
+        note,
+    })
+}
+
 /// Adds an include that stands in this.
 fn add(
     alloc: Global,
@@ -181,6 +197,6 @@ fn add(
 ) -> Result<(), NoMemory>
     ensures { OnOk result (found.new ≡ found.old ++ record { inside = inside; include = include.now } ∷ []) }
 {
-    let include = include.copy(alloc)?;
+    let include = copied(alloc, include)?;
     found.push(Inclusion { inside, include })
 }
