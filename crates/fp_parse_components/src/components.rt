@@ -4,15 +4,15 @@ ghost use Rattle.fp_parse_components.specs.Components as C;
 
 use crate::parts::{InterfacePartList, PartList};
 use crate::words::ComponentWord;
-use fp_base::{NoMemory, Row, Span, Stop, Text};
+use fp_base::{NoMemory, Row, Stop, Text};
 use fp_lexer::Token;
 use fp_lexer::mark::{CLOSE_BRACE, OPEN_BRACE};
 use fp_lexer::reserved::{COMPONENT, INTERFACE};
 use fp_parse_defs::{between, parse_node};
 use fp_parse_pieces::{
-    After, AtMark, AtWord, Behind, Made, Make, OneLeaf, OneName, Parsed, Piece, Seq,
+    After, AtMark, AtWord, Behind, Made, Make, NodeOf, OneLeaf, OneName, Parsed, Piece, Seq,
 };
-use fp_tree::{Component, ComponentKind, Interface, InterfacePart, Name, Part};
+use fp_tree::{Component, Interface};
 use std::alloc::Global;
 
 /// A component.
@@ -28,10 +28,7 @@ impl Make for OneComponent {
 
     ghost made = { C.made_component };
 
-    fn make(
-        alloc: Global,
-        parts: ((Span, ComponentKind), (Name, (Row<Part>, Span))),
-    ) -> Result<Component, NoMemory> {
+    fn make(alloc: Global, parts: NodeOf<Self::Parts>) -> Result<Component, NoMemory> {
         let ((word, kind), (name, (parts, closing))) = parts;
         let at = between(word, closing);
         let note = Text::new(alloc);
@@ -68,10 +65,7 @@ impl Make for OneInterface {
 
     ghost made = { C.made_interface };
 
-    fn make(
-        alloc: Global,
-        parts: (Span, (Name, (Row<InterfacePart>, Span))),
-    ) -> Result<Interface, NoMemory> {
+    fn make(alloc: Global, parts: NodeOf<Self::Parts>) -> Result<Interface, NoMemory> {
         let (word, (name, (parts, closing))) = parts;
         let at = between(word, closing);
         let note = Text::new(alloc);

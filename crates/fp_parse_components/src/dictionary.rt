@@ -1,9 +1,9 @@
 ghost use Rattle.std.specs.Prelude.{◌≡◌};
 ghost use Rattle.fp_parse_components.specs.Dictionary as D;
 
-use crate::queue::{FormalList, MaybeFormals, QueuePart, QueueWords, span_or};
+use crate::queue::{MaybeFormals, QueuePart, span_or};
 use crate::words::{ColorWord, CommandWord, OneSeverity, OneUpdate};
-use fp_base::{Boxed, NoMemory, Row, Span, Text};
+use fp_base::{Boxed, NoMemory, Span, Text};
 use fp_lexer::Token;
 use fp_lexer::mark::{CLOSE_BRACE, COLON, COMMA, OPEN_BRACE};
 use fp_lexer::reserved::{
@@ -12,13 +12,10 @@ use fp_lexer::reserved::{
 };
 use fp_parse_defs::{DefaultPart, FormatPart, OneType, Value, between, expr_or, text_or};
 use fp_parse_pieces::{
-    After, AtMark, AtWord, Behind, Element, Listed, Made, Make, Maybe, OneLeaf, OneName, OneText,
-    Parsed, Piece, Seq,
+    After, AtMark, AtWord, Behind, Element, Listed, Made, Make, Maybe, NodeOf, OneLeaf, OneName,
+    OneText, Parsed, Piece, Seq,
 };
-use fp_tree::{
-    Channel, Color, Command, CommandKind, Event, Expr, Limit, Limits, Name, ParamDef, Part,
-    Severity, Str, TypeName, Update,
-};
+use fp_tree::{Channel, Command, Event, Limit, Limits, ParamDef, Part, Update};
 use std::alloc::Global;
 
 /// A command.
@@ -37,13 +34,7 @@ impl Make for OneCommand {
 
     ghost made = { D.made_command };
 
-    fn make(
-        alloc: Global,
-        parts: (
-            (Span, CommandKind),
-            (Name, (FormalList, (Option<Expr>, QueueWords))),
-        ),
-    ) -> Result<Part, NoMemory> {
+    fn make(alloc: Global, parts: NodeOf<Self::Parts>) -> Result<Part, NoMemory> {
         let ((word, kind), (name, (formals, (opcode, queue)))) = parts;
         let end = expr_or(span_or(name.at, formals.closing), &opcode);
         let at = between(word, span_or(end, queue.last));
@@ -101,16 +92,7 @@ impl Make for OneEvent {
 
     ghost made = { D.made_event };
 
-    fn make(
-        alloc: Global,
-        parts: (
-            Span,
-            (
-                Name,
-                (FormalList, (Severity, (Option<Expr>, (Str, Option<Expr>)))),
-            ),
-        ),
-    ) -> Result<Part, NoMemory> {
+    fn make(alloc: Global, parts: NodeOf<Self::Parts>) -> Result<Part, NoMemory> {
         let (word, (name, (formals, (severity, (id, (format, throttle)))))) = parts;
         let at = between(word, expr_or(format.at, &throttle));
         let note = Text::new(alloc);
@@ -147,7 +129,7 @@ impl Make for OneLimit {
 
     ghost made = { D.made_limit };
 
-    fn make(alloc: Global, parts: ((Span, Color), Expr)) -> Result<Limit, NoMemory> {
+    fn make(alloc: Global, parts: NodeOf<Self::Parts>) -> Result<Limit, NoMemory> {
         let ((word, color), value) = parts;
         let at = between(word, value.at);
         let note = Text::new(alloc);
@@ -180,7 +162,7 @@ impl Make for OneLimits {
 
     ghost made = { D.made_limits };
 
-    fn make(_: Global, parts: (Span, (Row<Limit>, Span))) -> Result<Limits, NoMemory> {
+    fn make(_: Global, parts: NodeOf<Self::Parts>) -> Result<Limits, NoMemory> {
         let (opening, (limits, closing)) = parts;
         let at = between(opening, closing);
         Ok(Limits { limits, at })
@@ -255,25 +237,7 @@ impl Make for OneChannel {
 
     ghost made = { D.made_channel };
 
-    fn make(
-        alloc: Global,
-        parts: (
-            Span,
-            (
-                Name,
-                (
-                    TypeName,
-                    (
-                        Option<Expr>,
-                        (
-                            Option<(Span, Update)>,
-                            (Option<Str>, (Option<Limits>, Option<Limits>)),
-                        ),
-                    ),
-                ),
-            ),
-        ),
-    ) -> Result<Part, NoMemory> {
+    fn make(alloc: Global, parts: NodeOf<Self::Parts>) -> Result<Part, NoMemory> {
         let (word, (name, (of, (id, (update, (format, (low, high))))))) = parts;
         let end = text_or(update_or(expr_or(of.at, &id), update), &format);
         let at = between(word, limits_or(limits_or(end, &low), &high));
@@ -325,19 +289,7 @@ impl Make for OneParam {
 
     ghost made = { D.made_param };
 
-    fn make(
-        alloc: Global,
-        parts: (
-            Span,
-            (
-                Name,
-                (
-                    TypeName,
-                    (Option<Expr>, (Option<Expr>, (Option<Expr>, Option<Expr>))),
-                ),
-            ),
-        ),
-    ) -> Result<Part, NoMemory> {
+    fn make(alloc: Global, parts: NodeOf<Self::Parts>) -> Result<Part, NoMemory> {
         let (word, (name, (of, (default, (id, (set, save)))))) = parts;
         let end = expr_or(expr_or(of.at, &default), &id);
         let at = between(word, expr_or(expr_or(end, &set), &save));

@@ -1,18 +1,17 @@
 ghost use Rattle.fp_parse_components.specs.Ports as P;
 
-use crate::queue::{FormalList, MaybeFormals, QueuePart, QueueWords, span_or};
+use crate::queue::{MaybeFormals, QueuePart, span_or};
 use crate::words::{GeneralPortKind, SpecialPortKind};
-use fp_base::{Boxed, NoMemory, Span, Text};
+use fp_base::{Boxed, NoMemory, Text};
 use fp_lexer::Token;
 use fp_lexer::mark::{CLOSE_BRACKET, COLON, OPEN_BRACKET};
 use fp_lexer::reserved::{INTERNAL, MATCH, PORT, WITH};
 use fp_parse_defs::{Value, between};
 use fp_parse_pieces::{
-    After, AtWord, Behind, Closed, Made, Make, Maybe, OneName, Parsed, Piece, QualifiedName, Seq,
+    After, AtWord, Behind, Closed, Made, Make, Maybe, NodeOf, OneName, Parsed, Piece,
+    QualifiedName, Seq,
 };
-use fp_tree::{
-    Expr, General, GeneralKind, Internal, Match, Name, Part, Qual, Special, SpecialKind,
-};
+use fp_tree::{General, Internal, Match, Part, Special};
 use std::alloc::Global;
 
 type SizePart = Maybe<Behind<OPEN_BRACKET, Closed<Value, CLOSE_BRACKET>>>;
@@ -30,13 +29,7 @@ impl Make for OneGeneral {
 
     ghost made = { P.made_general };
 
-    fn make(
-        alloc: Global,
-        parts: (
-            (Span, GeneralKind),
-            (Name, (Option<Expr>, (Qual, QueueWords))),
-        ),
-    ) -> Result<General, NoMemory> {
+    fn make(alloc: Global, parts: NodeOf<Self::Parts>) -> Result<General, NoMemory> {
         let ((word, kind), (name, (size, (of, queue)))) = parts;
         let at = between(word, span_or(of.at, queue.last));
         let note = Text::new(alloc);
@@ -74,7 +67,7 @@ impl Make for OneSpecial {
 
     ghost made = { P.made_special };
 
-    fn make(alloc: Global, parts: ((Span, SpecialKind), Name)) -> Result<Special, NoMemory> {
+    fn make(alloc: Global, parts: NodeOf<Self::Parts>) -> Result<Special, NoMemory> {
         let ((word, kind), name) = parts;
         let at = between(word, name.at);
         let note = Text::new(alloc);
@@ -107,10 +100,7 @@ impl Make for OneInternal {
 
     ghost made = { P.made_internal };
 
-    fn make(
-        alloc: Global,
-        parts: (Span, (Name, (FormalList, QueueWords))),
-    ) -> Result<Part, NoMemory> {
+    fn make(alloc: Global, parts: NodeOf<Self::Parts>) -> Result<Part, NoMemory> {
         let (word, (name, (formals, queue))) = parts;
         let at = between(word, span_or(span_or(name.at, formals.closing), queue.last));
         let note = Text::new(alloc);
@@ -147,7 +137,7 @@ impl Make for OneMatch {
 
     ghost made = { P.made_match };
 
-    fn make(alloc: Global, parts: (Span, (Name, Name))) -> Result<Part, NoMemory> {
+    fn make(alloc: Global, parts: NodeOf<Self::Parts>) -> Result<Part, NoMemory> {
         let (word, (first, second)) = parts;
         let at = between(word, second.at);
         let note = Text::new(alloc);

@@ -6,7 +6,7 @@ use fp_base::{NoMemory, Row, Span};
 use fp_lexer::Token;
 use fp_lexer::reserved::PRIORITY;
 use fp_parse_defs::{FormalsPart, Value};
-use fp_parse_pieces::{AtWord, Made, Make, Maybe, OneLeaf, Parsed, Piece, Seq};
+use fp_parse_pieces::{AtWord, Made, Make, Maybe, NodeOf, OneLeaf, Parsed, Piece, Seq};
 use fp_tree::{Expr, Formal, Full};
 use std::alloc::Global;
 
@@ -46,10 +46,7 @@ impl Make for QueuePart {
 
     ghost made = { P.made_queue_words };
 
-    fn make(
-        _: Global,
-        parts: (Option<(Span, Expr)>, Option<(Span, Full)>),
-    ) -> Result<QueueWords, NoMemory> {
+    fn make(_: Global, parts: NodeOf<Self::Parts>) -> Result<QueueWords, NoMemory> {
         let (priority, full) = parts;
         match priority {
             None => match full {

@@ -11,7 +11,8 @@ use fp_lexer::mark::{COLON, OPEN_BRACE};
 use fp_lexer::reserved::{INSTANCE, MACHINE, STATE};
 use fp_parse_defs::between;
 use fp_parse_pieces::{
-    After, AtWord, Behind, Either, Made, Make, Maybe, OneName, Parsed, Piece, QualifiedName, Seq,
+    After, AtWord, Behind, Either, Made, Make, Maybe, NodeOf, OneName, Parsed, Piece,
+    QualifiedName, Seq,
 };
 use fp_parse_states::{RestOfBody, machine_of};
 use fp_tree::{Behavior, Name, Part, Qual, Running};
@@ -40,7 +41,7 @@ impl Make for MachineBehind {
 
     ghost made = { S.made_machine_behind };
 
-    fn make(_: Global, parts: (Name, Option<Behavior>)) -> Result<Stated, NoMemory> {
+    fn make(_: Global, parts: NodeOf<Self::Parts>) -> Result<Stated, NoMemory> {
         let (name, behavior) = parts;
         Ok(Stated::Machine { name, behavior })
     }
@@ -65,7 +66,7 @@ impl Make for RunningBehind {
 
     ghost made = { S.made_running_behind };
 
-    fn make(_: Global, parts: (Name, (Qual, QueueWords))) -> Result<Stated, NoMemory> {
+    fn make(_: Global, parts: NodeOf<Self::Parts>) -> Result<Stated, NoMemory> {
         let (name, (of, queue)) = parts;
         Ok(Stated::Running { name, of, queue })
     }
@@ -106,7 +107,7 @@ impl Make for WordsFirst {
 
     ghost made = { S.made_stated };
 
-    fn make(alloc: Global, parts: (Span, Stated)) -> Result<Part, NoMemory> {
+    fn make(alloc: Global, parts: NodeOf<Self::Parts>) -> Result<Part, NoMemory> {
         let (word, stated) = parts;
         match stated {
             Stated::Machine { name, behavior } => {

@@ -9,7 +9,9 @@ use fp_lexer::reserved::{
     RED, REG, RESP, SET, SYNC, TELEMETRY, TEXT, TIME, WARNING, YELLOW,
 };
 use fp_lexer::{Token, Word};
-use fp_parse_pieces::{After, AtWord, Either, Leaf, Made, Make, OneLeaf, Parsed, Piece, Seq};
+use fp_parse_pieces::{
+    After, AtWord, Either, Leaf, Made, Make, NodeOf, OneLeaf, Parsed, Piece, Seq,
+};
 use fp_tree::{
     Color, CommandKind, ComponentKind, Full, GeneralKind, Severity, SpecialKind, Update,
 };
@@ -153,10 +155,7 @@ impl Make for InputKind {
 
     ghost made = { K.made_input };
 
-    fn make(
-        _: Global,
-        parts: ((Span, GeneralKind), Span),
-    ) -> Result<(Span, GeneralKind), NoMemory> {
+    fn make(_: Global, parts: NodeOf<Self::Parts>) -> Result<(Span, GeneralKind), NoMemory> {
         let (found, _) = parts;
         Ok(found)
     }

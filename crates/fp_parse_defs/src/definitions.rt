@@ -5,20 +5,17 @@ ghost use Rattle.fp_parse_defs.specs.Definitions as D;
 use crate::build::{between, expr_or, text_or, type_or};
 use crate::elements::{OneConst, OneField, OneFormal};
 use crate::type_names::{DefaultPart, FormatPart, OneType, Value};
-use fp_base::{Boxed, NoMemory, Row, Span, Text};
+use fp_base::{Boxed, NoMemory, Row, Text};
 use fp_lexer::Token;
 use fp_lexer::mark::{
     ARROW, CLOSE, CLOSE_BRACE, CLOSE_BRACKET, COLON, COMMA, EQUALS, OPEN, OPEN_BRACE, OPEN_BRACKET,
 };
 use fp_lexer::reserved::{ARRAY, CONSTANT, ENUM, PORT, STRUCT, TYPE};
 use fp_parse_pieces::{
-    AtLeastOne, AtMark, AtWord, Behind, Closed, Either, Listed, Made, Make, Maybe, OneName, Parsed,
-    Piece, Seq,
+    AtLeastOne, AtMark, AtWord, Behind, Closed, Either, Listed, Made, Make, Maybe, NodeOf, OneName,
+    Parsed, Piece, Seq,
 };
-use fp_tree::{
-    Abstract, Alias, Array, Constant, Def, Enum, EnumConst, Expr, Field, Formal, Name, Port, Str,
-    Struct, TypeName,
-};
+use fp_tree::{Abstract, Alias, Array, Constant, Def, Enum, Port, Struct};
 use std::alloc::Global;
 
 /// A constant.
@@ -31,7 +28,7 @@ impl Make for OneConstant {
 
     ghost made = { D.made_constant };
 
-    fn make(alloc: Global, parts: (Span, (Name, Expr))) -> Result<Def, NoMemory> {
+    fn make(alloc: Global, parts: NodeOf<Self::Parts>) -> Result<Def, NoMemory> {
         let (word, (name, value)) = parts;
         let at = between(word, value.at);
         let note = Text::new(alloc);
@@ -64,7 +61,7 @@ impl Make for OneTypeDef {
 
     ghost made = { D.made_type };
 
-    fn make(alloc: Global, parts: (Span, (Name, Option<TypeName>))) -> Result<Def, NoMemory> {
+    fn make(alloc: Global, parts: NodeOf<Self::Parts>) -> Result<Def, NoMemory> {
         let (word, (name, target)) = parts;
         let note = Text::new(alloc);
         match target {
@@ -118,13 +115,7 @@ impl Make for OneArray {
 
     ghost made = { D.made_array };
 
-    fn make(
-        alloc: Global,
-        parts: (
-            Span,
-            (Name, (Expr, (TypeName, (Option<Expr>, Option<Str>)))),
-        ),
-    ) -> Result<Def, NoMemory> {
+    fn make(alloc: Global, parts: NodeOf<Self::Parts>) -> Result<Def, NoMemory> {
         let (word, (name, (size, (element, (default, format))))) = parts;
         let at = between(word, text_or(expr_or(element.at, &default), &format));
         let note = Text::new(alloc);
@@ -167,10 +158,7 @@ impl Make for OneStruct {
 
     ghost made = { D.made_struct };
 
-    fn make(
-        alloc: Global,
-        parts: (Span, (Name, (Row<Field>, (Span, Option<Expr>)))),
-    ) -> Result<Def, NoMemory> {
+    fn make(alloc: Global, parts: NodeOf<Self::Parts>) -> Result<Def, NoMemory> {
         let (word, (name, (fields, (closing, default)))) = parts;
         let at = between(word, expr_or(closing, &default));
         let note = Text::new(alloc);
@@ -217,16 +205,7 @@ impl Make for OneEnum {
 
     ghost made = { D.made_enum };
 
-    fn make(
-        alloc: Global,
-        parts: (
-            Span,
-            (
-                Name,
-                (Option<TypeName>, (Row<EnumConst>, (Span, Option<Expr>))),
-            ),
-        ),
-    ) -> Result<Def, NoMemory> {
+    fn make(alloc: Global, parts: NodeOf<Self::Parts>) -> Result<Def, NoMemory> {
         let (word, (name, (repr, (constants, (closing, default))))) = parts;
         let at = between(word, expr_or(closing, &default));
         let note = Text::new(alloc);
@@ -264,13 +243,7 @@ impl Make for OnePort {
 
     ghost made = { D.made_port };
 
-    fn make(
-        alloc: Global,
-        parts: (
-            Span,
-            (Name, (Option<(Row<Formal>, Span)>, Option<TypeName>)),
-        ),
-    ) -> Result<Def, NoMemory> {
+    fn make(alloc: Global, parts: NodeOf<Self::Parts>) -> Result<Def, NoMemory> {
         let (word, (name, (formals, answer))) = parts;
         let (formals, end) = match formals {
             Some((formals, closing)) => (formals, closing),

@@ -2,13 +2,11 @@ ghost use Rattle.fp_parse_defs.specs.Definitions as D;
 
 use crate::build::{between, expr_or, text_or};
 use crate::type_names::{FormatPart, OneType, Value};
-use fp_base::{NoMemory, Span, Text};
+use fp_base::{NoMemory, Text};
 use fp_lexer::mark::{CLOSE_BRACKET, COLON, EQUALS, OPEN_BRACKET};
 use fp_lexer::reserved::REF;
-use fp_parse_pieces::{
-    AtWord, Behind, Closed, Element, Made, Make, Maybe, OneName, Parsed, Piece, Seq,
-};
-use fp_tree::{EnumConst, Expr, Field, Formal, Name, Str, TypeName};
+use fp_parse_pieces::{AtWord, Behind, Closed, Element, Made, Make, Maybe, NodeOf, OneName, Seq};
+use fp_tree::{EnumConst, Field, Formal};
 use std::alloc::Global;
 
 pub struct OneField;
@@ -29,10 +27,7 @@ impl Make for OneField {
 
     ghost made = { D.made_field };
 
-    fn make(
-        alloc: Global,
-        parts: (Name, (Option<Expr>, (TypeName, Option<Str>))),
-    ) -> Result<Field, NoMemory> {
+    fn make(alloc: Global, parts: NodeOf<Self::Parts>) -> Result<Field, NoMemory> {
         let (name, (size, (of, format))) = parts;
         let at = between(name.at, text_or(of.at, &format));
         let note = Text::new(alloc);
@@ -66,7 +61,7 @@ impl Make for OneConst {
 
     ghost made = { D.made_enum_const };
 
-    fn make(alloc: Global, parts: (Name, Option<Expr>)) -> Result<EnumConst, NoMemory> {
+    fn make(alloc: Global, parts: NodeOf<Self::Parts>) -> Result<EnumConst, NoMemory> {
         let (name, value) = parts;
         let at = between(name.at, expr_or(name.at, &value));
         let note = Text::new(alloc);
@@ -98,7 +93,7 @@ impl Make for OneFormal {
 
     ghost made = { D.made_formal };
 
-    fn make(alloc: Global, parts: (Option<Span>, (Name, TypeName))) -> Result<Formal, NoMemory> {
+    fn make(alloc: Global, parts: NodeOf<Self::Parts>) -> Result<Formal, NoMemory> {
         let (by_ref, (name, of)) = parts;
         let first = match by_ref {
             Some(word) => word,

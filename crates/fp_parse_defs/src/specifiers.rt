@@ -1,11 +1,11 @@
 ghost use Rattle.fp_parse_defs.specs.Specifiers as S;
 
 use crate::build::between;
-use fp_base::{NoMemory, Span, Text};
+use fp_base::{NoMemory, Text};
 use fp_lexer::Token;
 use fp_lexer::reserved::{IMPORT, INCLUDE};
-use fp_parse_pieces::{AtWord, Made, Make, OneText, Parsed, Piece, QualifiedName, Seq};
-use fp_tree::{Import, Include, Qual, Str};
+use fp_parse_pieces::{AtWord, Made, Make, NodeOf, OneText, Parsed, Piece, QualifiedName, Seq};
+use fp_tree::{Import, Include};
 use std::alloc::Global;
 
 /// An inclusion of a file.
@@ -18,7 +18,7 @@ impl Make for OneInclude {
 
     ghost made = { S.made_include };
 
-    fn make(alloc: Global, parts: (Span, Str)) -> Result<Include, NoMemory> {
+    fn make(alloc: Global, parts: NodeOf<Self::Parts>) -> Result<Include, NoMemory> {
         let (word, file) = parts;
         let at = between(word, file.at);
         let note = Text::new(alloc);
@@ -46,7 +46,7 @@ impl Make for OneImport {
 
     ghost made = { S.made_import };
 
-    fn make(alloc: Global, parts: (Span, Qual)) -> Result<Import, NoMemory> {
+    fn make(alloc: Global, parts: NodeOf<Self::Parts>) -> Result<Import, NoMemory> {
         let (word, of) = parts;
         let at = between(word, of.at);
         let note = Text::new(alloc);

@@ -6,14 +6,14 @@ ghost use Rattle.fp_parse_defs.specs.Definitions as D;
 use crate::build::{between, expr_or};
 use crate::expression::expression;
 use crate::measured::Measured;
-use fp_base::{NoMemory, Span};
+use fp_base::NoMemory;
 use fp_lexer::reserved::{
     BOOL, DEFAULT, F32, F64, FORMAT, I8, I16, I32, I64, SIZE, STRING, U8, U16, U32, U64,
 };
 use fp_lexer::{Token, Word};
 use fp_parse_pieces::{
-    After, AtWord, Either, Leaf, Made, Make, Maybe, OneLeaf, OneText, Parsed, Piece, QualifiedName,
-    Seq,
+    After, AtWord, Either, Leaf, Made, Make, Maybe, NodeOf, OneLeaf, OneText, Parsed, Piece,
+    QualifiedName, Seq,
 };
 use fp_tree::{Expr, Qual, TypeForm, TypeName};
 use std::alloc::Global;
@@ -107,7 +107,7 @@ impl Make for StringType {
 
     ghost made = { D.made_string };
 
-    fn make(_: Global, parts: (Span, Option<Expr>)) -> Result<TypeName, NoMemory> {
+    fn make(_: Global, parts: NodeOf<Self::Parts>) -> Result<TypeName, NoMemory> {
         let (word, size) = parts;
         let at = between(word, expr_or(word, &size));
         Ok(TypeName {

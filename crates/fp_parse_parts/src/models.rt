@@ -5,17 +5,17 @@ ghost use Rattle.fp_parse_parts.specs.Models as M;
 ghost use Rattle.fp_parse_parts.specs.declared.bare.ModelMember.TheVariants as model;
 
 use crate::bare::ModelMember;
-use fp_base::{NoMemory, Span};
+use fp_base::NoMemory;
 use fp_lexer::Token;
 use fp_lexer::mark::OPEN_BRACE;
 use fp_lexer::reserved::{MACHINE, STATE};
 use fp_parse_components::{OneComponent, OneInterface};
 use fp_parse_pieces::{
-    After, AtWord, Behind, Either, Made, Make, Maybe, OneName, Parsed, Piece, Seq,
+    After, AtWord, Behind, Either, Made, Make, Maybe, NodeOf, OneName, Parsed, Piece, Seq,
 };
 use fp_parse_states::{RestOfBody, machine_of};
 use fp_parse_topologies::{OneInstance, OneTopology};
-use fp_tree::{Behavior, Component, Instance, Interface, Machine, Name, Topology};
+use fp_tree::{Component, Instance, Interface, Machine, Topology};
 use std::alloc::Global;
 
 struct OneMachine;
@@ -30,7 +30,7 @@ impl Make for OneMachine {
 
     ghost made = { N.made_machine };
 
-    fn make(alloc: Global, parts: (Span, (Name, Option<Behavior>))) -> Result<Machine, NoMemory> {
+    fn make(alloc: Global, parts: NodeOf<Self::Parts>) -> Result<Machine, NoMemory> {
         let (word, (name, behavior)) = parts;
         Ok(machine_of(alloc, word, name, behavior))
     }

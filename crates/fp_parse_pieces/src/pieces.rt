@@ -24,6 +24,9 @@ pub trait Piece {
         ensures forward { IfOk result (λ p. from ≤ p.1) };
 }
 
+/// What a piece reads.
+pub type NodeOf<P> = <P as Piece>::Node;
+
 /// The one, and then the other.
 pub struct Seq<A: Piece, B: Piece> {
     both: PhantomData<(A, B)>,

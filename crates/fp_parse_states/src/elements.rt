@@ -13,9 +13,9 @@ use fp_lexer::reserved::{
 };
 use fp_parse_defs::{OneType, between, type_or};
 use fp_parse_pieces::{
-    After, AtMark, AtWord, Behind, Either, Made, Make, Maybe, OneName, Parsed, Piece, Seq,
+    After, AtMark, AtWord, Behind, Either, Made, Make, Maybe, NodeOf, OneName, Parsed, Piece, Seq,
 };
-use fp_tree::{Choice, Do, ElementForm, Goto, Name, OnSignal, Transition, TypeName, TypedName};
+use fp_tree::{Choice, Do, ElementForm, Goto, OnSignal, Transition, TypedName};
 use std::alloc::Global;
 
 /// A state up to its name.
@@ -28,7 +28,7 @@ impl Make for StateHead {
 
     ghost made = { E.made_state };
 
-    fn make(_: Global, parts: (Span, Name)) -> Result<Head, NoMemory> {
+    fn make(_: Global, parts: NodeOf<Self::Parts>) -> Result<Head, NoMemory> {
         let (word, name) = parts;
         let at = between(word, name.at);
         Ok(Head {
@@ -69,10 +69,7 @@ impl Make for OneChoice {
 
     ghost made = { E.made_choice };
 
-    fn make(
-        alloc: Global,
-        parts: (Span, (Name, (Name, (Goto, (Goto, Span))))),
-    ) -> Result<Head, NoMemory> {
+    fn make(alloc: Global, parts: NodeOf<Self::Parts>) -> Result<Head, NoMemory> {
         let (word, (name, (guard, (met, (unmet, closing))))) = parts;
         let at = between(word, closing);
         let choice = Choice {
@@ -105,7 +102,7 @@ impl Make for OneInitial {
 
     ghost made = { E.made_initial };
 
-    fn make(alloc: Global, parts: (Span, Goto)) -> Result<Head, NoMemory> {
+    fn make(alloc: Global, parts: NodeOf<Self::Parts>) -> Result<Head, NoMemory> {
         let (word, goto) = parts;
         let at = between(word, goto.at);
         let form = ElementForm::Initial(Boxed::new(alloc, goto)?);
@@ -134,7 +131,7 @@ impl Make for OneSignal {
 
     ghost made = { E.made_signal };
 
-    fn make(alloc: Global, parts: (Span, (Name, Option<TypeName>))) -> Result<Head, NoMemory> {
+    fn make(alloc: Global, parts: NodeOf<Self::Parts>) -> Result<Head, NoMemory> {
         let (word, (name, of)) = parts;
         let at = between(word, type_or(name.at, &of));
         let form = ElementForm::Signal(Boxed::new(alloc, TypedName { name, of })?);
@@ -161,7 +158,7 @@ impl Make for OneActionDef {
 
     ghost made = { E.made_action_def };
 
-    fn make(alloc: Global, parts: (Span, (Name, Option<TypeName>))) -> Result<Head, NoMemory> {
+    fn make(alloc: Global, parts: NodeOf<Self::Parts>) -> Result<Head, NoMemory> {
         let (word, (name, of)) = parts;
         let at = between(word, type_or(name.at, &of));
         let form = ElementForm::Action(Boxed::new(alloc, TypedName { name, of })?);
@@ -188,7 +185,7 @@ impl Make for OneGuard {
 
     ghost made = { E.made_guard };
 
-    fn make(alloc: Global, parts: (Span, (Name, Option<TypeName>))) -> Result<Head, NoMemory> {
+    fn make(alloc: Global, parts: NodeOf<Self::Parts>) -> Result<Head, NoMemory> {
         let (word, (name, of)) = parts;
         let at = between(word, type_or(name.at, &of));
         let form = ElementForm::Guard(Boxed::new(alloc, TypedName { name, of })?);
@@ -224,10 +221,7 @@ impl Make for OnOneSignal {
 
     ghost made = { E.made_on };
 
-    fn make(
-        alloc: Global,
-        parts: (Span, (Name, (Option<Name>, Transition))),
-    ) -> Result<Head, NoMemory> {
+    fn make(alloc: Global, parts: NodeOf<Self::Parts>) -> Result<Head, NoMemory> {
         let (word, (signal, (guard, transition))) = parts;
         let at = between(word, way_at(&transition));
         let on = OnSignal {
@@ -259,7 +253,7 @@ impl Make for OneEntry {
 
     ghost made = { E.made_entry };
 
-    fn make(_: Global, parts: (Span, Do)) -> Result<Head, NoMemory> {
+    fn make(_: Global, parts: NodeOf<Self::Parts>) -> Result<Head, NoMemory> {
         let (word, actions) = parts;
         let at = between(word, actions.at);
         Ok(Head {
@@ -288,7 +282,7 @@ impl Make for OneExit {
 
     ghost made = { E.made_exit };
 
-    fn make(_: Global, parts: (Span, Do)) -> Result<Head, NoMemory> {
+    fn make(_: Global, parts: NodeOf<Self::Parts>) -> Result<Head, NoMemory> {
         let (word, actions) = parts;
         let at = between(word, actions.at);
         Ok(Head {

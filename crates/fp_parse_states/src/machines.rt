@@ -8,7 +8,7 @@ use fp_lexer::Token;
 use fp_lexer::mark::OPEN_BRACE;
 use fp_lexer::reserved::{MACHINE, STATE};
 use fp_parse_defs::{between, parse_node};
-use fp_parse_pieces::{After, AtWord, Behind, Made, Make, Maybe, OneName, Seq};
+use fp_parse_pieces::{After, AtWord, Behind, Made, Make, Maybe, NodeOf, OneName, Seq};
 use fp_tree::{Behavior, Machine, Name};
 use std::alloc::Global;
 
@@ -48,7 +48,7 @@ impl Make for OneMachine {
 
     ghost made = { N.made_machine };
 
-    fn make(alloc: Global, parts: (Span, (Name, Option<Behavior>))) -> Result<Machine, NoMemory> {
+    fn make(alloc: Global, parts: NodeOf<Self::Parts>) -> Result<Machine, NoMemory> {
         let (word, (name, behavior)) = parts;
         Ok(machine_of(alloc, word, name, behavior))
     }

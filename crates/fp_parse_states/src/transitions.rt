@@ -2,16 +2,16 @@ ghost use Rattle.fp_grammar.specs.Parses.{Parses};
 ghost use Rattle.fp_parse_pieces.specs.Kinds.{kind};
 ghost use Rattle.fp_parse_states.specs.Transitions as T;
 
-use fp_base::{NoMemory, Row, Span, Text};
+use fp_base::{NoMemory, Text};
 use fp_lexer::Token;
 use fp_lexer::mark::{CLOSE_BRACE, COMMA, OPEN_BRACE};
 use fp_lexer::reserved::{DO, ENTER};
 use fp_parse_defs::between;
 use fp_parse_pieces::{
-    AtMark, AtWord, Behind, Either, Element, Listed, Made, Make, Maybe, OneName, Parsed, Piece,
-    QualifiedName, Seq,
+    AtMark, AtWord, Behind, Either, Element, Listed, Made, Make, Maybe, NodeOf, OneName, Parsed,
+    Piece, QualifiedName, Seq,
 };
-use fp_tree::{ActionUse, Do, Goto, Name, Qual, Transition};
+use fp_tree::{ActionUse, Do, Goto, Name, Transition};
 use std::alloc::Global;
 
 pub struct OneAction;
@@ -62,7 +62,7 @@ impl Make for OneDo {
 
     ghost made = { T.made_do };
 
-    fn make(_: Global, parts: (Span, (Row<ActionUse>, Span))) -> Result<Do, NoMemory> {
+    fn make(_: Global, parts: NodeOf<Self::Parts>) -> Result<Do, NoMemory> {
         let (word, (actions, closing)) = parts;
         let at = between(word, closing);
         Ok(Do { actions, at })
@@ -97,7 +97,7 @@ impl Make for OneGoto {
 
     ghost made = { T.made_goto };
 
-    fn make(_: Global, parts: (Option<Do>, (Span, Qual))) -> Result<Goto, NoMemory> {
+    fn make(_: Global, parts: NodeOf<Self::Parts>) -> Result<Goto, NoMemory> {
         let (actions, (word, target)) = parts;
         let first = match &actions {
             Some(actions) => actions.at,
@@ -137,7 +137,7 @@ impl Make for DoFirst {
 
     ghost made = { T.made_onward };
 
-    fn make(_: Global, parts: (Do, Option<(Span, Qual)>)) -> Result<Transition, NoMemory> {
+    fn make(_: Global, parts: NodeOf<Self::Parts>) -> Result<Transition, NoMemory> {
         let (actions, entered) = parts;
         match entered {
             None => Ok(Transition::Do(actions)),
@@ -163,7 +163,7 @@ impl Make for EnterFirst {
 
     ghost made = { T.made_entering };
 
-    fn make(_: Global, parts: (Span, Qual)) -> Result<Transition, NoMemory> {
+    fn make(_: Global, parts: NodeOf<Self::Parts>) -> Result<Transition, NoMemory> {
         let (word, target) = parts;
         let at = between(word, target.at);
         Ok(Transition::Goto(Goto {

@@ -1,15 +1,15 @@
 ghost use Rattle.fp_parse_topologies.specs.Connections as C;
 
-use fp_base::{NoMemory, Row, Span, Text};
+use fp_base::{NoMemory, Text};
 use fp_lexer::Token;
 use fp_lexer::mark::{ARROW, CLOSE_BRACE, CLOSE_BRACKET, COMMA, OPEN_BRACE, OPEN_BRACKET};
 use fp_lexer::reserved::{CONNECTIONS, UNMATCHED};
 use fp_parse_defs::{Value, between};
 use fp_parse_pieces::{
-    AtMark, AtWord, Behind, Element, Listed, Made, Make, Maybe, OneName, Parsed, Piece,
+    AtMark, AtWord, Behind, Element, Listed, Made, Make, Maybe, NodeOf, OneName, Parsed, Piece,
     QualifiedName, Seq,
 };
-use fp_tree::{Connection, Connections, Expr, Name, PortUse, Qual};
+use fp_tree::{Connection, Connections, PortUse};
 use std::alloc::Global;
 
 pub struct OnePortUse;
@@ -21,7 +21,7 @@ impl Make for OnePortUse {
 
     ghost made = { C.made_port_use };
 
-    fn make(_: Global, parts: (Qual, Option<(Expr, Span)>)) -> Result<PortUse, NoMemory> {
+    fn make(_: Global, parts: NodeOf<Self::Parts>) -> Result<PortUse, NoMemory> {
         let (of, number) = parts;
         match number {
             None => {
@@ -63,10 +63,7 @@ impl Make for OneConnection {
 
     ghost made = { C.made_connection };
 
-    fn make(
-        alloc: Global,
-        parts: (Option<Span>, (PortUse, PortUse)),
-    ) -> Result<Connection, NoMemory> {
+    fn make(alloc: Global, parts: NodeOf<Self::Parts>) -> Result<Connection, NoMemory> {
         let (unmatched, (from, to)) = parts;
         let first = match unmatched {
             Some(word) => word,
@@ -108,10 +105,7 @@ impl Make for OneConnections {
 
     ghost made = { C.made_connections };
 
-    fn make(
-        alloc: Global,
-        parts: (Span, (Name, (Row<Connection>, Span))),
-    ) -> Result<Connections, NoMemory> {
+    fn make(alloc: Global, parts: NodeOf<Self::Parts>) -> Result<Connections, NoMemory> {
         let (word, (name, (connections, closing))) = parts;
         let at = between(word, closing);
         let note = Text::new(alloc);

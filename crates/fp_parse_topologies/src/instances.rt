@@ -8,10 +8,10 @@ use fp_lexer::mark::{CLOSE_BRACE, COLON, OPEN_BRACE, SEMICOLON};
 use fp_lexer::reserved::{AT, BASE, CPU, ID, INSTANCE, PHASE, PRIORITY, QUEUE, SIZE, STACK, TYPE};
 use fp_parse_defs::{Value, between, expr_or, parse_node, text_or};
 use fp_parse_pieces::{
-    After, AtMark, AtWord, Behind, Element, Listed, Made, Make, Maybe, OneName, OneText, Parsed,
-    Piece, QualifiedName, Seq,
+    After, AtMark, AtWord, Behind, Element, Listed, Made, Make, Maybe, NodeOf, OneName, OneText,
+    Parsed, Piece, QualifiedName, Seq,
 };
-use fp_tree::{Expr, Instance, Name, Phase, Qual, Str};
+use fp_tree::{Expr, Instance, Phase, Str};
 use std::alloc::Global;
 
 pub struct OnePhase;
@@ -23,7 +23,7 @@ impl Make for OnePhase {
 
     ghost made = { I.made_phase };
 
-    fn make(alloc: Global, parts: (Span, (Expr, Str))) -> Result<Phase, NoMemory> {
+    fn make(alloc: Global, parts: NodeOf<Self::Parts>) -> Result<Phase, NoMemory> {
         let (word, (phase, code)) = parts;
         let at = between(word, code.at);
         let note = Text::new(alloc);
@@ -158,10 +158,7 @@ impl Make for OneInstance {
 
     ghost made = { I.made_instance };
 
-    fn make(
-        alloc: Global,
-        parts: (Span, (Name, (Qual, (Expr, SettingsNode)))),
-    ) -> Result<Instance, NoMemory> {
+    fn make(alloc: Global, parts: NodeOf<Self::Parts>) -> Result<Instance, NoMemory> {
         let (word, (name, (of, (base, settings)))) = parts;
         let ((kind, file), ((queue, stack), ((priority, cpu), phases))) = settings;
         let end = text_or(text_or(base.at, &kind), &file);

@@ -1,6 +1,6 @@
 ghost use Rattle.fp_parse_topologies.specs.Connections as C;
 
-use fp_base::{NoMemory, Row, Span, Text};
+use fp_base::{NoMemory, Span, Text};
 use fp_lexer::mark::{CLOSE_BRACE, COMMA, OPEN_BRACE};
 use fp_lexer::reserved::{
     COMMAND, CONNECTIONS, EVENT, HEALTH, INSTANCE, PARAM, TELEMETRY, TEXT, TIME,
@@ -8,8 +8,8 @@ use fp_lexer::reserved::{
 use fp_lexer::{Token, Word};
 use fp_parse_defs::between;
 use fp_parse_pieces::{
-    After, AtMark, AtWord, Behind, Either, Element, Leaf, Listed, Made, Make, Maybe, OneLeaf,
-    Parsed, Piece, QualifiedName, Seq,
+    After, AtMark, AtWord, Behind, Either, Element, Leaf, Listed, Made, Make, Maybe, NodeOf,
+    OneLeaf, Parsed, Piece, QualifiedName, Seq,
 };
 use fp_tree::{Pattern, PatternConnections, Qual, Target};
 use std::alloc::Global;
@@ -65,7 +65,7 @@ impl Make for TextEvent {
 
     ghost made = { C.made_text_event };
 
-    fn make(_: Global, parts: (Span, Span)) -> Result<(Pattern, Span), NoMemory> {
+    fn make(_: Global, parts: NodeOf<Self::Parts>) -> Result<(Pattern, Span), NoMemory> {
         let (text, _) = parts;
         Ok((Pattern::TextEvent, text))
     }
@@ -123,10 +123,7 @@ impl Make for OnePattern {
 
     ghost made = { C.made_pattern };
 
-    fn make(
-        alloc: Global,
-        parts: ((Pattern, Span), (Qual, Option<(Row<Target>, Span)>)),
-    ) -> Result<PatternConnections, NoMemory> {
+    fn make(alloc: Global, parts: NodeOf<Self::Parts>) -> Result<PatternConnections, NoMemory> {
         let ((kind, first), (of, found)) = parts;
         let (targets, end) = match found {
             Some((targets, closing)) => (Some(targets), closing),

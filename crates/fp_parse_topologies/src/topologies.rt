@@ -7,18 +7,16 @@ ghost use Rattle.fp_parse_topologies.specs.Topologies as T;
 
 use crate::connections::OneConnections;
 use crate::patterns::OnePattern;
-use fp_base::{NoMemory, Row, Span, Stop, Text};
+use fp_base::{NoMemory, Row, Stop, Text};
 use fp_lexer::Token;
 use fp_lexer::mark::{CLOSE_BRACE, OPEN_BRACE, SEMICOLON};
 use fp_lexer::reserved::{INSTANCE, PRIVATE, TOPOLOGY};
 use fp_parse_defs::{OneImport, OneInclude, between, parse_node};
 use fp_parse_pieces::{
-    AtMark, AtWord, Behind, Either, Element, Listed, Made, Make, Maybe, OneName, Parsed, Piece,
-    QualifiedName, Seq,
+    AtMark, AtWord, Behind, Either, Element, Listed, Made, Make, Maybe, NodeOf, OneName, Parsed,
+    Piece, QualifiedName, Seq,
 };
-use fp_tree::{
-    Connections, Import, Include, InstanceUse, Name, PatternConnections, Qual, TMember, Topology,
-};
+use fp_tree::{Connections, Import, Include, InstanceUse, PatternConnections, TMember, Topology};
 use std::alloc::Global;
 
 pub struct OneInstanceUse;
@@ -30,7 +28,7 @@ impl Make for OneInstanceUse {
 
     ghost made = { T.made_instance_use };
 
-    fn make(alloc: Global, parts: (Option<Span>, (Span, Qual))) -> Result<InstanceUse, NoMemory> {
+    fn make(alloc: Global, parts: NodeOf<Self::Parts>) -> Result<InstanceUse, NoMemory> {
         let (private, (word, of)) = parts;
         let first = match private {
             Some(private) => private,
@@ -231,10 +229,7 @@ impl Make for OneTopology {
 
     ghost made = { T.made_topology };
 
-    fn make(
-        alloc: Global,
-        parts: (Span, (Name, (Row<TMember>, Span))),
-    ) -> Result<Topology, NoMemory> {
+    fn make(alloc: Global, parts: NodeOf<Self::Parts>) -> Result<Topology, NoMemory> {
         let (word, (name, (members, closing))) = parts;
         let at = between(word, closing);
         let note = Text::new(alloc);
