@@ -2,7 +2,6 @@ use crate::conversion::of_types;
 use crate::formats::broken_formats;
 use crate::resolved::resolved_types;
 use crate::scenarios::of_scenario;
-use crate::serving::{code, left, written};
 use crate::sources::{
     broken_constants, broken_forms, broken_names, broken_parts, broken_types, count, definitions,
     evaluated, found, meanings, values,
@@ -13,9 +12,6 @@ use fp_base::{NoMemory, Stop, Text};
 use fp_case_texts::{Case, refused};
 use fp_meaning::Group;
 use std::alloc::Global;
-use std::rt::Files;
-use std::sync::Wait;
-use std::thread::Threads;
 
 /// What is asked of the names of a source; None where there is no such question.
 fn of_names(alloc: Global, case: &Case, question: &str) -> Option<Result<Text, Stop>> {
@@ -50,21 +46,6 @@ fn of_constants(alloc: Global, case: &Case, question: &str) -> Option<Result<Tex
     }
 }
 
-/// What a call leaves, asked by one question.
-fn of_call<R: Threads + Wait + Sync + Files>(
-    rt: &R,
-    alloc: Global,
-    case: &Case,
-    question: &str,
-) -> Result<Text, NoMemory> {
-    match question {
-        "out" => written(alloc, &left(rt, alloc, case)?.out),
-        "diag" => written(alloc, &left(rt, alloc, case)?.diag),
-        "status" => code(alloc, left(rt, alloc, case)?.status),
-        _ => Text::from_str(alloc, "no such question"),
-    }
-}
-
 fn told(alloc: Global, answer: Result<Text, Stop>) -> Result<Text, NoMemory> {
     match answer {
         Ok(text) => Ok(text),
@@ -74,12 +55,7 @@ fn told(alloc: Global, answer: Result<Text, Stop>) -> Result<Text, NoMemory> {
 }
 
 /// What comes of a question: an answer, or the rule that is broken, and where.
-pub fn answer<R: Threads + Wait + Sync + Files>(
-    rt: &R,
-    alloc: Global,
-    case: &Case,
-    question: &str,
-) -> Result<Text, NoMemory> {
+pub fn answer(alloc: Global, case: &Case, question: &str) -> Result<Text, NoMemory> {
     if let Some(answer) = of_names(alloc, case, question) {
         return told(alloc, answer);
     }
@@ -92,5 +68,5 @@ pub fn answer<R: Threads + Wait + Sync + Files>(
     if let Some(answer) = of_scenario(alloc, case, question) {
         return answer;
     }
-    of_call(rt, alloc, case, question)
+    Text::from_str(alloc, "no such question")
 }

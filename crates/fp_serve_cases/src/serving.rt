@@ -16,10 +16,10 @@ const ROOM: usize = 131_072;
 
 /// What a call leaves.
 #[derive(Drop)]
-pub struct Outcome {
-    pub status: Status,
-    pub out: MemSink,
-    pub diag: MemSink,
+struct Outcome {
+    status: Status,
+    out: MemSink,
+    diag: MemSink,
 }
 
 /// A sink of which the write of the number under a label fails.
@@ -81,7 +81,7 @@ fn served<R: Threads + Wait + Sync, F: Files>(
 }
 
 /// What its words leave on both sinks: over its own files, or over real ones where they stand in a folder.
-pub fn left<R: Threads + Wait + Sync + rt::Files>(
+fn left<R: Threads + Wait + Sync + rt::Files>(
     rt: &R,
     alloc: Global,
     case: &Case,
@@ -94,12 +94,27 @@ pub fn left<R: Threads + Wait + Sync + rt::Files>(
 }
 
 /// What a sink has.
-pub fn written(alloc: Global, sink: &MemSink) -> Result<Text, NoMemory> {
+fn written(alloc: Global, sink: &MemSink) -> Result<Text, NoMemory> {
     let text = Text::from_utf8(alloc, sink.bytes())?;
     Ok(text.unwrap_or(Text::new(alloc)))
 }
 
 /// The exit status.
-pub fn code(alloc: Global, status: Status) -> Result<Text, NoMemory> {
+fn code(alloc: Global, status: Status) -> Result<Text, NoMemory> {
     numeral(alloc, status.code() as u64)
+}
+
+/// What comes of a question.
+pub fn answer<R: Threads + Wait + Sync + rt::Files>(
+    rt: &R,
+    alloc: Global,
+    case: &Case,
+    question: &str,
+) -> Result<Text, NoMemory> {
+    match question {
+        "out" => written(alloc, &left(rt, alloc, case)?.out),
+        "diag" => written(alloc, &left(rt, alloc, case)?.diag),
+        "status" => code(alloc, left(rt, alloc, case)?.status),
+        _ => Text::from_str(alloc, "no such question"),
+    }
 }
