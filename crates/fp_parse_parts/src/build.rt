@@ -1,8 +1,9 @@
 ghost use Rattle.std.specs.Prelude.{◌≡◌, IfOk};
+ghost use Rattle.fp_parse_pieces.specs.Lists.{joined};
 ghost use Rattle.fp_parse_parts.specs.Members as M;
 
 use crate::bare::{BareMember, ModelMember};
-use fp_base::{NoMemory, Row, Span, Text};
+use fp_base::{Boxed, NoMemory, Row, Span, Text};
 use fp_parse_defs::noted_definition;
 use fp_parse_pieces::join;
 use fp_tree::{
@@ -73,17 +74,24 @@ fn noted_member(alloc: Global, member: BareMember, note: Text) -> Result<Member,
     }
 }
 
+fn annotated(alloc: Global, item: Boxed<BareMember>, lines: &[Text]) -> Result<Member, NoMemory>
+    ensures { IfOk result (λ member. member ≡ M.noted_member item (joined lines.now)) }
+{
+    let note = join(alloc, lines)?;
+    noted_member(alloc, item.into_inner(), note)
+}
+
 /// Adds a member with the lines of its annotation.
 pub fn with_member(
     alloc: Global,
     members: Row<Member>,
-    item: BareMember,
+    item: Boxed<BareMember>,
     lines: Row<Text>,
 ) -> Result<Row<Member>, NoMemory>
     ensures { IfOk result (λ more. more ≡ M.with_member members item lines) }
 {
-    let note = join(alloc, lines.as_slice())?;
+    let member = annotated(alloc, item, lines.as_slice())?;
     let mut all = members;
-    all.push(noted_member(alloc, item, note)?)?;
+    all.push(member)?;
     Ok(all)
 }

@@ -9,7 +9,7 @@ use crate::bare::BareMember;
 use crate::build::{include_of, locate_of, module_of, with_member};
 use crate::models::any_model;
 use crate::words::{locate_words, model_word_at, semicolon_at};
-use fp_base::{Row, Text};
+use fp_base::{Boxed, Row, Text};
 use fp_grammar::Halt;
 use fp_lexer::Token;
 use fp_lexer::mark::{CLOSE_BRACE, OPEN_BRACE};
@@ -115,7 +115,7 @@ fn add_annotated(
     tokens: &[Token],
     from: usize,
     members: Row<Member>,
-    item: BareMember,
+    item: Boxed<BareMember>,
     lines: Row<Text>,
 ) -> Result<(Row<Member>, usize), Halt>
     ensures { Parses kind (map (λ more. M.with_member members item (lines ++ more)) L.after_lines) tokens.now from result }
@@ -175,6 +175,21 @@ fn member(
     other_member(alloc, tokens, from, expressions)
 }
 
+// In a box: what else is read beside it may be refused, and the member is then dropped in one piece.
+#[cycle(members)]
+fn boxed_member(
+    alloc: Global,
+    tokens: &[Token],
+    from: usize,
+    expressions: u32,
+    depth: u32,
+) -> Result<(Boxed<BareMember>, usize), Halt>
+    ensures { Parses kind (M.member expressions depth) tokens.now from result }
+{
+    let (node, at) = member(alloc, tokens, from, expressions, depth)?;
+    Ok((Boxed::new(alloc, node)?, at))
+}
+
 #[cycle(members)]
 fn annotated_member(
     alloc: Global,
@@ -182,11 +197,11 @@ fn annotated_member(
     from: usize,
     expressions: u32,
     depth: u32,
-) -> Result<((BareMember, Row<Text>), usize), Halt>
+) -> Result<((Boxed<BareMember>, Row<Text>), usize), Halt>
     ensures { Parses kind (L.noted (M.member expressions depth)) tokens.now from result }
 {
     let (lines, at) = before_lines(alloc, tokens, from)?;
-    let (node, at) = member(alloc, tokens, at, expressions, depth)?;
+    let (node, at) = boxed_member(alloc, tokens, at, expressions, depth)?;
     let (lines, at) = more_lines(alloc, tokens, at, lines)?;
     Ok(((node, lines), at))
 }

@@ -47,6 +47,9 @@ member-returns t c =
     let none = absent_unless {b = M.nested_module c.args.expressions c.args.depth} c.if-word_at.ensures refl refl (member_fits c.args.expressions c.args.depth).refs.0 in
     handing (λ x to p. alt_second_accepts none p) (λ to p. alt_second_refuses none p) _ c.other_member.ensures
 
+pub boxed_member-returns : goal.boxed_member-returns
+boxed_member-returns t c = as_value (sym c.in_ok-new.ensures) c.in_ok-node.ensures
+
 pub annotated_member-returns-in_err-lines : goal.annotated_member-returns-in_err-lines
 annotated_member-returns-in_err-lines t c = passing _ _ (λ to p. stop_first (under (begin _ _ (noted_member_fits _ _))) p) c.in_err-lines.ensures c.from_residual.ensures.1
 

@@ -14,17 +14,20 @@ decreases-nested_module l = 10 * l.depth
 abbrev pub decreases-member : goal.decreases-member
 decreases-member l = 10 * l.depth + 1
 
+abbrev pub decreases-boxed_member : goal.decreases-boxed_member
+decreases-boxed_member l = 10 * l.depth + 2
+
 abbrev pub decreases-annotated_member : goal.decreases-annotated_member
-decreases-annotated_member l = 10 * l.depth + 2
+decreases-annotated_member l = 10 * l.depth + 3
 
 abbrev pub decreases-some_members : goal.decreases-some_members
-decreases-some_members l = 10 * l.depth + 3
+decreases-some_members l = 10 * l.depth + 4
 
 abbrev pub decreases-members : goal.decreases-members
-decreases-members l = 10 * l.depth + 4
+decreases-members l = 10 * l.depth + 5
 
 abbrev pub decreases-opened_module : goal.decreases-opened_module
-decreases-opened_module l = 10 * l.depth + 5
+decreases-opened_module l = 10 * l.depth + 6
 
 -- what was read are the members so far and one more, and a separator may follow
 abbrev pub invariant-some_members-separators : goal.invariant-some_members-separators
