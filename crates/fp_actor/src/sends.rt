@@ -11,7 +11,7 @@ ghost use Rattle.fp_actor.specs.Seen.{actions_of};
 use crate::lists::{ActionList, Sending};
 use crate::view::View;
 use fp_events::Point;
-use fp_tables::{Component, Part, Special, Tables};
+use fp_tables::{CommandPart, Component, Special, Tables};
 
 impl<'v> View<'v> {
     fn sending(&self, instance: u32, from: Special, note: &'v str) -> Option<Sending<'v>>
@@ -121,12 +121,12 @@ fn parameter_at(component: &Component, command: u32) -> Option<u32>
     }
 }
 
-fn parameter_of(part: Part) -> Option<u32>
+fn parameter_of(part: CommandPart) -> Option<u32>
     ensures { (t : Described) (program : Program) → result ≡ parameter_of_part t program part }
 {
     match part {
-        Part::Plain => None,
-        Part::SetParam(param) => Some(param),
-        Part::SaveParam(param) => Some(param),
+        CommandPart::Plain => None,
+        CommandPart::SetParam(param) => Some(param),
+        CommandPart::SaveParam(param) => Some(param),
     }
 }

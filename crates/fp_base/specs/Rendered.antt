@@ -3,9 +3,9 @@ use Rattle.std.specs.Prelude.{ℕ, suc, false, cond, ◌/◌, ◌%◌, nat_lt, n
 use Rattle.std.specs.Fmt.{digits, digit_glyph}
 use Rattle.fp_base.specs.declared.value.Value.{Value, Int, Bool as Truth, Text, Enumerated, Array', Struct', Opaque, Row_of-Value, more_of-Value, end_of-Value}
 use Rattle.fp_base.specs.declared.value.Value.TheBlock as block
-use Rattle.fp_base.specs.declared.value.Part.{Part}
-use Rattle.fp_base.specs.declared.format.Piece.{Piece}
-use Rattle.fp_base.specs.declared.format.Piece.TheVariants as piece
+use Rattle.fp_base.specs.declared.value.MemberValue.{MemberValue}
+use Rattle.fp_base.specs.declared.format.FormatPiece.{FormatPiece}
+use Rattle.fp_base.specs.declared.format.FormatPiece.TheVariants as piece
 
 -- a number in a base, in lower case
 abbrev pub in_base : ℕ → ℤ → List ℕ
@@ -45,11 +45,11 @@ abbrev mutual
   item_texts end_of-Value = []
   item_texts (more_of-Value v vs) = value_text v ∷ item_texts vs
 
-  pub part_texts : {m : _} → block.Row_of-Part m → List (List ℕ)
-  part_texts block.end_of-Part = []
-  part_texts (block.more_of-Part n v ps) = named_text n (value_text v) ∷ part_texts ps
+  pub part_texts : {m : _} → block.Row_of-MemberValue m → List (List ℕ)
+  part_texts block.end_of-MemberValue = []
+  part_texts (block.more_of-MemberValue n v ps) = named_text n (value_text v) ∷ part_texts ps
 
-abbrev pub part_text : Part → List ℕ
+abbrev pub part_text : MemberValue → List ℕ
 part_text p = named_text p.name (value_text p.value)
 
 -- the number of an integer or an enumerated constant
@@ -63,7 +63,7 @@ abbrev pub character : ℤ → List ℕ
 character (pos n) = cond (nat_le 32 n && nat_le n 126) (n ∷ []) (63 ∷ [])
 character (negsuc n) = 63 ∷ []
 
-abbrev pub field : Piece → Value → List ℕ
+abbrev pub field : FormatPiece → Value → List ℕ
 field piece.Any v = value_text v
 field piece.Dec v = in_base 10 (number_of v)
 field piece.Hex v = in_base 16 (number_of v)
@@ -72,7 +72,7 @@ field piece.Char v = character (number_of v)
 field (piece.Plain s) v = s
 
 -- each field takes the next value
-abbrev pub rendered : List Piece → List Value → List ℕ
+abbrev pub rendered : List FormatPiece → List Value → List ℕ
 rendered [] vs = []
 rendered (piece.Plain s ∷ ps) vs = s ++ rendered ps vs
 rendered (p ∷ ps) [] = rendered ps []

@@ -3,7 +3,7 @@ use crate::text::Text;
 
 /// A piece of a format: text as it stands, or a field with its form.
 #[derive(Drop)]
-pub enum Piece {
+pub enum FormatPiece {
     Plain(Text),
     /// `{}`: the value text.
     Any,
@@ -20,5 +20,5 @@ pub enum Piece {
 /// A format that has been read.
 #[derive(Drop)]
 pub struct Format {
-    pub parts: Row<Piece>,
+    pub parts: Row<FormatPiece>,
 }

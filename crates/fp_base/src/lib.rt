@@ -14,7 +14,7 @@ mod text;
 mod value;
 
 pub use boxed::Boxed;
-pub use format::{Format, Piece};
+pub use format::{Format, FormatPiece};
 pub use least::{earlier, lesser, refusal_at, refusal_if, stands_no_later};
 pub use memory::NoMemory;
 pub use place::{Place, Span, place_after, place_of};
@@ -23,4 +23,4 @@ pub use refusal::{PathStop, Refusal, Stop};
 pub use row::Row;
 pub use rule::Rule;
 pub use text::Text;
-pub use value::{Part, Value};
+pub use value::{MemberValue, Value};

@@ -4,7 +4,7 @@ ghost use Rattle.fp_base.specs.Rendered.{escaped, quoted, joined, value_text, pa
 
 use crate::memory::NoMemory;
 use crate::row::Row;
-use crate::value::{Part, Value};
+use crate::value::{MemberValue, Value};
 use itoa::Buffer;
 use std::alloc::Global;
 
@@ -62,7 +62,7 @@ fn push_items(items: &[Value], out: &mut Row<u8>) -> Result<(), NoMemory>
 }
 
 #[cycle(write)]
-fn push_parts(parts: &[Part], out: &mut Row<u8>) -> Result<(), NoMemory>
+fn push_parts(parts: &[MemberValue], out: &mut Row<u8>) -> Result<(), NoMemory>
     ensures { OnOk result (out.new ≡ out.old ++ joined (map part_text parts.now)) }
 {
     for (at, part) in parts.iter().enumerate() {

@@ -19,7 +19,7 @@ pub enum Value {
         number: i128,
     },
     Array(Row<Value>),
-    Struct(Row<Part>),
+    Struct(Row<MemberValue>),
     /// The one value of an abstract type.
     Opaque,
 }
@@ -27,7 +27,7 @@ pub enum Value {
 /// A member of a struct value.
 #[cycle(value)]
 #[derive(Drop)]
-pub struct Part {
+pub struct MemberValue {
     pub name: Text,
     pub value: Value,
 }
@@ -111,7 +111,7 @@ fn same_items(left: &[Value], right: &[Value]) -> bool
 }
 
 #[cycle(same)]
-fn same_parts(left: &[Part], right: &[Part]) -> bool
+fn same_parts(left: &[MemberValue], right: &[MemberValue]) -> bool
     ensures { IsTrue result ↔ (left.now ≡ right.now) }
 {
     if left.len() != right.len() {
@@ -137,14 +137,14 @@ fn copy_items(alloc: Global, items: &[Value]) -> Result<Row<Value>, NoMemory>
 }
 
 #[cycle(copy)]
-fn copy_parts(alloc: Global, parts: &[Part]) -> Result<Row<Part>, NoMemory>
+fn copy_parts(alloc: Global, parts: &[MemberValue]) -> Result<Row<MemberValue>, NoMemory>
     ensures { IfOk result (λ row. row ≡ parts.now) }
 {
     let mut row = Row::new(alloc);
     for part in parts {
         let name = part.name.copy(alloc)?;
         let value = part.value.copy(alloc)?;
-        row.push(Part { name, value })?;
+        row.push(MemberValue { name, value })?;
     }
     Ok(row)
 }

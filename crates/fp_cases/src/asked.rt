@@ -9,7 +9,7 @@ use crate::sources::{
 use crate::used::{broken_uses, flagged};
 use crate::written_types::{given_types, written_types};
 use fp_base::{NoMemory, Stop, Text};
-use fp_case_texts::{Case, refused};
+use fp_case_texts::{Asked, Case, refused};
 use fp_meaning::Group;
 use std::alloc::Global;
 
@@ -54,19 +54,24 @@ fn told(alloc: Global, answer: Result<Text, Stop>) -> Result<Text, NoMemory> {
     }
 }
 
-/// What comes of a question: an answer, or the rule that is broken, and where.
-pub fn answer(alloc: Global, case: &Case, question: &str) -> Result<Text, NoMemory> {
-    if let Some(answer) = of_names(alloc, case, question) {
-        return told(alloc, answer);
+/// The questions that this program knows.
+#[derive(Clone, Copy)]
+pub struct Questions;
+
+impl Asked for Questions {
+    fn answer(&self, alloc: Global, case: &Case, question: &str) -> Result<Text, NoMemory> {
+        if let Some(answer) = of_names(alloc, case, question) {
+            return told(alloc, answer);
+        }
+        if let Some(answer) = of_constants(alloc, case, question) {
+            return told(alloc, answer);
+        }
+        if let Some(answer) = of_types(alloc, case, question) {
+            return told(alloc, answer);
+        }
+        if let Some(answer) = of_scenario(alloc, case, question) {
+            return answer;
+        }
+        Text::from_str(alloc, "no such question")
     }
-    if let Some(answer) = of_constants(alloc, case, question) {
-        return told(alloc, answer);
-    }
-    if let Some(answer) = of_types(alloc, case, question) {
-        return told(alloc, answer);
-    }
-    if let Some(answer) = of_scenario(alloc, case, question) {
-        return answer;
-    }
-    Text::from_str(alloc, "no such question")
 }

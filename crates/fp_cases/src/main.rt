@@ -12,47 +12,11 @@ mod types;
 mod used;
 mod written_types;
 
-use crate::asked::answer;
-use fp_base::{NoMemory, Text};
-use fp_case_texts::{Case, add_differences, cases_of};
-use std::alloc::{AllocError, Global};
+use crate::asked::Questions;
+use fp_case_texts::run_cases;
+use std::io;
 use std::process::ExitCode;
-use std::{env, fs, io};
-
-/// What comes of each question of a case.
-fn answers(alloc: Global, case: &Case) -> Result<Vec<Text>, NoMemory> {
-    let mut all = Vec::new(alloc);
-    for part in case.parts.iter() {
-        if part.asks {
-            all.push(answer(alloc, case, part.label)?)?;
-        }
-    }
-    Ok(all)
-}
-
-/// How many cases a file has, and the lines of what differs in it.
-fn run(alloc: Global, name: &str, text: &str) -> Result<(usize, Text), NoMemory> {
-    let cases = cases_of(alloc, text)?;
-    let mut out = Text::new(alloc);
-    for case in cases.iter() {
-        let came = answers(alloc, case)?;
-        add_differences(alloc, name, case, came.as_slice(), &mut out)?;
-    }
-    Ok((cases.len(), out))
-}
 
 fn main(rt: HostRuntime) -> io::Result<ExitCode> {
-    let mut count = 0_usize;
-    let mut differs = false;
-    for name in env::args(&rt)?.skip(1) {
-        let text = fs::read_to_string(&rt, name.as_str())?;
-        let Ok((cases, lines)) = run(rt.alloc(), name.as_str(), text.as_str()) else {
-            return Err(io::Error::from(AllocError));
-        };
-        print!(rt; "{}", lines.as_str())?;
-        count = count.saturating_add(cases);
-        differs = differs | (lines.len() > 0);
-    }
-    println!(rt; "{count} cases")?;
-    Ok(ExitCode::from(if differs { 1 } else { 0 }))
+    run_cases(&rt, &Questions)
 }

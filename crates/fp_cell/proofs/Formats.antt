@@ -1,7 +1,7 @@
 -- Values of the kinds of an event's formals fill its format.
 use Rattle.std.proofs.Common.{◌≡◌, ℤ, Bool, true, ◌&&◌, List, [], ◌∷◌, map, refl}
-use Rattle.fp_base.specs.declared.format.Piece.{Piece}
-use Rattle.fp_base.specs.declared.format.Piece.TheVariants as piece
+use Rattle.fp_base.specs.declared.format.FormatPiece.{FormatPiece}
+use Rattle.fp_base.specs.declared.format.FormatPiece.TheVariants as piece
 use Rattle.fp_base.specs.declared.value.Value.{Value, Int}
 use Rattle.fp_base.proofs.Bools.{both, join}
 use Rattle.fp_tables.specs.Formats.{suits, agree}
@@ -29,7 +29,7 @@ module _ (types : List TypeDef) where
       go opaque e = absurd (cc (rw e at is))
       go nothing e = absurd (cc (rw e at is))
 
-  taken : (p : Piece) (f : Formal) (v : Value) → suits types p f ≡ true → has_kind types f.kind v ≡ true → takes p v ≡ true
+  taken : (p : FormatPiece) (f : Formal) (v : Value) → suits types p f ≡ true → has_kind types f.kind v ≡ true → takes p v ≡ true
   taken piece.Any f v h k = refl
   taken (piece.Plain s) f v h k = integer_value f.kind v h k
   taken piece.Dec f v h k = integer_value f.kind v h k
@@ -38,14 +38,14 @@ module _ (types : List TypeDef) where
   taken piece.Char f v h k = integer_value f.kind v h k
 
   -- one field and its value
-  one_field : (p : Piece) (f : Formal) (v : Value) (rest fitting : Bool) (more : Bool) → (rest ≡ true → more ≡ true → fitting ≡ true)
+  one_field : (p : FormatPiece) (f : Formal) (v : Value) (rest fitting : Bool) (more : Bool) → (rest ≡ true → more ≡ true → fitting ≡ true)
       → (suits types p f && rest) ≡ true → (has_kind types f.kind v && more) ≡ true → (takes p v && fitting) ≡ true
   one_field p f v rest fitting more then h k =
       let a = both (suits types p f) rest h in
       let b = both (has_kind types f.kind v) more k in
       join (takes p v) fitting (taken p f v a.0 b.0) (then a.1 b.1)
 
-  pub values_fit : (ps : List Piece) (fs : List Formal) (vs : List Value) → agree types ps fs ≡ true → have_kinds types (map (λ (f : Formal). f.kind) fs) vs ≡ true → fits ps vs ≡ true
+  pub values_fit : (ps : List FormatPiece) (fs : List Formal) (vs : List Value) → agree types ps fs ≡ true → have_kinds types (map (λ (f : Formal). f.kind) fs) vs ≡ true → fits ps vs ≡ true
   values_fit [] [] [] h k = refl
   values_fit [] [] (v ∷ vs) h k = absurd (cc)
   values_fit [] (f ∷ fs) vs h k = absurd (cc)

@@ -16,8 +16,8 @@ use Rattle.fp_tables.specs.declared.component.Event.{Event}
 use Rattle.fp_tables.specs.declared.component.Full.{Full}
 use Rattle.fp_tables.specs.declared.component.Full.TheVariants as full
 use Rattle.fp_tables.specs.declared.component.Param.{Param}
-use Rattle.fp_tables.specs.declared.component.Part.{Part}
-use Rattle.fp_tables.specs.declared.component.Part.TheVariants.{Plain, SetParam, SaveParam}
+use Rattle.fp_tables.specs.declared.component.CommandPart.{CommandPart}
+use Rattle.fp_tables.specs.declared.component.CommandPart.TheVariants.{Plain, SetParam, SaveParam}
 use Rattle.fp_tables.specs.declared.component.Port.{Port as PortOf}
 use Rattle.fp_tables.specs.declared.component.Role.{Role}
 use Rattle.fp_tables.specs.declared.component.Role.TheVariants as role
@@ -151,7 +151,7 @@ module _ (t : Described) (program : Program) (i a : ℕ) (s : Inside) (good : Ha
 
   -- ---- set and save
 
-  is_set : (way : Way) (part : Part) (k : ℕ) → command_manner way part ≡ sets k → part ≡ SetParam k
+  is_set : (way : Way) (part : CommandPart) (k : ℕ) → command_manner way part ≡ sets k → part ≡ SetParam k
   is_set way Plain k h = absurd (cc)
   is_set way (SetParam j) k h = let e : j ≡ k = cc in ap SetParam e
   is_set way (SaveParam j) k h = absurd (cc)
@@ -215,7 +215,7 @@ module _ (t : Described) (program : Program) (i a : ℕ) (s : Inside) (good : Ha
       let v = mapped_some (λ v. what.Save r v) (slice_get s.params k) w h in
       subst GoesOn v.2 (save_it r k v.0 fit how v.1)
 
-  is_save : (way : Way) (part : Part) (k : ℕ) → command_manner way part ≡ saves k → part ≡ SaveParam k
+  is_save : (way : Way) (part : CommandPart) (k : ℕ) → command_manner way part ≡ saves k → part ≡ SaveParam k
   is_save way Plain k h = absurd (cc)
   is_save way (SetParam j) k h = absurd (cc)
   is_save way (SaveParam j) k h = let e : j ≡ k = cc in ap SaveParam e

@@ -7,7 +7,7 @@ use Rattle.fp_tables.specs.Components.{same_kind, takes_its_value}
 use Rattle.fp_tables.specs.Types.{has_kind, have_kinds}
 use Rattle.fp_tables.specs.declared.component.Command.{Command}
 use Rattle.fp_tables.specs.declared.component.Param.{Param}
-use Rattle.fp_tables.specs.declared.component.Part.TheVariants.{SetParam}
+use Rattle.fp_tables.specs.declared.component.CommandPart.TheVariants.{SetParam}
 use Rattle.fp_tables.specs.declared.kind.Formal.{Formal}
 use Rattle.fp_tables.specs.declared.kind.Kind.{Kind}
 use Rattle.fp_tables.specs.declared.kind.TypeDef.{TypeDef}

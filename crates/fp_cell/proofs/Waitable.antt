@@ -7,8 +7,8 @@ use Rattle.fp_tables.specs.SoundPrograms.{priority_of, port_priority, priorities
 use Rattle.fp_tables.specs.declared.component.Command.{Command}
 use Rattle.fp_tables.specs.declared.component.Component.{Component}
 use Rattle.fp_tables.specs.declared.component.Full.{Full}
-use Rattle.fp_tables.specs.declared.component.Part.{Part}
-use Rattle.fp_tables.specs.declared.component.Part.TheVariants.{Plain, SetParam, SaveParam}
+use Rattle.fp_tables.specs.declared.component.CommandPart.{CommandPart}
+use Rattle.fp_tables.specs.declared.component.CommandPart.TheVariants.{Plain, SetParam, SaveParam}
 use Rattle.fp_tables.specs.declared.component.Port.{Port as PortOf}
 use Rattle.fp_tables.specs.declared.component.Role.{Role}
 use Rattle.fp_tables.specs.declared.component.Role.TheVariants as role
@@ -44,7 +44,7 @@ of_internal : (r : Role) (p : ℤ) (policy : Full) → internal_manner r ≡ Som
 of_internal (role.Internal way) p policy h = let e : by way ≡ by (Later p policy) = cc in of_way way p policy e
 of_internal _ p policy h = absurd (cc)
 
-of_command : (w : Way) (x : Part) (p : ℤ) (policy : Full) → command_manner w x ≡ by (Later p policy) → Contains (priority_of w) p
+of_command : (w : Way) (x : CommandPart) (p : ℤ) (policy : Full) → command_manner w x ≡ by (Later p policy) → Contains (priority_of w) p
 of_command w Plain p policy h = of_way w p policy h
 of_command w (SetParam k) p policy h = absurd (cc)
 of_command w (SaveParam k) p policy h = absurd (cc)

@@ -6,7 +6,7 @@ ghost use Rattle.fp_events.specs.Lookup.{queue_size, machine};
 ghost use Rattle.fp_events.specs.Manners.{manner, input_manner, internal_manner, command_manner};
 
 use fp_events::Point;
-use fp_tables::{Channel, Command, Event, Machine, Part, Port, Role, Running, Tables, Way};
+use fp_tables::{Channel, Command, CommandPart, Event, Machine, Port, Role, Running, Tables, Way};
 
 /// How an instance treats what arrives at a place: by the place's way, or as the implied set or save command of a parameter.
 #[derive(Clone, Copy)]
@@ -80,13 +80,13 @@ fn manner_of_internal(role: Role) -> Option<Manner>
     }
 }
 
-fn manner_of_command(way: Way, part: Part) -> Manner
+fn manner_of_command(way: Way, part: CommandPart) -> Manner
     ensures { treated result ≡ command_manner way part }
 {
     match part {
-        Part::Plain => Manner::By(way),
-        Part::SetParam(param) => Manner::Sets(param),
-        Part::SaveParam(param) => Manner::Saves(param),
+        CommandPart::Plain => Manner::By(way),
+        CommandPart::SetParam(param) => Manner::Sets(param),
+        CommandPart::SaveParam(param) => Manner::Saves(param),
     }
 }
 

@@ -1,7 +1,7 @@
 -- Which written components come to something: whatever number, format, default or name stands in them is there. FPP Language Specification,
 -- "Component Definitions".
 use Rattle.std.specs.Prelude.{◌≡◌, ℕ, ◌<◌, ◌^◌, ◌-◌, ℤ, pos, negsuc, true, List, length, flat_map, slice_get, Option, Some, None}
-use Rattle.fp_base.specs.declared.format.Piece.{Piece}
+use Rattle.fp_base.specs.declared.format.FormatPiece.{FormatPiece}
 use Rattle.fp_base.specs.declared.value.Value.{Value}
 use Rattle.fp_tree.specs.declared.dictionary.CommandKind.{CommandKind}
 use Rattle.fp_tree.specs.declared.dictionary.CommandKind.TheVariants.{Async}
@@ -72,7 +72,7 @@ IsWholeCommand Async q = IsWholeQueue q
 IsWholeCommand _ q = Unit {0}
 
 pub record IsWholeEvent (e : WrittenEvent) : Type 0 where
-  pub format : (parts : List Piece) × IsFormat e.format parts
+  pub format : (parts : List FormatPiece) × IsFormat e.format parts
   pub throttle : IsGivenWithin (pos 1) (pos (2 ^ 32 - 1)) e.throttle
 
 abbrev pub AreWholeLimits : List WrittenLimit → Type 0

@@ -6,7 +6,7 @@ ghost use Rattle.fp_components.specs.Whole.{IsWholeCommand};
 use crate::formals::formals_of;
 use crate::queues::way_of;
 use fp_base::{NoMemory, Row, Text};
-use fp_tables::{Command, Formal, Kind, Part, Way};
+use fp_tables::{Command, CommandPart, Formal, Kind, Way};
 use fp_written_parts::{WrittenCommand, WrittenParam};
 use std::alloc::Global;
 
@@ -19,7 +19,7 @@ pub fn command_of(alloc: Global, command: &WrittenCommand, opcode: u32) -> Resul
     let note = command.note.copy(alloc)?;
     Ok(Command {
         name,
-        part: Part::Plain,
+        part: CommandPart::Plain,
         way: way_of(command.kind, command.queue),
         opcode,
         formals,
@@ -41,7 +41,7 @@ pub fn set_command(
     name.push_str("_PRM_SET")?;
     Ok(Command {
         name,
-        part: Part::SetParam(at),
+        part: CommandPart::SetParam(at),
         way: Way::Sync,
         opcode,
         formals,
@@ -62,7 +62,7 @@ pub fn save_command(
     name.push_str("_PRM_SAVE")?;
     Ok(Command {
         name,
-        part: Part::SaveParam(at),
+        part: CommandPart::SaveParam(at),
         way: Way::Sync,
         opcode,
         formals: Row::new(alloc),

@@ -1,5 +1,5 @@
 ghost use Rattle.std.specs.Prelude.{◌≡◌, ℕ, List, IfOk};
-ghost use Rattle.fp_base.specs.declared.format.Piece.{Piece};
+ghost use Rattle.fp_base.specs.declared.format.FormatPiece.{FormatPiece};
 ghost use Rattle.fp_formats.specs.Spelling.{IsFormat};
 ghost use Rattle.fp_dictdefs.specs.declared.listed.Listed.{Listed};
 ghost use Rattle.fp_components.specs.Resolved.{IsEvent, IsId, severity_code};
@@ -50,7 +50,7 @@ fn severity_code(severity: Severity) -> u8
 
 /// The format that a text is, an empty one where it is none.
 fn fields_of(alloc: Global, text: &Text) -> Result<Format, NoMemory>
-    ensures { (parts : List Piece) → IsFormat text.now parts → IfOk result (λ format. IsFormat text.now format.parts) }
+    ensures { (parts : List FormatPiece) → IsFormat text.now parts → IfOk result (λ format. IsFormat text.now format.parts) }
 {
     match read_format(alloc, text) {
         Ok(format) => Ok(format),

@@ -3,7 +3,7 @@ use Rattle.std.proofs.Common.{◌≡◌, ℕ, ◌+◌, ◌≤◌, ℤ, Bool, Lis
 use Rattle.fp_base.specs.declared.value.Value.{Value, fold-Value, fold-roll-Value, Int, Bool as Truth, Text, Enumerated, Struct}
 use Rattle.fp_base.specs.declared.value.Value.TheOpen as value
 use Rattle.fp_base.specs.declared.value.Value.TheVariants.{rolls-Struct}
-use Rattle.fp_base.specs.declared.value.Part.{Part, fold_out-Part, fold-Part}
+use Rattle.fp_base.specs.declared.value.MemberValue.{MemberValue, fold_out-MemberValue, fold-MemberValue}
 use Rattle.fp_tree.specs.declared.source.Source.{Source}
 use Rattle.fp_tree.specs.declared.expression.Assignment.{Assignment}
 use Rattle.fp_meaning.specs.Names.{Path}
@@ -59,20 +59,20 @@ pub with_among : (n : ℕ) (vs : List Value) → n ≡ sum (map leaves vs) → l
 with_among n [] h = refl
 with_among n (v ∷ vs) h = h
 
-abbrev part_step : value.Part-F ℕ ℕ → ℕ
+abbrev part_step : value.MemberValue-F ℕ ℕ → ℕ
 part_step p = p.value
 
 -- the members' values under their names have the leaves and levels of the values
 module _ (step : value.Value-F ℕ ℕ → ℕ) where
-  abbrev pub parts_sizes : List Part → List ℕ
-  parts_sizes ps = map (fold-Part ℕ ℕ step part_step) ps
+  abbrev pub parts_sizes : List MemberValue → List ℕ
+  parts_sizes ps = map (fold-MemberValue ℕ ℕ step part_step) ps
 
   pub parts_same : {source : Source} {scope : Path} (ms : List Assignment) (vs : List Value) → Vals source scope (values_in ms) vs
       → parts_sizes (parts_with ms vs) ≡ map (fold-Value ℕ ℕ step part_step) vs
   parts_same [] [] h = refl
   parts_same [] (v ∷ vs) h = elim h [ ]
   parts_same (m ∷ ms) [] h = elim h [ ]
-  parts_same (m ∷ ms) (v ∷ vs) (more x xs) = λ i. fold_out-Part ℕ ℕ step part_step (record { name = m.name.text; value = v }) i ∷ parts_same ms vs xs i
+  parts_same (m ∷ ms) (v ∷ vs) (more x xs) = λ i. fold_out-MemberValue ℕ ℕ step part_step (record { name = m.name.text; value = v }) i ∷ parts_same ms vs xs i
 
 pub struct_leaves : {source : Source} {scope : Path} (ms : List Assignment) (vs : List Value) → Vals source scope (values_in ms) vs
     → leaves (Struct (parts_with ms vs)) ≡ leaves_among (map leaves vs)

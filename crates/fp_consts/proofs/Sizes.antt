@@ -5,7 +5,7 @@ use Rattle.fp_base.specs.declared.value.Value.TheOpen as value
 use Rattle.fp_base.specs.declared.value.Value.TheVariants.{rolls-Int, rolls-Text, rolls-Bool, rolls-Enumerated, rolls-Array}
 use Rattle.fp_meaning.specs.Values.{leaves, leaves_step, leaves_among, levels, levels_step, deepest}
 
-abbrev part_step : value.Part-F ℕ ℕ → ℕ
+abbrev part_step : value.MemberValue-F ℕ ℕ → ℕ
 part_step p = p.value
 
 pub number_leaves : (n : ℤ) → leaves (Int n) ≡ 1

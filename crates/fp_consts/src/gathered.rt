@@ -5,7 +5,7 @@ ghost use Rattle.fp_consts.specs.Examined.{found_of, IsNext, IsSized};
 
 use crate::found::Examination;
 use crate::measured::Measured;
-use fp_base::{NoMemory, Part, Place, Refusal, Row, Rule, Value, lesser, refusal_at};
+use fp_base::{MemberValue, NoMemory, Place, Refusal, Row, Rule, Value, lesser, refusal_at};
 use fp_tree::Assignment;
 use std::alloc::Global;
 
@@ -208,7 +208,11 @@ pub fn structured(
 }
 
 /// The values under the members' names.
-fn parts(alloc: Global, members: &[Assignment], values: Row<Value>) -> Result<Row<Part>, NoMemory>
+fn parts(
+    alloc: Global,
+    members: &[Assignment],
+    values: Row<Value>,
+) -> Result<Row<MemberValue>, NoMemory>
     ensures { IfOk result (λ row. row ≡ parts_with members.now values) }
 {
     let mut row = Row::new(alloc);
@@ -218,7 +222,7 @@ fn parts(alloc: Global, members: &[Assignment], values: Row<Value>) -> Result<Ro
             return Ok(row);
         };
         let name = member.name.text.copy(alloc)?;
-        row.push(Part { name, value })?;
+        row.push(MemberValue { name, value })?;
     }
     Ok(row)
 }

@@ -7,8 +7,8 @@ use Rattle.fp_tables.specs.declared.component.Command.{Command}
 use Rattle.fp_tables.specs.declared.component.Event.{Event}
 use Rattle.fp_tables.specs.declared.component.Limit.{Limit}
 use Rattle.fp_tables.specs.declared.component.Param.{Param}
-use Rattle.fp_tables.specs.declared.component.Part.{Part}
-use Rattle.fp_tables.specs.declared.component.Part.TheVariants as part
+use Rattle.fp_tables.specs.declared.component.CommandPart.{CommandPart}
+use Rattle.fp_tables.specs.declared.component.CommandPart.TheVariants as part
 use Rattle.fp_tables.specs.declared.component.Way.{Way}
 use Rattle.fp_tables.specs.declared.component.Way.TheVariants as way
 use Rattle.fp_tables.specs.declared.kind.Formal.{Formal}
@@ -26,7 +26,7 @@ queued (way.Later priority f) = (number_no_float priority, (refl, tt))
 queued way.Sync = tt
 queued way.Guarded = tt
 
-queue : (c : Command) (p : Part) → Each NoFloatAt (queue_of c p)
+queue : (c : Command) (p : CommandPart) → Each NoFloatAt (queue_of c p)
 queue c part.Plain = queued c.way
 queue c (part.SetParam k) = tt
 queue c (part.SaveParam k) = tt

@@ -10,8 +10,8 @@ use Rattle.fp_tables.specs.declared.component.Full.{Full}
 use Rattle.fp_tables.specs.declared.component.Full.TheVariants as full
 use Rattle.fp_tables.specs.declared.component.Limit.{Limit}
 use Rattle.fp_tables.specs.declared.component.Param.{Param}
-use Rattle.fp_tables.specs.declared.component.Part.{Part}
-use Rattle.fp_tables.specs.declared.component.Part.TheVariants as part
+use Rattle.fp_tables.specs.declared.component.CommandPart.{CommandPart}
+use Rattle.fp_tables.specs.declared.component.CommandPart.TheVariants as part
 use Rattle.fp_tables.specs.declared.component.Way.{Way}
 use Rattle.fp_tables.specs.declared.component.Way.TheVariants as way
 use Rattle.fp_tables.specs.declared.topology.Instance.{Instance}
@@ -36,7 +36,7 @@ way_word way.Sync = codes "sync"
 way_word way.Guarded = codes "guarded"
 
 -- one that is written by its way, one that comes with a parameter by what it does
-abbrev pub command_kind : Command → Part → List ℕ
+abbrev pub command_kind : Command → CommandPart → List ℕ
 command_kind c part.Plain = way_word c.way
 command_kind c (part.SetParam k) = codes "set"
 command_kind c (part.SaveParam k) = codes "save"
@@ -46,7 +46,7 @@ queue_entries (way.Later priority f) = (codes "priority", number_data priority) 
 queue_entries _ = []
 
 -- of an asynchronous command
-abbrev pub queue_of : Command → Part → List Entry
+abbrev pub queue_of : Command → CommandPart → List Entry
 queue_of c part.Plain = queue_entries c.way
 queue_of c _ = []
 

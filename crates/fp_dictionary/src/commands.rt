@@ -8,7 +8,7 @@ use crate::formals::{formals_value, put_name};
 use crate::lists::{Listed, number_in};
 use fp_base::NoMemory;
 use fp_dictionary_types::{Object, number_value};
-use fp_tables::{Command, Component, Full, Instance, Part, TypeDef, Way};
+use fp_tables::{Command, CommandPart, Component, Full, Instance, TypeDef, Way};
 use serde_json::Value;
 use std::alloc::Global;
 
@@ -61,9 +61,9 @@ fn command_kind(command: &Command) -> &'static str
     ensures { result.now ≡ command_kind command.now command.now.part }
 {
     match command.part {
-        Part::Plain => way_word(command.way),
-        Part::SetParam(_) => "set",
-        Part::SaveParam(_) => "save",
+        CommandPart::Plain => way_word(command.way),
+        CommandPart::SetParam(_) => "set",
+        CommandPart::SaveParam(_) => "save",
     }
 }
 
@@ -93,7 +93,7 @@ fn put_queue(object: &mut Object, alloc: Global, command: &Command) -> Result<()
     ensures { OnOk result (held object.new ≡ with_entries (queue_of command.now command.now.part) (held object.old)) }
 {
     match (command.part, command.way) {
-        (Part::Plain, Way::Later { priority, full }) => {
+        (CommandPart::Plain, Way::Later { priority, full }) => {
             object.put(alloc, "priority", number_value(i128::from(priority)))?;
             object.put_text(alloc, "queueFullBehavior", full_word(full))
         }

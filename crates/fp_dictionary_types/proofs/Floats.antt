@@ -81,9 +81,9 @@ mutual
   items_no_float end_of-Value = refl
   items_no_float (more_of-Value v vs) = ap (λ b. b || items_have_float (items_data vs)) (value_no_float v) ∙ items_no_float vs
 
-  parts_no_float : {m : _} (ps : block.Row_of-Part m) (ms : Members) → members_have_float ms ≡ false → members_have_float (parts_data ps ms) ≡ false
-  parts_no_float block.end_of-Part ms h = h
-  parts_no_float (block.more_of-Part n v ps) ms h = parts_no_float ps _ (put_no_float n (value_data v) ms (value_no_float v) h)
+  parts_no_float : {m : _} (ps : block.Row_of-MemberValue m) (ms : Members) → members_have_float ms ≡ false → members_have_float (parts_data ps ms) ≡ false
+  parts_no_float block.end_of-MemberValue ms h = h
+  parts_no_float (block.more_of-MemberValue n v ps) ms h = parts_no_float ps _ (put_no_float n (value_data v) ms (value_no_float v) h)
 
 size_no_float : (size : Option ℕ) → Each NoFloatAt (size_entries size)
 size_no_float None = tt

@@ -2,7 +2,7 @@
 use Rattle.std.specs.Prelude.{ℕ, ℤ, pos, negsuc, cond, codes, nat_lt, List, ◌++◌, ◌^◌}
 use Rattle.fp_base.specs.declared.value.Value.{Value, Int, Bool as Truth, Text, Enumerated, Array', Struct', Opaque, Row_of-Value, more_of-Value, end_of-Value}
 use Rattle.fp_base.specs.declared.value.Value.TheBlock as block
-use Rattle.fp_base.specs.declared.value.Part.{Part}
+use Rattle.fp_base.specs.declared.value.MemberValue.{MemberValue}
 use Rattle.serde_json.specs.Data.{Data, null, boolean, number, string, array, object, unsigned, negative, Items, no_items, item, Members, no_members, put}
 use Rattle.fp_dictionary_types.specs.Objects.{Entry}
 
@@ -29,10 +29,10 @@ abbrev mutual
   items_data end_of-Value = no_items
   items_data (more_of-Value v vs) = item (value_data v) (items_data vs)
 
-  pub parts_data : {m : _} → block.Row_of-Part m → Members → Members
-  parts_data block.end_of-Part members = members
-  parts_data (block.more_of-Part n v ps) members = parts_data ps (put n (value_data v) members)
+  pub parts_data : {m : _} → block.Row_of-MemberValue m → Members → Members
+  parts_data block.end_of-MemberValue members = members
+  parts_data (block.more_of-MemberValue n v ps) members = parts_data ps (put n (value_data v) members)
 
 -- a member of a struct value, by its name
-abbrev pub part_entry : Part → Entry
+abbrev pub part_entry : MemberValue → Entry
 part_entry p = (p.name, value_data p.value)

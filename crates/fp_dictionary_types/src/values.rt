@@ -5,7 +5,7 @@ ghost use Rattle.fp_dictionary_types.specs.Objects.{list_of, object_of};
 ghost use Rattle.fp_dictionary_types.specs.Values.{number_data, constant_data, value_data, part_entry};
 
 use crate::objects::Object;
-use fp_base::{NoMemory, Part, Text, Value};
+use fp_base::{MemberValue, NoMemory, Text, Value};
 use serde_json::{Number, Value as Json};
 use std::alloc::Global;
 
@@ -63,7 +63,7 @@ fn items_value(alloc: Global, items: &[Value]) -> Result<Json, NoMemory>
 }
 
 #[cycle(values)]
-fn parts_value(alloc: Global, parts: &[Part]) -> Result<Json, NoMemory>
+fn parts_value(alloc: Global, parts: &[MemberValue]) -> Result<Json, NoMemory>
     ensures { IfOk result (λ json. view json ≡ object_of (map part_entry parts.now)) }
 {
     let mut object = Object::new(alloc);

@@ -2,14 +2,14 @@
 use Rattle.std.specs.Prelude.{ℕ, true, false, List, [], ◌∷◌, codes, Some, None, pos, refl}
 use Rattle.std.specs.Fmt.{digits}
 use Rattle.fp_base.specs.declared.value.Value as value
-use Rattle.fp_base.specs.declared.format.Piece.TheVariants as piece
+use Rattle.fp_base.specs.declared.format.FormatPiece.TheVariants as piece
 use Rattle.fp_tables.specs.declared.kind.Kind.TheVariants as kind
 use Rattle.fp_tables.specs.declared.kind.Form.TheVariants as form
 use Rattle.fp_tables.specs.declared.component.Full.TheVariants as full
 use Rattle.fp_tables.specs.declared.component.Way.TheVariants as way
 use Rattle.fp_tables.specs.declared.component.Role.TheVariants as role
 use Rattle.fp_tables.specs.declared.component.Special.TheVariants as special
-use Rattle.fp_tables.specs.declared.component.Part.TheVariants as part
+use Rattle.fp_tables.specs.declared.component.CommandPart.TheVariants as part
 use Rattle.fp_tables.specs.declared.component.Queueing.TheVariants as queueing
 use Rattle.fp_tables.specs.declared.program.Arg.TheVariants as arg
 use Rattle.fp_tables.specs.declared.program.Spot.TheVariants as spot

@@ -5,7 +5,7 @@ use Rattle.fp_tables.specs.declared.kind.Kind.TheVariants as kind
 use Rattle.fp_tables.specs.declared.component.Way.TheVariants as way
 use Rattle.fp_tables.specs.declared.component.Role.TheVariants as role
 use Rattle.fp_tables.specs.declared.component.Special.TheVariants as special
-use Rattle.fp_tables.specs.declared.component.Part.TheVariants as part
+use Rattle.fp_tables.specs.declared.component.CommandPart.TheVariants as part
 use Rattle.fp_tables.specs.declared.component.Queueing.TheVariants as queueing
 use Rattle.fp_tables.specs.declared.program.Arg.TheVariants as arg
 use Rattle.fp_tables.specs.declared.program.Spot.TheVariants as spot

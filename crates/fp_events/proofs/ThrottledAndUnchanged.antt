@@ -2,7 +2,7 @@
 use Rattle.std.specs.Prelude.{ℕ, true, false, List, [], ◌∷◌, codes, Some, None, pos, refl}
 use Rattle.std.specs.Fmt.{digits}
 use Rattle.fp_base.specs.declared.value.Value as value
-use Rattle.fp_base.specs.declared.format.Piece.TheVariants as piece
+use Rattle.fp_base.specs.declared.format.FormatPiece.TheVariants as piece
 use Rattle.fp_tables.specs.declared.kind.Kind.TheVariants as kind
 use Rattle.fp_tables.specs.declared.component.Way.TheVariants as way
 use Rattle.fp_tables.specs.declared.component.Role.TheVariants as role

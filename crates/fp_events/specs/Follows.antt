@@ -5,8 +5,8 @@ use Rattle.fp_base.specs.declared.value.Value.{Value}
 use Rattle.fp_tables.specs.Lookup.{Described}
 use Rattle.fp_tables.specs.declared.component.Special.{Special}
 use Rattle.fp_tables.specs.declared.component.Special.TheVariants as special
-use Rattle.fp_tables.specs.declared.component.Part.{Part}
-use Rattle.fp_tables.specs.declared.component.Part.TheVariants.{Plain, SetParam, SaveParam}
+use Rattle.fp_tables.specs.declared.component.CommandPart.{CommandPart}
+use Rattle.fp_tables.specs.declared.component.CommandPart.TheVariants.{Plain, SetParam, SaveParam}
 use Rattle.fp_tables.specs.declared.machine.Named.{Named}
 use Rattle.fp_tables.specs.declared.program.Program.{Program}
 use Rattle.fp_tables.specs.declared.program.Verb.{Verb}
@@ -118,7 +118,7 @@ module _ (t : Described) (program : Program) where
   abbrev pub sends : ℕ → List (Special × List ℕ) → Doing
   sends i ports = record { actions = flat_map (λ (p : Special × List ℕ). cond (is_some (special_wire t i p.0)) (send p.0 p.1 ∷ []) []) ports; bound = [] }
 
-  abbrev pub parameter_of : Part → Option ℕ
+  abbrev pub parameter_of : CommandPart → Option ℕ
   parameter_of Plain = None
   parameter_of (SetParam k) = Some k
   parameter_of (SaveParam k) = Some k

@@ -2,8 +2,8 @@
 use Rattle.std.specs.Prelude.{ℕ, ℤ, pos, Option, Some, None, option_map, option_and_then, slice_get}
 use Rattle.fp_tables.specs.Lookup.{Described}
 use Rattle.fp_tables.specs.declared.component.Command.{Command}
-use Rattle.fp_tables.specs.declared.component.Part.{Part}
-use Rattle.fp_tables.specs.declared.component.Part.TheVariants.{Plain, SetParam, SaveParam}
+use Rattle.fp_tables.specs.declared.component.CommandPart.{CommandPart}
+use Rattle.fp_tables.specs.declared.component.CommandPart.TheVariants.{Plain, SetParam, SaveParam}
 use Rattle.fp_tables.specs.declared.component.Role.{Role}
 use Rattle.fp_tables.specs.declared.component.Role.TheVariants as role
 use Rattle.fp_tables.specs.declared.component.Way.{Way}
@@ -26,7 +26,7 @@ abbrev pub internal_manner : Role → Option Manner
 internal_manner (role.Internal way) = Some (by way)
 internal_manner _ = None
 
-abbrev pub command_manner : Way → Part → Manner
+abbrev pub command_manner : Way → CommandPart → Manner
 command_manner way Plain = by way
 command_manner way (SetParam k) = sets k
 command_manner way (SaveParam k) = saves k

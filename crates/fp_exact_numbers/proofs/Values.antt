@@ -38,14 +38,14 @@ module _ (types : List TypeDef) where
     items_exact (suc size) s narrow end_of-Value h = absurd (cc)
     items_exact zero s narrow (more_of-Value v vs) h = absurd (cc)
 
-    parts_exact : (fields : List Field) {m : _} (ps : block.Row_of-Part m) (ms : Members) → parts_have types fields ps ≡ true → parts_data ps ms ≡ exact_parts ps ms
-    parts_exact [] block.end_of-Part ms h = refl
-    parts_exact (f ∷ fs) (block.more_of-Part n v ps) ms h =
+    parts_exact : (fields : List Field) {m : _} (ps : block.Row_of-MemberValue m) (ms : Members) → parts_have types fields ps ≡ true → parts_data ps ms ≡ exact_parts ps ms
+    parts_exact [] block.end_of-MemberValue ms h = refl
+    parts_exact (f ∷ fs) (block.more_of-MemberValue n v ps) ms h =
         let t = both (bytes_eq n f.name && has types (member_shape types f) v) (parts_have types fs ps) h in
         let here = both (bytes_eq n f.name) (has types (member_shape types f) v) t.0 in
         ap (λ (d : Data). parts_data ps (put n d ms)) (said_exactly (member_shape types f) (member_narrow types f) v here.1) ∙ parts_exact fs ps (put n (exact_value v) ms) t.1
-    parts_exact [] (block.more_of-Part n v ps) ms h = absurd (cc)
-    parts_exact (f ∷ fs) block.end_of-Part ms h = absurd (cc)
+    parts_exact [] (block.more_of-MemberValue n v ps) ms h = absurd (cc)
+    parts_exact (f ∷ fs) block.end_of-MemberValue ms h = absurd (cc)
 
   pub value_exact : (k : Kind) (v : Value) → has_kind types k v ≡ true → value_data v ≡ exact_value v
   value_exact k v h = said_exactly (shape types k) (kind_narrow types k) v h

@@ -24,6 +24,6 @@ abbrev mutual
   exact_items end_of-Value = no_items
   exact_items (more_of-Value v vs) = item (exact_value v) (exact_items vs)
 
-  pub exact_parts : {m : _} → block.Row_of-Part m → Members → Members
-  exact_parts block.end_of-Part members = members
-  exact_parts (block.more_of-Part n v ps) members = exact_parts ps (put n (exact_value v) members)
+  pub exact_parts : {m : _} → block.Row_of-MemberValue m → Members → Members
+  exact_parts block.end_of-MemberValue members = members
+  exact_parts (block.more_of-MemberValue n v ps) members = exact_parts ps (put n (exact_value v) members)

@@ -9,7 +9,7 @@ use Rattle.fp_tables.specs.declared.model.Model.{Model}
 use Rattle.fp_tables.specs.declared.topology.Link.{Link}
 use Rattle.fp_tables.specs.declared.topology.Topology.{Topology}
 use Rattle.fp_numbering.specs.declared.tips.Tip.{Tip}
-use Rattle.fp_numbering.specs.Broken.{IsBroken}
+use Rattle.fp_numbering.specs.Broken.{IsTipBroken}
 use Rattle.fp_numbering.specs.Ends.{from_tip, matches_of, tips_of, to_tip}
 use Rattle.fp_wiring.specs.Wired.{NumbersBroken}
 use Rattle.fp_fault_places.proofs.LinkPlaces.{LinkStands, NumberStands}
@@ -26,7 +26,7 @@ module _ (G : Place → Type 0) where
       (each_weaker (LinkStands G) (λ (l : Link). Each TipStands (from_tip m l ∷ to_tip m l ∷ []))
       (λ l k. (record { here = k.here; of_written = k.of_from }, (record { here = k.here; of_written = k.of_to }, tt))) links h)
 
-  tip_placed : (matches : ℕ → List (ℕ × ℕ)) (ts : List Tip) (k : ℕ) (t : Tip) (f : Refusal) → TipStands t → IsBroken matches ts k t f → G f.place
+  tip_placed : (matches : ℕ → List (ℕ × ℕ)) (ts : List Tip) (k : ℕ) (t : Tip) (f : Refusal) → TipStands t → IsTipBroken matches ts k t f → G f.place
   tip_placed matches ts k t f h (inl (w, written, below, is)) = same_place G f _ is (subst (InOption (NumberStands G)) written h.of_written)
   tip_placed matches ts k t f h (inr (inl (j, s, z, before, there, begun, begins, together, said, again, is))) = same_place G f _ is h.here
   tip_placed matches ts k t f h (inr (inr (inl (q, among, stands, matched, none, is)))) = same_place G f _ is h.here

@@ -2,8 +2,8 @@
 use Rattle.std.proofs.Common.{◌≡◌, ℕ, Bool, true, false, not, ◌&&◌, List, [], ◌∷◌, ◌++◌, map, refl, sym, ◌∙◌, ap}
 use Rattle.std.specs.Prelude.{flat_map}
 use Rattle.std.proofs.lemmas.Grind.{flat_map-append}
-use Rattle.fp_base.specs.declared.format.Piece.{Piece}
-use Rattle.fp_base.specs.declared.format.Piece.TheVariants as piece
+use Rattle.fp_base.specs.declared.format.FormatPiece.{FormatPiece}
+use Rattle.fp_base.specs.declared.format.FormatPiece.TheVariants as piece
 use Rattle.fp_formats.specs.declared.mark.Mark.{Mark}
 use Rattle.fp_formats.specs.declared.mark.Mark.TheVariants.{Byte, Field}
 use Rattle.fp_formats.specs.declared.mark.Form.TheVariants as form
@@ -11,7 +11,7 @@ use Rattle.fp_base.specs.Formats.{doubled, spelled, spelling, are_whole}
 use Rattle.fp_formats.specs.Marks.{mark_text, piece_of}
 use Rattle.fp_base.proofs.Bools.{both}
 
-pub marks_in : Piece → List Mark
+pub marks_in : FormatPiece → List Mark
 marks_in (piece.Plain s) = map (λ b. Byte b) s
 marks_in piece.Any = Field form.Any ∷ []
 marks_in piece.Dec = Field form.Dec ∷ []
@@ -19,7 +19,7 @@ marks_in piece.Hex = Field form.Hex ∷ []
 marks_in piece.Oct = Field form.Oct ∷ []
 marks_in piece.Char = Field form.Char ∷ []
 
-pub marks_of : List Piece → List Mark
+pub marks_of : List FormatPiece → List Mark
 marks_of [] = []
 marks_of (p ∷ ps) = marks_in p ++ marks_of ps
 
@@ -31,7 +31,7 @@ unfolding written
 plain_written [] = refl
 plain_written (b ∷ s) = ap (λ t. doubled b ++ t) (plain_written s)
 
-piece_written : (p : Piece) → spelled p ≡ written (marks_in p)
+piece_written : (p : FormatPiece) → spelled p ≡ written (marks_in p)
 unfolding written marks_in
 piece_written (piece.Plain s) = plain_written s
 piece_written piece.Any = refl
@@ -40,7 +40,7 @@ piece_written piece.Hex = refl
 piece_written piece.Oct = refl
 piece_written piece.Char = refl
 
-pub spelling-written : (ps : List Piece) → spelling ps ≡ written (marks_of ps)
+pub spelling-written : (ps : List FormatPiece) → spelling ps ≡ written (marks_of ps)
 unfolding written marks_of
 spelling-written [] = refl
 spelling-written (p ∷ ps) =
@@ -51,22 +51,22 @@ spelling-written (p ∷ ps) =
 
 -- ---- back from marks
 
-pub joined : ℕ → List Piece → List Piece
+pub joined : ℕ → List FormatPiece → List FormatPiece
 joined b [] = piece.Plain (b ∷ []) ∷ []
 joined b (piece.Plain s ∷ ps) = piece.Plain (b ∷ s) ∷ ps
 joined b (p ∷ ps) = piece.Plain (b ∷ []) ∷ p ∷ ps
 
-pub gathered : List Mark → List Piece
+pub gathered : List Mark → List FormatPiece
 gathered [] = []
 gathered (Byte b ∷ ms) = joined b (gathered ms)
 gathered (Field f ∷ ms) = piece_of f ∷ gathered ms
 
-begins_plain : List Piece → Bool
+begins_plain : List FormatPiece → Bool
 begins_plain [] = false
 begins_plain (piece.Plain s ∷ ps) = true
 begins_plain (p ∷ ps) = false
 
-after_plain : (ps : List Piece) → are_whole true ps ≡ true → begins_plain ps ≡ false
+after_plain : (ps : List FormatPiece) → are_whole true ps ≡ true → begins_plain ps ≡ false
 unfolding begins_plain
 after_plain [] h = refl
 after_plain (piece.Plain s ∷ ps) h = absurd (cc)
@@ -76,7 +76,7 @@ after_plain (piece.Hex ∷ ps) h = refl
 after_plain (piece.Oct ∷ ps) h = refl
 after_plain (piece.Char ∷ ps) h = refl
 
-joined_first : (b : ℕ) (ps : List Piece) → begins_plain ps ≡ false → joined b ps ≡ piece.Plain (b ∷ []) ∷ ps
+joined_first : (b : ℕ) (ps : List FormatPiece) → begins_plain ps ≡ false → joined b ps ≡ piece.Plain (b ∷ []) ∷ ps
 unfolding begins_plain joined
 joined_first b [] h = refl
 joined_first b (piece.Plain s ∷ ps) h = absurd (cc)
@@ -86,12 +86,12 @@ joined_first b (piece.Hex ∷ ps) h = refl
 joined_first b (piece.Oct ∷ ps) h = refl
 joined_first b (piece.Char ∷ ps) h = refl
 
-gathered_plain : (b : ℕ) (s : List ℕ) (ms : List Mark) (ps : List Piece) → gathered ms ≡ ps → begins_plain ps ≡ false → gathered (map (λ c. Byte c) (b ∷ s) ++ ms) ≡ piece.Plain (b ∷ s) ∷ ps
+gathered_plain : (b : ℕ) (s : List ℕ) (ms : List Mark) (ps : List FormatPiece) → gathered ms ≡ ps → begins_plain ps ≡ false → gathered (map (λ c. Byte c) (b ∷ s) ++ ms) ≡ piece.Plain (b ∷ s) ∷ ps
 unfolding gathered joined
 gathered_plain b [] ms ps e h = ap (joined b) e ∙ joined_first b ps h
 gathered_plain b (c ∷ s) ms ps e h = ap (joined b) (gathered_plain c s ms ps e h)
 
-pub gathered_marks : (after : Bool) (ps : List Piece) → are_whole after ps ≡ true → gathered (marks_of ps) ≡ ps
+pub gathered_marks : (after : Bool) (ps : List FormatPiece) → are_whole after ps ≡ true → gathered (marks_of ps) ≡ ps
 unfolding gathered marks_of marks_in
 gathered_marks after [] h = refl
 gathered_marks after (piece.Plain [] ∷ ps) h =
@@ -107,5 +107,5 @@ gathered_marks after (piece.Hex ∷ ps) h = ap (λ qs. piece.Hex ∷ qs) (gather
 gathered_marks after (piece.Oct ∷ ps) h = ap (λ qs. piece.Oct ∷ qs) (gathered_marks false ps h)
 gathered_marks after (piece.Char ∷ ps) h = ap (λ qs. piece.Char ∷ qs) (gathered_marks false ps h)
 
-pub same_pieces : (ps qs : List Piece) → are_whole false ps ≡ true → are_whole false qs ≡ true → marks_of ps ≡ marks_of qs → ps ≡ qs
+pub same_pieces : (ps qs : List FormatPiece) → are_whole false ps ≡ true → are_whole false qs ≡ true → marks_of ps ≡ marks_of qs → ps ≡ qs
 same_pieces ps qs h k e = sym (gathered_marks false ps h) ∙ ap gathered e ∙ gathered_marks false qs k

@@ -3,7 +3,7 @@ use Rattle.std.proofs.Common.{◌≡◌, ℕ, Bool, true, false, cond, ◌==◌,
 use Rattle.std.specs.Prelude.{MatchResult, Result, Ok, Err}
 use Rattle.std.proofs.Common.{inl, inr}
 use Rattle.std.proofs.lemmas.Bool.Decides.{nat_tests}
-use Rattle.fp_base.specs.declared.format.Piece.{Piece}
+use Rattle.fp_base.specs.declared.format.FormatPiece.{FormatPiece}
 use Rattle.fp_base.specs.declared.format.Format.{Format}
 use Rattle.fp_formats.specs.declared.fault.FormatFault.{FormatFault}
 use Rattle.fp_formats.specs.declared.fault.FormatFault.TheVariants as fault
@@ -190,7 +190,7 @@ pub record Reading (text : List ℕ) (end : Option FormatFault) (ms : List Mark)
   pub stands : text ≡ written ms ++ rest
   pub ends : Ends end rest
 
-pub reads_format : (text : List ℕ) (parts : List Piece) → IsFormat text parts → Reading text None (marks_of parts)
+pub reads_format : (text : List ℕ) (parts : List FormatPiece) → IsFormat text parts → Reading text None (marks_of parts)
 unfolding Ends
 reads_format text parts f = record { rest = []; stands = f.spells ∙ spelling-written parts ∙ sym (append-nil (written (marks_of parts))); ends = refl }
 
@@ -220,7 +220,7 @@ one_reading text end last ms ns r s = same_reading end last ms ns r.rest s.rest 
 pub AnswersFormat : List ℕ → Result Format FormatFault → Type 0
 AnswersFormat text r = MatchResult r (λ f. IsFormat text f.parts) (λ given. IsCause given text)
 
-pub only_format : (text : List ℕ) (r : Result Format FormatFault) → MatchResult r (λ f. IsFormat text f.parts) (λ given. IsCause given text) → (parts : List Piece) → IsFormat text parts → MatchResult r (λ f. f.parts ≡ parts) (λ given. given ≡ fault.NoMemory)
+pub only_format : (text : List ℕ) (r : Result Format FormatFault) → MatchResult r (λ f. IsFormat text f.parts) (λ given. IsCause given text) → (parts : List FormatPiece) → IsFormat text parts → MatchResult r (λ f. f.parts ≡ parts) (λ given. given ≡ fault.NoMemory)
 only_format text (Ok f) a parts g =
     let s = one_reading text None None (marks_of f.parts) (marks_of parts) (reads_format text f.parts a) (reads_format text parts g) in
     same_pieces f.parts parts a.whole g.whole s.0

@@ -4,8 +4,8 @@ use Rattle.std.specs.Prelude.{flat_map}
 use Rattle.std.specs.Str.{IsUtf8}
 use Rattle.std.proofs.lemmas.Bool.Decides.{nat_tests}
 use Rattle.std.proofs.lemmas.Grind.{flat_map-append}
-use Rattle.fp_base.specs.declared.format.Piece.{Piece}
-use Rattle.fp_base.specs.declared.format.Piece.TheVariants as piece
+use Rattle.fp_base.specs.declared.format.FormatPiece.{FormatPiece}
+use Rattle.fp_base.specs.declared.format.FormatPiece.TheVariants as piece
 use Rattle.fp_formats.specs.declared.fault.FormatFault.{FormatFault}
 use Rattle.fp_formats.specs.declared.fault.FormatFault.TheVariants as fault
 use Rattle.fp_formats.specs.declared.mark.Mark.{Mark}
@@ -19,7 +19,7 @@ use Rattle.fp_base.proofs.Bools.{both}
 use Rattle.fp_formats.proofs.Utf8.{before_ascii, after_ascii, from_ascii}
 
 -- the text is what was read so far and the rest
-pub record Progress (text : List ℕ) (parts : List Piece) (plain rest : List ℕ) : Type 0 where
+pub record Progress (text : List ℕ) (parts : List FormatPiece) (plain rest : List ℕ) : Type 0 where
   pub stands : text ≡ spelling (parts ++ pending plain) ++ rest
   pub whole : are_whole false parts ≡ true
   pub open_end : (b : ℕ) (s : List ℕ) → are_whole false (parts ++ (piece.Plain (b ∷ s) ∷ [])) ≡ true
@@ -28,7 +28,7 @@ pub record Progress (text : List ℕ) (parts : List Piece) (plain rest : List �
 pub begun : (text : List ℕ) → IsUtf8 text → Progress text [] [] text
 begun text u = record { stands = refl; whole = refl; open_end = λ b s. refl; utf8 = u }
 
-pub whole_pending : (parts : List Piece) (plain : List ℕ) → are_whole false parts ≡ true → ((b : ℕ) (s : List ℕ) → are_whole false (parts ++ (piece.Plain (b ∷ s) ∷ [])) ≡ true) → are_whole false (parts ++ pending plain) ≡ true
+pub whole_pending : (parts : List FormatPiece) (plain : List ℕ) → are_whole false parts ≡ true → ((b : ℕ) (s : List ℕ) → are_whole false (parts ++ (piece.Plain (b ∷ s) ∷ [])) ≡ true) → are_whole false (parts ++ pending plain) ≡ true
 whole_pending parts [] w o = rw (append-nil parts) w
 whole_pending parts (b ∷ s) w o = o b s
 
@@ -38,7 +38,7 @@ spelling_pending (b ∷ s) = append-nil (flat_map doubled (b ∷ s))
 
 -- ---- a byte of plain text
 
-spelled_byte : (parts : List Piece) (plain rest : List ℕ) (b : ℕ) → spelling (parts ++ pending plain) ++ (doubled b ++ rest) ≡ spelling (parts ++ pending (plain ++ (b ∷ []))) ++ rest
+spelled_byte : (parts : List FormatPiece) (plain rest : List ℕ) (b : ℕ) → spelling (parts ++ pending plain) ++ (doubled b ++ rest) ≡ spelling (parts ++ pending (plain ++ (b ∷ []))) ++ rest
 spelled_byte parts plain rest b =
     let e = flat_map-append spelled parts (pending plain) in
     let f = flat_map-append spelled parts (pending (plain ++ (b ∷ []))) in
@@ -63,7 +63,7 @@ utf8_byte plain rest b = by (is_brace b) (low_brace b)
 
 -- ---- a field
 
-whole_field : (after : Bool) (xs : List Piece) (f : Form) (ys : List Piece) → are_whole after xs ≡ true → are_whole false ys ≡ true → are_whole after (xs ++ (piece_of f ∷ ys)) ≡ true
+whole_field : (after : Bool) (xs : List FormatPiece) (f : Form) (ys : List FormatPiece) → are_whole after xs ≡ true → are_whole false ys ≡ true → are_whole after (xs ++ (piece_of f ∷ ys)) ≡ true
 whole_field after [] form.Any ys h k = k
 whole_field after [] form.Dec ys h k = k
 whole_field after [] form.Hex ys h k = k
@@ -85,7 +85,7 @@ spelled_field form.Hex = refl
 spelled_field form.Oct = refl
 spelled_field form.Char = refl
 
-field_stands : (ps : List Piece) (f : Form) (rest : List ℕ) → spelling ps ++ (mark_text (Field f) ++ rest) ≡ spelling ((ps ++ (piece_of f ∷ [])) ++ []) ++ rest
+field_stands : (ps : List FormatPiece) (f : Form) (rest : List ℕ) → spelling ps ++ (mark_text (Field f) ++ rest) ≡ spelling ((ps ++ (piece_of f ∷ [])) ++ []) ++ rest
 field_stands ps f rest =
     let e = append-nil (ps ++ (piece_of f ∷ [])) in
     let g = flat_map-append spelled ps (piece_of f ∷ []) in
@@ -106,11 +106,11 @@ utf8_rest plain rest f u =
 
 -- ---- steps
 
-pub ready : (text : List ℕ) (parts : List Piece) (plain rest : List ℕ) (m : Mark) → Progress text parts plain (mark_text m ++ rest) → IsReady m plain
+pub ready : (text : List ℕ) (parts : List FormatPiece) (plain rest : List ℕ) (m : Mark) → Progress text parts plain (mark_text m ++ rest) → IsReady m plain
 ready text parts plain rest (Byte b) p = tt
 ready text parts plain rest (Field f) p = utf8_plain plain rest f p.utf8
 
-pub step : (text : List ℕ) (parts : List Piece) (plain rest : List ℕ) (m : Mark) → Progress text parts plain (mark_text m ++ rest) → Progress text (pieces_with m parts plain) (plain_with m plain) rest
+pub step : (text : List ℕ) (parts : List FormatPiece) (plain rest : List ℕ) (m : Mark) → Progress text parts plain (mark_text m ++ rest) → Progress text (pieces_with m parts plain) (plain_with m plain) rest
 step text parts plain rest (Byte b) p =
     record { stands = p.stands ∙ spelled_byte parts plain rest b; whole = p.whole; open_end = p.open_end; utf8 = utf8_byte plain rest b p.utf8 }
 step text parts plain rest (Field f) p =
@@ -122,13 +122,13 @@ step text parts plain rest (Field f) p =
       utf8 = utf8_rest plain rest f p.utf8;
     }
 
-pub ended-utf8 : (text : List ℕ) (parts : List Piece) (plain : List ℕ) → Progress text parts plain [] → IsUtf8 plain
+pub ended-utf8 : (text : List ℕ) (parts : List FormatPiece) (plain : List ℕ) → Progress text parts plain [] → IsUtf8 plain
 ended-utf8 text parts plain p = subst IsUtf8 (append-nil plain) p.utf8
 
-pub ended : (text : List ℕ) (parts : List Piece) (plain : List ℕ) → Progress text parts plain [] → IsFormat text (parts ++ pending plain)
+pub ended : (text : List ℕ) (parts : List FormatPiece) (plain : List ℕ) → Progress text parts plain [] → IsFormat text (parts ++ pending plain)
 ended text parts plain p = record { spells = p.stands ∙ append-nil (spelling (parts ++ pending plain)); whole = whole_pending parts plain p.whole p.open_end }
 
-pub stopped : (text : List ℕ) (parts : List Piece) (plain rest : List ℕ) (given : FormatFault) → Progress text parts plain rest → IsStop given rest → IsCause given text
+pub stopped : (text : List ℕ) (parts : List FormatPiece) (plain rest : List ℕ) (given : FormatFault) → Progress text parts plain rest → IsStop given rest → IsCause given text
 stopped text parts plain rest fault.Field p s =
     record { before = parts ++ pending plain; inside = s.inside; after = s.after; stands = p.stands ∙ ap (λ t. spelling (parts ++ pending plain) ++ t) s.stands; is_field = s.is_field; is_other = s.is_other }
 stopped text parts plain rest fault.Brace p s =

@@ -1,8 +1,8 @@
 -- A format's text as single bytes of plain text and fields.
 use Rattle.std.specs.Prelude.{◌≡◌, ℕ, true, false, List, [], ◌∷◌, ◌++◌}
 use Rattle.std.specs.Str.{IsUtf8}
-use Rattle.fp_base.specs.declared.format.Piece.{Piece}
-use Rattle.fp_base.specs.declared.format.Piece.TheVariants as piece
+use Rattle.fp_base.specs.declared.format.FormatPiece.{FormatPiece}
+use Rattle.fp_base.specs.declared.format.FormatPiece.TheVariants as piece
 use Rattle.fp_formats.specs.declared.fault.FormatFault.{FormatFault}
 use Rattle.fp_formats.specs.declared.fault.FormatFault.TheVariants as fault
 use Rattle.fp_formats.specs.declared.mark.Mark.{Mark}
@@ -46,18 +46,18 @@ IsStop fault.NoMemory text = ⊥
 
 -- ---- what was read so far: whole pieces, and bytes of plain text that wait for the end of their piece
 
-abbrev pub pending : List ℕ → List Piece
+abbrev pub pending : List ℕ → List FormatPiece
 pending [] = []
 pending (b ∷ s) = piece.Plain (b ∷ s) ∷ []
 
-abbrev pub piece_of : Form → Piece
+abbrev pub piece_of : Form → FormatPiece
 piece_of form.Any = piece.Any
 piece_of form.Dec = piece.Dec
 piece_of form.Hex = piece.Hex
 piece_of form.Oct = piece.Oct
 piece_of form.Char = piece.Char
 
-abbrev pub pieces_with : Mark → List Piece → List ℕ → List Piece
+abbrev pub pieces_with : Mark → List FormatPiece → List ℕ → List FormatPiece
 pieces_with (Byte b) parts plain = parts
 pieces_with (Field f) parts plain = (parts ++ pending plain) ++ (piece_of f ∷ [])
 

@@ -1,13 +1,13 @@
 -- How a format is written, and what is wrong with a text that is none.
 use Rattle.std.specs.Prelude.{◌≡◌, ℕ, Bool, true, false, not, ◌||◌, ◌==◌, List, [], ◌∷◌, ◌++◌, ◌⊎◌}
 use Rattle.std.specs.List.{list_all}
-use Rattle.fp_base.specs.declared.format.Piece.{Piece}
+use Rattle.fp_base.specs.declared.format.FormatPiece.{FormatPiece}
 use Rattle.fp_base.specs.Formats.{is_brace, spelling, are_whole}
 use Rattle.fp_formats.specs.declared.fault.FormatFault.{FormatFault}
 use Rattle.fp_formats.specs.declared.fault.FormatFault.TheVariants as fault
 
 -- the text spells these pieces
-pub record IsFormat (text : List ℕ) (parts : List Piece) : Type 0 where
+pub record IsFormat (text : List ℕ) (parts : List FormatPiece) : Type 0 where
   pub spells : text ≡ spelling parts
   pub whole : are_whole false parts ≡ true
 
@@ -22,7 +22,7 @@ is_form _ = false
 
 -- behind what is a format stands a field of another form
 pub record HasOtherField (text : List ℕ) : Type 0 where
-  pub before : List Piece
+  pub before : List FormatPiece
   pub inside : List ℕ
   pub after : List ℕ
   pub stands : text ≡ spelling before ++ (123 ∷ (inside ++ (125 ∷ after)))
@@ -41,7 +41,7 @@ pub record IsLone (brace : ℕ) (after : List ℕ) : Type 0 where
 
 -- behind what is a format stands a brace that is part of no field or escape
 pub record HasLoneBrace (text : List ℕ) : Type 0 where
-  pub before : List Piece
+  pub before : List FormatPiece
   pub brace : ℕ
   pub after : List ℕ
   pub stands : text ≡ spelling before ++ (brace ∷ after)

@@ -1,12 +1,12 @@
 ghost use Rattle.std.specs.Prelude.{◌≡◌, ◌++◌, ◌∷◌, [], ℕ, List, MatchResult, IfOk, IfErr, OnOk};
 ghost use Rattle.std.specs.Str.{IsUtf8};
-ghost use Rattle.fp_base.specs.declared.format.Piece.{Piece as FormatPiece};
+ghost use Rattle.fp_base.specs.declared.format.FormatPiece.{FormatPiece as WrittenPiece};
 ghost use Rattle.fp_formats.specs.Spelling.{IsFormat, HasOtherField, HasLoneBrace, IsCause, OrNoMemory};
 ghost use Rattle.fp_formats.specs.Marks.{pending, piece_of, pieces_with, plain_with, IsReady};
 
 use crate::fault::FormatFault;
 use crate::mark::{Form, Mark, first_mark};
-use fp_base::{Format, NoMemory, Piece, Row, Text};
+use fp_base::{Format, FormatPiece, NoMemory, Row, Text};
 use std::alloc::Global;
 use std::mem;
 
@@ -14,7 +14,7 @@ use std::mem;
 pub fn read_format(alloc: Global, text: &Text) -> Result<Format, FormatFault>
     ensures format { IfOk result (λ format. IsFormat text.now format.parts) }
     ensures cause { IfErr result (λ given. IsCause given text.now) }
-    ensures only_format { (parts : List FormatPiece) → IsFormat text.now parts → MatchResult result (λ format. format.parts ≡ parts) (λ given. given ≡ FormatFault.NoMemory) }
+    ensures only_format { (parts : List WrittenPiece) → IsFormat text.now parts → MatchResult result (λ format. format.parts ≡ parts) (λ given. given ≡ FormatFault.NoMemory) }
     ensures field { HasOtherField text.now → MatchResult result (λ _. ⊥) (OrNoMemory FormatFault.Field) }
     ensures brace { HasLoneBrace text.now → MatchResult result (λ _. ⊥) (OrNoMemory FormatFault.Brace) }
 {
@@ -39,7 +39,7 @@ fn read_pieces(alloc: Global, text: &Text) -> Result<Format, FormatFault>
 /// Plain bytes wait until a field or the end comes, so that they make one piece.
 fn take_mark(
     alloc: Global,
-    parts: &mut Row<Piece>,
+    parts: &mut Row<FormatPiece>,
     plain: &mut Row<u8>,
     mark: Mark,
 ) -> Result<(), NoMemory>
@@ -57,7 +57,7 @@ fn take_mark(
     }
 }
 
-fn add_plain(alloc: Global, parts: &mut Row<Piece>, plain: &Row<u8>) -> Result<(), NoMemory>
+fn add_plain(alloc: Global, parts: &mut Row<FormatPiece>, plain: &Row<u8>) -> Result<(), NoMemory>
     requires { IsUtf8 plain.now }
     ensures { OnOk result (parts.new ≡ parts.old ++ pending plain.now) }
 {
@@ -65,19 +65,19 @@ fn add_plain(alloc: Global, parts: &mut Row<Piece>, plain: &Row<u8>) -> Result<(
         return Ok(());
     }
     match Text::from_utf8(alloc, plain.as_slice())? {
-        Some(text) => parts.push(Piece::Plain(text)),
+        Some(text) => parts.push(FormatPiece::Plain(text)),
         None => unreachable!(),
     }
 }
 
-fn field_piece(form: Form) -> Piece
+fn field_piece(form: Form) -> FormatPiece
     ensures { result ≡ piece_of form }
 {
     match form {
-        Form::Any => Piece::Any,
-        Form::Dec => Piece::Dec,
-        Form::Hex => Piece::Hex,
-        Form::Oct => Piece::Oct,
-        Form::Char => Piece::Char,
+        Form::Any => FormatPiece::Any,
+        Form::Dec => FormatPiece::Dec,
+        Form::Hex => FormatPiece::Hex,
+        Form::Oct => FormatPiece::Oct,
+        Form::Char => FormatPiece::Char,
     }
 }

@@ -1,6 +1,6 @@
 ghost use Rattle.std.specs.Prelude.{◌≡◌, ◌++◌, ◌∷◌, [], List, ℕ, IfOk, IfErr, OnOk, MatchResult, true, false, cond, flat_map};
 ghost use Rattle.fp_base.specs.Rendered.{rendered, field, number_of};
-ghost use Rattle.fp_base.specs.declared.format.Piece.{Piece as FormatPiece};
+ghost use Rattle.fp_base.specs.declared.format.FormatPiece.{FormatPiece as WrittenPiece};
 ghost use Rattle.fp_formats.specs.Fits.{fits};
 ghost use Rattle.fp_base.specs.Formats.{doubled};
 ghost use Rattle.fp_formats.specs.Spelling.{IsFormat, IsCause};
@@ -9,7 +9,7 @@ use crate::fault::FormatFault;
 use crate::number::{push_character, push_in_base};
 use crate::reading::read_format;
 use crate::value_text::write_value;
-use fp_base::{Format, NoMemory, Piece, Row, Text, Value};
+use fp_base::{Format, FormatPiece, NoMemory, Row, Text, Value};
 use itoa::Buffer;
 use std::alloc::Global;
 
@@ -29,13 +29,13 @@ pub fn render(alloc: Global, format: &Format, values: &Row<Value>) -> Result<Tex
 /// Appends a piece, and gives the values that are left for the later ones.
 fn push_piece<'a>(
     alloc: Global,
-    piece: &Piece,
+    piece: &FormatPiece,
     values: &'a [Value],
     out: &mut Text,
 ) -> Result<&'a [Value], NoMemory>
-    ensures { IfOk result (λ rest. (later : List FormatPiece) → out.old ++ rendered (piece.now ∷ later) values.now ≡ out.new ++ rendered later rest.now) }
+    ensures { IfOk result (λ rest. (later : List WrittenPiece) → out.old ++ rendered (piece.now ∷ later) values.now ≡ out.new ++ rendered later rest.now) }
 {
-    if let Piece::Plain(text) = piece {
+    if let FormatPiece::Plain(text) = piece {
         out.push_str(text.as_str())?;
         return Ok(values);
     }
@@ -48,19 +48,24 @@ fn push_piece<'a>(
     }
 }
 
-fn push_field(alloc: Global, piece: &Piece, value: &Value, out: &mut Text) -> Result<(), NoMemory>
+fn push_field(
+    alloc: Global,
+    piece: &FormatPiece,
+    value: &Value,
+    out: &mut Text,
+) -> Result<(), NoMemory>
     ensures { OnOk result (out.new ≡ out.old ++ field piece.now value.now) }
 {
     match piece {
-        Piece::Plain(text) => out.push_str(text.as_str()),
-        Piece::Any => write_value(alloc, value, out),
-        Piece::Dec => {
+        FormatPiece::Plain(text) => out.push_str(text.as_str()),
+        FormatPiece::Any => write_value(alloc, value, out),
+        FormatPiece::Dec => {
             let mut buffer = Buffer::new();
             out.push_str(buffer.format(number_in(value)))
         }
-        Piece::Hex => push_in_base(number_in(value), 16, out),
-        Piece::Oct => push_in_base(number_in(value), 8, out),
-        Piece::Char => push_character(number_in(value), out),
+        FormatPiece::Hex => push_in_base(number_in(value), 16, out),
+        FormatPiece::Oct => push_in_base(number_in(value), 8, out),
+        FormatPiece::Char => push_character(number_in(value), out),
     }
 }
 
@@ -76,7 +81,7 @@ fn number_in(value: &Value) -> i128
 
 /// What a format without fields prints, or None where it has fields.
 pub fn print_plain(alloc: Global, text: &Text) -> Result<Option<Text>, FormatFault>
-    ensures value { IfOk result (λ printed. (parts : List FormatPiece) × IsFormat text.now parts × (printed ≡ cond (fits parts []) (Some (rendered parts [])) None)) }
+    ensures value { IfOk result (λ printed. (parts : List WrittenPiece) × IsFormat text.now parts × (printed ≡ cond (fits parts []) (Some (rendered parts [])) None)) }
     ensures cause { IfErr result (λ given. IsCause given text.now) }
     ensures undoubled { (plain : List ℕ) → text.now ≡ flat_map doubled plain → MatchResult result (λ printed. printed ≡ Some plain) (λ given. given ≡ FormatFault.NoMemory) }
 {
@@ -99,11 +104,15 @@ fn takes_no_value(format: &Format) -> bool
     true
 }
 
-fn is_plain(piece: &Piece) -> bool
-    ensures { (later : List FormatPiece) → fits (piece.now ∷ later) [] ≡ cond result (fits later []) false }
+fn is_plain(piece: &FormatPiece) -> bool
+    ensures { (later : List WrittenPiece) → fits (piece.now ∷ later) [] ≡ cond result (fits later []) false }
 {
     match piece {
-        Piece::Plain(_) => true,
-        Piece::Any | Piece::Dec | Piece::Hex | Piece::Oct | Piece::Char => false,
+        FormatPiece::Plain(_) => true,
+        FormatPiece::Any
+        | FormatPiece::Dec
+        | FormatPiece::Hex
+        | FormatPiece::Oct
+        | FormatPiece::Char => false,
     }
 }

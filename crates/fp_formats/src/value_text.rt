@@ -1,7 +1,7 @@
 ghost use Rattle.std.specs.Prelude.{◌≡◌, ◌++◌, ◌∷◌, [], map, OnOk};
 ghost use Rattle.fp_base.specs.Rendered.{quoted, joined, value_text, part_text};
 
-use fp_base::{NoMemory, Part, Row, Text, Value, push_quoted};
+use fp_base::{MemberValue, NoMemory, Row, Text, Value, push_quoted};
 use itoa::Buffer;
 use std::alloc::Global;
 
@@ -46,7 +46,7 @@ fn write_items(alloc: Global, items: &[Value], out: &mut Text) -> Result<(), NoM
 }
 
 #[cycle(write)]
-fn write_parts(alloc: Global, parts: &[Part], out: &mut Text) -> Result<(), NoMemory>
+fn write_parts(alloc: Global, parts: &[MemberValue], out: &mut Text) -> Result<(), NoMemory>
     ensures { OnOk result (out.new ≡ out.old ++ joined (map part_text parts.now)) }
 {
     for (at, part) in parts.iter().enumerate() {

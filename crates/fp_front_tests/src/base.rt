@@ -1,4 +1,4 @@
-use fp_base::{Boxed, NoMemory, Part, Place, Row, Text, Value, place_of};
+use fp_base::{Boxed, MemberValue, NoMemory, Place, Row, Text, Value, place_of};
 use std::alloc::Global;
 use std::test::Fail;
 
@@ -81,9 +81,9 @@ fn list(alloc: Global) -> Result<Value, NoMemory> {
     Ok(Value::Array(items))
 }
 
-fn part(alloc: Global, name: &str, value: Value) -> Result<Part, NoMemory> {
+fn part(alloc: Global, name: &str, value: Value) -> Result<MemberValue, NoMemory> {
     let name = Text::from_str(alloc, name)?;
-    Ok(Part { name, value })
+    Ok(MemberValue { name, value })
 }
 
 fn structure(alloc: Global) -> Result<Value, NoMemory> {

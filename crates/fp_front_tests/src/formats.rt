@@ -1,7 +1,7 @@
 ghost use Rattle.std.specs.Prelude.{◌≡◌, ◌∷◌, [], true};
 ghost use Rattle.fp_formats.specs.Fits.{fits};
 
-use fp_base::{Format, NoMemory, Part, Piece, Row, Text, Value};
+use fp_base::{Format, FormatPiece, MemberValue, NoMemory, Row, Text, Value};
 use fp_formats::{FormatFault, print_plain, read_format, render};
 use std::alloc::Global;
 use std::test::Fail;
@@ -23,18 +23,18 @@ fn outline(alloc: Global, text: &str) -> Result<Text, NoMemory> {
     Ok(out)
 }
 
-fn outline_piece(piece: &Piece, out: &mut Text) -> Result<(), NoMemory> {
+fn outline_piece(piece: &FormatPiece, out: &mut Text) -> Result<(), NoMemory> {
     match piece {
-        Piece::Plain(text) => {
+        FormatPiece::Plain(text) => {
             out.push_str("<")?;
             out.push_str(text.as_str())?;
             out.push_str(">")
         }
-        Piece::Any => out.push_str("*"),
-        Piece::Dec => out.push_str("d"),
-        Piece::Hex => out.push_str("x"),
-        Piece::Oct => out.push_str("o"),
-        Piece::Char => out.push_str("c"),
+        FormatPiece::Any => out.push_str("*"),
+        FormatPiece::Dec => out.push_str("d"),
+        FormatPiece::Hex => out.push_str("x"),
+        FormatPiece::Oct => out.push_str("o"),
+        FormatPiece::Char => out.push_str("c"),
     }
 }
 
@@ -94,7 +94,7 @@ fn reads_texts(rt: HostRuntime) -> Result<(), Fail> {
     Ok(())
 }
 
-fn filled(alloc: Global, piece: Piece, value: Value) -> Result<Text, NoMemory>
+fn filled(alloc: Global, piece: FormatPiece, value: Value) -> Result<Text, NoMemory>
     requires { fits (piece ∷ []) (value ∷ []) ≡ true }
 {
     let mut parts = Row::new(alloc);
@@ -106,11 +106,11 @@ fn filled(alloc: Global, piece: Piece, value: Value) -> Result<Text, NoMemory>
 
 /// A number in a field of each kind, with a blank between each two.
 fn in_fields(alloc: Global, number: i128) -> Result<String, NoMemory> {
-    let any = filled(alloc, Piece::Any, Value::Int(number))?;
-    let decimal = filled(alloc, Piece::Dec, Value::Int(number))?;
-    let hexadecimal = filled(alloc, Piece::Hex, Value::Int(number))?;
-    let octal = filled(alloc, Piece::Oct, Value::Int(number))?;
-    let character = filled(alloc, Piece::Char, Value::Int(number))?;
+    let any = filled(alloc, FormatPiece::Any, Value::Int(number))?;
+    let decimal = filled(alloc, FormatPiece::Dec, Value::Int(number))?;
+    let hexadecimal = filled(alloc, FormatPiece::Hex, Value::Int(number))?;
+    let octal = filled(alloc, FormatPiece::Oct, Value::Int(number))?;
+    let character = filled(alloc, FormatPiece::Char, Value::Int(number))?;
     let text = format!(in alloc;
         "{} {} {} {} {}",
         any.as_str(),
@@ -168,12 +168,12 @@ fn structured(alloc: Global) -> Result<Value, NoMemory> {
     let name = Text::from_str(alloc, "x")?;
     let value = Value::Array(items);
     let mut parts = Row::new(alloc);
-    parts.push(Part { name, value })?;
+    parts.push(MemberValue { name, value })?;
     Ok(Value::Struct(parts))
 }
 
 fn in_any_field(alloc: Global, value: Value) -> Result<Text, NoMemory> {
-    filled(alloc, Piece::Any, value)
+    filled(alloc, FormatPiece::Any, value)
 }
 
 #[test]

@@ -7,7 +7,7 @@ use Rattle.fp_parse_parts.specs.declared.parsing.Members.{Members}
 use Rattle.fp_gather.specs.FilesRun.{IsHeld}
 use Rattle.fp_gather.specs.declared.gathering.including.Inclusion.{Inclusion}
 use Rattle.fp_gather.specs.gathering.Includes.{included_name, inclusions_in}
-use Rattle.fp_gather.specs.gathering.Walks.{Each, NoFile, Outcome, Reads, Stopped, Stops, Walk, Walked, WalksFile, WalksFiles, WalksInclude, WalksNamed, Went, most_levels, nothing_read}
+use Rattle.fp_gather.specs.gathering.Walks.{WalksEach, NoFile, Outcome, Reads, Stopped, Stops, Walk, Walked, WalksFile, WalksFiles, WalksInclude, WalksNamed, Went, most_levels, nothing_read}
 
 abbrev HasGone : {A : Type 0} → Outcome A → Type 0
 HasGone (Went after gives) = Unit {0}
@@ -21,7 +21,7 @@ abbrev Misses : {X A : Type 0} → (List ℕ → Type 0) → (X → Walk A) → 
 Misses {X = X} Q P = (x : X) (before : Walked) (absent : List ℕ) → P x before (Stops (NoFile absent)) → Q absent
 
 module _ {X A : Type 0} (Q : List ℕ → Type 0) (P : X → Walk A) (misses : Misses Q P) where
-  each_misses : (xs : List X) (before : Walked) (absent : List ℕ) → Each P xs before (Stops (NoFile absent)) → Q absent
+  each_misses : (xs : List X) (before : Walked) (absent : List ℕ) → WalksEach P xs before (Stops (NoFile absent)) → Q absent
   each_misses [] before absent e = absurd e
   each_misses (x ∷ xs) before absent (inl e) = misses x before absent e
   each_misses (x ∷ xs) before absent (inr (between, first, p, e)) = each_misses xs between absent e

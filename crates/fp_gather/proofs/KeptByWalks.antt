@@ -11,13 +11,13 @@ use Rattle.fp_gather.specs.declared.gathering.including.Inclusion.{Inclusion}
 use Rattle.fp_gather.proofs.OneWalk.{same_given}
 use Rattle.fp_gather.specs.gathering.Includes.{included_name, inclusions_in, replaced}
 use Rattle.fp_gather.specs.gathering.Reading.{Reading, Gives, nothing_in}
-use Rattle.fp_gather.specs.gathering.Walks.{Walked, Walk, Went, Each, IsRefused, Reads, WalksFile, WalksInclude, WalksNamed, WalksFiles, most_levels, next_reading, nothing_read}
+use Rattle.fp_gather.specs.gathering.Walks.{Walked, Walk, Went, WalksEach, IsRefused, Reads, WalksFile, WalksInclude, WalksNamed, WalksFiles, most_levels, next_reading, nothing_read}
 
 -- what a walk gives has it
 abbrev GivesKept : {A : Type 0} → (A → Type 0) → Walk A → Type 0
 GivesKept {A = A} Q P = (before after : Walked) (x : A) → P before (Went after x) → Q x
 
-each_kept : {X A : Type 0} (Q : A → Type 0) (P : X → Walk A) → ((x : X) → GivesKept Q (P x)) → (xs : List X) → GivesKept (AllByRecursion Q) (Each P xs)
+each_kept : {X A : Type 0} (Q : A → Type 0) (P : X → Walk A) → ((x : X) → GivesKept Q (P x)) → (xs : List X) → GivesKept (AllByRecursion Q) (WalksEach P xs)
 each_kept Q P kept [] before after ys h = subst (AllByRecursion Q) (sym h.1) tt
 each_kept Q P kept (x ∷ xs) before after ys (between, first, others, p, rest, e) =
     subst (AllByRecursion Q) (sym e) (kept x before between first p, each_kept Q P kept xs between after others rest)

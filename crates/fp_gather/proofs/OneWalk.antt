@@ -18,7 +18,7 @@ use Rattle.fp_gather.proofs.Absent.{gone_not_stopped}
 use Rattle.fp_gather.proofs.FoundInFiles.{same_tokens}
 use Rattle.fp_gather.specs.gathering.Includes.{included_name, inclusions_in, members_of, replaced}
 use Rattle.fp_gather.specs.gathering.Reading.{Reading, BreaksTokenRule, BreaksGrammar, Gives, HasTokens}
-use Rattle.fp_gather.specs.gathering.Walks.{Walked, Walk, Outcome, Went, Stops, Stopped, NoFile, ReadFault, Each, NoReadFault, Reads, WalksFile, WalksInclude, WalksNamed, WalksFiles, most_levels, next_reading, with_reading}
+use Rattle.fp_gather.specs.gathering.Walks.{Walked, Walk, Outcome, Went, Stops, Stopped, NoFile, ReadFault, WalksEach, NoReadFault, Reads, WalksFile, WalksInclude, WalksNamed, WalksFiles, most_levels, next_reading, with_reading}
 
 -- a walk has one outcome
 abbrev One : {A : Type 0} → Walk A → Type 0
@@ -50,28 +50,28 @@ same_went {w = w} {v = v} {x = x} {y = y} d e = ap (λ (u : Walked). Went u x) d
 
 -- ---- lists
 
-one_each : {X A : Type 0} (P : X → Walk A) → ((x : X) → One (P x)) → (xs : List X) → One (Each P xs)
+one_each : {X A : Type 0} (P : X → Walk A) → ((x : X) → One (P x)) → (xs : List X) → One (WalksEach P xs)
 one_each P one [] b (Went w x) (Went v y) h k f g = same_went (h.0 ∙ sym k.0) (h.1 ∙ sym k.1)
 one_each P one [] b (Went w x) (Stops t) h k f g = absurd k
 one_each P one [] b (Stops s) p h k f g = absurd h
 one_each {A = A} P one (z ∷ zs) b (Went w xs) (Went v ys) (m, x, us, h, hs, d) (n, y, vs, k, ks, e) f g =
     let first = one z b (Went m x) (Went n y) h k tt tt in
-    let rest = one_each P one zs n (Went w us) (Went v vs) (subst (λ (u : Walked). Each P zs u (Went w us)) (same_walked first) hs) ks tt tt in
+    let rest = one_each P one zs n (Went w us) (Went v vs) (subst (λ (u : Walked). WalksEach P zs u (Went w us)) (same_walked first) hs) ks tt tt in
     same_went (same_walked rest) (d ∙ ap (λ (u : A). u ∷ us) (same_given first) ∙ ap (λ (us' : List A). y ∷ us') (same_given rest) ∙ sym e)
 one_each P one (z ∷ zs) b (Went w xs) (Stops t) (m, x, us, h, hs, d) (inl k) f g = absurd (gone_not_stopped m x t (one z b (Went m x) (Stops t) h k tt g))
 one_each P one (z ∷ zs) b (Went w xs) (Stops t) (m, x, us, h, hs, d) (inr (n, y, k, ks)) f g =
     let first = one z b (Went m x) (Went n y) h k tt tt in
-    absurd (gone_not_stopped w us t (one_each P one zs n (Went w us) (Stops t) (subst (λ (u : Walked). Each P zs u (Went w us)) (same_walked first) hs) ks tt g))
+    absurd (gone_not_stopped w us t (one_each P one zs n (Went w us) (Stops t) (subst (λ (u : Walked). WalksEach P zs u (Went w us)) (same_walked first) hs) ks tt g))
 one_each P one (z ∷ zs) b (Stops s) (Went v ys) (inl h) (n, y, vs, k, ks, e) f g = absurd (gone_not_stopped n y s (one z b (Went n y) (Stops s) k h tt f))
 one_each P one (z ∷ zs) b (Stops s) (Went v ys) (inr (m, x, h, hs)) (n, y, vs, k, ks, e) f g =
     let first = one z b (Went n y) (Went m x) k h tt tt in
-    absurd (gone_not_stopped v vs s (one_each P one zs m (Went v vs) (Stops s) (subst (λ (u : Walked). Each P zs u (Went v vs)) (same_walked first) ks) hs tt f))
+    absurd (gone_not_stopped v vs s (one_each P one zs m (Went v vs) (Stops s) (subst (λ (u : Walked). WalksEach P zs u (Went v vs)) (same_walked first) ks) hs tt f))
 one_each P one (z ∷ zs) b (Stops s) (Stops t) (inl h) (inl k) f g = ap Stops (same_stopped (one z b (Stops s) (Stops t) h k f g))
 one_each P one (z ∷ zs) b (Stops s) (Stops t) (inl h) (inr (n, y, k, ks)) f g = absurd (gone_not_stopped n y s (one z b (Went n y) (Stops s) k h tt f))
 one_each P one (z ∷ zs) b (Stops s) (Stops t) (inr (m, x, h, hs)) (inl k) f g = absurd (gone_not_stopped m x t (one z b (Went m x) (Stops t) h k tt g))
 one_each P one (z ∷ zs) b (Stops s) (Stops t) (inr (m, x, h, hs)) (inr (n, y, k, ks)) f g =
     let first = one z b (Went m x) (Went n y) h k tt tt in
-    ap Stops (same_stopped (one_each P one zs n (Stops s) (Stops t) (subst (λ (u : Walked). Each P zs u (Stops s)) (same_walked first) hs) ks f g))
+    ap Stops (same_stopped (one_each P one zs n (Stops s) (Stops t) (subst (λ (u : Walked). WalksEach P zs u (Stops s)) (same_walked first) hs) ks f g))
 
 -- ---- one file
 
@@ -114,7 +114,7 @@ module _ (one_spelled : (tokens : List Token) (i : Inside) (xs ys : Members) →
 
   module _ (held : List HeldFile) (inclusion : List (List ℕ) → Inclusion → Walk Members) (one : (round : List (List ℕ)) (i : Inclusion) → One (inclusion round i)) where
     abbrev Inner : List (List ℕ) → List ℕ → Members → Walk (List Members)
-    Inner round name own = Each (inclusion (name ∷ round)) (inclusions_in own)
+    Inner round name own = WalksEach (inclusion (name ∷ round)) (inclusions_in own)
 
     one_inner : (round : List (List ℕ)) (name : List ℕ) (own : Members) → One (Inner round name own)
     one_inner round name own = one_each (inclusion (name ∷ round)) (one (name ∷ round)) (inclusions_in own)

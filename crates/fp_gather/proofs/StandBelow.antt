@@ -23,7 +23,7 @@ use Rattle.fp_outside.specs.declared.files.HeldFile.{HeldFile}
 use Rattle.fp_gather.specs.declared.gathering.including.Inclusion.{Inclusion}
 use Rattle.fp_gather.specs.gathering.Includes.{included_name, inclusions_in, replaced}
 use Rattle.fp_gather.specs.gathering.Reading.{Reading, Gives, nothing_in}
-use Rattle.fp_gather.specs.gathering.Walks.{Walked, Walk, Went, Each, IsRefused, Reads, WalksFile, WalksInclude, WalksNamed, WalksFiles, most_levels, next_reading, nothing_read, with_reading, with_refused}
+use Rattle.fp_gather.specs.gathering.Walks.{Walked, Walk, Went, WalksEach, IsRefused, Reads, WalksFile, WalksInclude, WalksNamed, WalksFiles, most_levels, next_reading, nothing_read, with_reading, with_refused}
 
 -- what an item defines and uses stands in a file below this number
 abbrev pub DefinesBelow : ℕ → Item → Type 0
@@ -130,7 +130,7 @@ refused_numbered before f lt num = record {
 -- ---- walks
 
 each_keeps : {X A : Type 0} (G : ℕ → A → Type 0) → ((m n : ℕ) (x : A) → m ≤ n → G m x → G n x) → (P : X → Walk A) (low : ℕ) (xs : List X)
-    → AllByRecursion (λ x. KeepsNumbers G low (P x)) xs → KeepsNumbers (λ n ys. AllByRecursion (G n) ys) low (Each P xs)
+    → AllByRecursion (λ x. KeepsNumbers G low (P x)) xs → KeepsNumbers (λ n ys. AllByRecursion (G n) ys) low (WalksEach P xs)
 each_keeps {A = A} G more P low [] s before after ys le num h =
     subst (λ (w : Walked). (length before.readings ≤ length w.readings) × IsNumbered w × AllByRecursion (G (length w.readings)) ys) (sym h.0)
     (omega arith, num, subst (λ (zs : List A). AllByRecursion (G (length before.readings)) zs) (sym h.1) tt)

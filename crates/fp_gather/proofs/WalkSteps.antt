@@ -22,7 +22,7 @@ use Rattle.fp_gather.specs.gathering.Answers.{Comes, Knows}
 use Rattle.fp_gather.specs.declared.gathering.including.Inclusion.{Inclusion}
 use Rattle.fp_gather.specs.gathering.Includes.{included_name, inclusions_in, members_of, replaced}
 use Rattle.fp_gather.specs.gathering.Reading.{Reading, Gives, nothing_in}
-use Rattle.fp_gather.specs.gathering.Walks.{Walked, Walk, Outcome, Went, Stops, Stopped, NoFile, ReadFault, Each, IsBad, IsRefused, Reads, WalksFile, WalksFiles, WalksInclude, WalksNamed, most_levels, next_reading, with_reading, with_refused}
+use Rattle.fp_gather.specs.gathering.Walks.{Walked, Walk, Outcome, Went, Stops, Stopped, NoFile, ReadFault, WalksEach, IsBad, IsRefused, Reads, WalksFile, WalksFiles, WalksInclude, WalksNamed, most_levels, next_reading, with_reading, with_refused}
 use Rattle.fp_gather.specs.declared.gathering.Halt.{Halt}
 use Rattle.fp_gather.specs.declared.gathering.Halt.TheVariants as halt
 use Rattle.fp_gather.specs.declared.gathering.progress.Progress.{Progress}
@@ -33,7 +33,7 @@ Told = Option (List HeldFile)
 -- ---- lists of walks
 
 pub each_more : {X A : Type 0} (P : X → Walk A) (xs : List X) (x : X) (a b c : Walked) (ys : List A) (y : A)
-    → Each P xs a (Went b ys) → P x b (Went c y) → Each P (xs ++ x ∷ []) a (Went c (ys ++ y ∷ []))
+    → WalksEach P xs a (Went b ys) → P x b (Went c y) → WalksEach P (xs ++ x ∷ []) a (Went c (ys ++ y ∷ []))
 each_more {A = A} P [] x a b c ys y h k =
     let here : P x a (Went c y) = subst (λ (w : Walked). P x w (Went c y)) h.0 k in
     (c, y, [], here, (refl, refl), ap (λ (l : List A). l ++ y ∷ []) h.1)
@@ -41,7 +41,7 @@ each_more {A = A} P (z ∷ xs) x a b c ys y (between, first, others, p, rest, e)
     (between, first, others ++ y ∷ [], p, each_more P xs x between b c others y rest k, ap (λ (l : List A). l ++ y ∷ []) e)
 
 pub each_stops : {X A : Type 0} (P : X → Walk A) (xs : List X) (x : X) (more : List X) (a b : Walked) (ys : List A) (s : Stopped)
-    → Each P xs a (Went b ys) → P x b (Stops s) → Each P (xs ++ x ∷ more) a (Stops s)
+    → WalksEach P xs a (Went b ys) → P x b (Stops s) → WalksEach P (xs ++ x ∷ more) a (Stops s)
 each_stops P [] x more a b ys s h k = inl (subst (λ (w : Walked). P x w (Stops s)) h.0 k)
 each_stops P (z ∷ xs) x more a b ys s (between, first, others, p, rest, e) k = inr (between, first, p, each_stops P xs x more between b others s rest k)
 
@@ -220,33 +220,33 @@ module _ {F : Type 0} (told : F → Told) (faults misses : F → ℕ) where
 
   -- one more of several
   pub each_goes_on : {X A : Type 0} (old mid new : F) (P : Told → X → Walk A) (xs more : List X) (x : X) (before : Walked) (p q : Progress) (ys zs : List A) (y : A)
-      → more ≡ xs ++ x ∷ [] → zs ≡ ys ++ y ∷ [] → told mid ≡ told old → Comes (run old mid) (λ t. Each (P t) xs) before p (Ok ys)
+      → more ≡ xs ++ x ∷ [] → zs ≡ ys ++ y ∷ [] → told mid ≡ told old → Comes (run old mid) (λ t. WalksEach (P t) xs) before p (Ok ys)
       → ((b : Walked) → Knows p b → Comes (run mid new) (λ t. P t x) b q (Ok y))
-      → Comes (run old new) (λ t. Each (P t) more) before q (Ok zs)
+      → Comes (run old new) (λ t. WalksEach (P t) more) before q (Ok zs)
   each_goes_on {X = X} {A = A} old mid new P xs more x before p q ys zs y em ez e c next =
-      goes_later old mid new (λ t. P t x) (λ t. Each (P t) more) before c.2.0 q y zs e c.0 c.1
-      (λ after h. subst (λ (l : List X). Each (P (told old)) l before (Went after zs)) (sym em)
-      (subst (λ (l : List A). Each (P (told old)) (xs ++ x ∷ []) before (Went after l)) (sym ez) (each_more (P (told old)) xs x before c.2.0 after ys y c.2.1 h)))
+      goes_later old mid new (λ t. P t x) (λ t. WalksEach (P t) more) before c.2.0 q y zs e c.0 c.1
+      (λ after h. subst (λ (l : List X). WalksEach (P (told old)) l before (Went after zs)) (sym em)
+      (subst (λ (l : List A). WalksEach (P (told old)) (xs ++ x ∷ []) before (Went after l)) (sym ez) (each_more (P (told old)) xs x before c.2.0 after ys y c.2.1 h)))
       (next c.2.0 c.2.2)
 
   pub each_stops_on : {X A : Type 0} (old mid new : F) (P : Told → X → Walk A) (xs all : List X) (x : X) (rest : List X) (before : Walked) (p q r : Progress) (ys : List A) (h : Halt)
-      → all ≡ xs ++ x ∷ rest → told mid ≡ told old → Comes (run old mid) (λ t. Each (P t) xs) before p (Ok ys)
+      → all ≡ xs ++ x ∷ rest → told mid ≡ told old → Comes (run old mid) (λ t. WalksEach (P t) xs) before p (Ok ys)
       → ((b : Walked) → Knows p b → Comes (run mid new) (λ t. P t x) b q (Err h))
-      → Comes (run old new) (λ t. Each (P t) all) before r (Err h)
+      → Comes (run old new) (λ t. WalksEach (P t) all) before r (Err h)
   each_stops_on {X = X} old mid new P xs all x rest before p q r ys h ea e c next =
-      stops_later old mid new (λ t. P t x) (λ t. Each (P t) all) before c.2.0 q r h e c.0 c.1
-      (λ s k. subst (λ (l : List X). Each (P (told old)) l before (Stops s)) (sym ea) (each_stops (P (told old)) xs x rest before c.2.0 ys s c.2.1 k))
+      stops_later old mid new (λ t. P t x) (λ t. WalksEach (P t) all) before c.2.0 q r h e c.0 c.1
+      (λ s k. subst (λ (l : List X). WalksEach (P (told old)) l before (Stops s)) (sym ea) (each_stops (P (told old)) xs x rest before c.2.0 ys s c.2.1 k))
       (next c.2.0 c.2.2)
 
   pub each_begins : {X A : Type 0} (old : F) (P : Told → X → Walk A) (xs : List X) (before : Walked) (p : Progress) (ys : List A) → ys ≡ [] → Knows p before
-      → Comes (run old old) (λ t. Each (P t) (take 0 xs)) before p (Ok ys)
+      → Comes (run old old) (λ t. WalksEach (P t) (take 0 xs)) before p (Ok ys)
   each_begins {X = X} old P xs before p ys e known =
-      (refl, refl, (before, subst (λ (l : List X). Each (P (told old)) l before (Went before ys)) (sym (take_none xs)) (refl, e), known))
+      (refl, refl, (before, subst (λ (l : List X). WalksEach (P (told old)) l before (Went before ys)) (sym (take_none xs)) (refl, e), known))
 
   pub each_ends : {X A : Type 0} (old new : F) (P : Told → X → Walk A) (xs : List X) (i : ℕ) (before : Walked) (p : Progress) (ys : List A) → length xs ≤ i
-      → Comes (run old new) (λ t. Each (P t) (take i xs)) before p (Ok ys) → Comes (run old new) (λ t. Each (P t) xs) before p (Ok ys)
+      → Comes (run old new) (λ t. WalksEach (P t) (take i xs)) before p (Ok ys) → Comes (run old new) (λ t. WalksEach (P t) xs) before p (Ok ys)
   each_ends {X = X} old new P xs i before p ys le c =
-      (c.0, c.1, (c.2.0, subst (λ (l : List X). Each (P (told old)) l before (Went c.2.0 ys)) (take_all i xs le) c.2.1, c.2.2))
+      (c.0, c.1, (c.2.0, subst (λ (l : List X). WalksEach (P (told old)) l before (Went c.2.0 ys)) (take_all i xs le) c.2.1, c.2.2))
 
   pub files_begin : {S : Type 0} (old : F) (name : S → List ℕ) (names : List S) (before : Walked) (p : Progress) (ys : List (List Member)) → ys ≡ [] → Knows p before
       → Comes (run old old) (λ t. WalksFiles t (map name (take 0 names))) before p (Ok ys)
@@ -263,16 +263,16 @@ module _ {F : Type 0} (told : F → Told) (faults misses : F → ℕ) where
       (own : Members) (includes : List Inclusion) (before : Walked) (p q r : Progress) (h : Halt)
       → inner ≡ name ∷ round → includes ≡ inclusions_in own → told mid ≡ told old
       → Comes (run old mid) (λ t. Reads t round within name) before p (Ok own)
-      → ((b : Walked) → Knows p b → Comes (run mid new) (λ t. Each (inclusion t inner) includes) b q (Err h))
+      → ((b : Walked) → Knows p b → Comes (run mid new) (λ t. WalksEach (inclusion t inner) includes) b q (Err h))
       → Comes (run old new) (λ t. WalksFile t (inclusion t) round within name) before r (Err h)
   file_stops_later old mid new inclusion round inner within name own includes before p q r h ei el e c next =
-      stops_later old mid new (λ t. Each (inclusion t inner) includes) (λ t. WalksFile t (inclusion t) round within name) before c.2.0 q r h e c.0 c.1
+      stops_later old mid new (λ t. WalksEach (inclusion t inner) includes) (λ t. WalksFile t (inclusion t) round within name) before c.2.0 q r h e c.0 c.1
       (λ s k. inr (
         c.2.0,
         own,
         c.2.1,
-        subst (λ (w : List (List ℕ)). Each (inclusion (told old) w) (inclusions_in own) c.2.0 (Stops s)) ei
-            (subst (λ (l : List Inclusion). Each (inclusion (told old) inner) l c.2.0 (Stops s)) el k),
+        subst (λ (w : List (List ℕ)). WalksEach (inclusion (told old) w) (inclusions_in own) c.2.0 (Stops s)) ei
+            (subst (λ (l : List Inclusion). WalksEach (inclusion (told old) inner) l c.2.0 (Stops s)) el k),
       ))
       (next c.2.0 c.2.2)
 
@@ -280,17 +280,17 @@ module _ {F : Type 0} (told : F → Told) (faults misses : F → ℕ) where
       (own : Members) (includes : List Inclusion) (inserts : List Members) (out : Members) (before : Walked) (p q : Progress)
       → inner ≡ name ∷ round → includes ≡ inclusions_in own → out ≡ replaced own inserts → told mid ≡ told old
       → Comes (run old mid) (λ t. Reads t round within name) before p (Ok own)
-      → ((b : Walked) → Knows p b → Comes (run mid new) (λ t. Each (inclusion t inner) includes) b q (Ok inserts))
+      → ((b : Walked) → Knows p b → Comes (run mid new) (λ t. WalksEach (inclusion t inner) includes) b q (Ok inserts))
       → Comes (run old new) (λ t. WalksFile t (inclusion t) round within name) before q (Ok out)
   file_goes old mid new inclusion round inner within name own includes inserts out before p q ei el eo e c next =
-      goes_later old mid new (λ t. Each (inclusion t inner) includes) (λ t. WalksFile t (inclusion t) round within name) before c.2.0 q inserts out e c.0 c.1
+      goes_later old mid new (λ t. WalksEach (inclusion t inner) includes) (λ t. WalksFile t (inclusion t) round within name) before c.2.0 q inserts out e c.0 c.1
       (λ after k. (
         c.2.0,
         own,
         inserts,
         c.2.1,
-        subst (λ (w : List (List ℕ)). Each (inclusion (told old) w) (inclusions_in own) c.2.0 (Went after inserts)) ei
-            (subst (λ (l : List Inclusion). Each (inclusion (told old) inner) l c.2.0 (Went after inserts)) el k),
+        subst (λ (w : List (List ℕ)). WalksEach (inclusion (told old) w) (inclusions_in own) c.2.0 (Went after inserts)) ei
+            (subst (λ (l : List Inclusion). WalksEach (inclusion (told old) inner) l c.2.0 (Went after inserts)) el k),
         eo,
       ))
       (next c.2.0 c.2.2)

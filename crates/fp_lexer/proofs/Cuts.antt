@@ -67,9 +67,9 @@ piece_grows text p i = let h = not_empty (indent_at text p.from) (drop p.from te
 
 -- ---- cuts
 
-abbrev pub Each : (Lexeme → Type 0) → List Lexeme → Type 0
-Each Q [] = Unit {0}
-Each Q (p ∷ ps) = Q p × Each Q ps
+abbrev pub EachLexeme : (Lexeme → Type 0) → List Lexeme → Type 0
+EachLexeme Q [] = Unit {0}
+EachLexeme Q (p ∷ ps) = Q p × EachLexeme Q ps
 
 -- nothing is broken within the piece before an offset
 abbrev pub IsFine : List ℕ → ℕ → Lexeme → Type 0
@@ -80,13 +80,13 @@ abbrev pub IsWhole : List ℕ → Lexeme → Type 0
 IsWhole text p = IsSmall p.what × HasNoBadEscape text p.from
 
 abbrev pub AllWhole : List ℕ → List Lexeme → Type 0
-AllWhole text ps = Each (IsWhole text) ps
+AllWhole text ps = EachLexeme (IsWhole text) ps
 
-pub whole_fine : (text : List ℕ) (m : ℕ) (ps : List Lexeme) → AllWhole text ps → Each (IsFine text m) ps
+pub whole_fine : (text : List ℕ) (m : ℕ) (ps : List Lexeme) → AllWhole text ps → EachLexeme (IsFine text m) ps
 whole_fine text m [] s = tt
 whole_fine text m (p ∷ ps) s = ((s.0.0, λ there b. absurd (s.0.1 there b)), whole_fine text m ps s.1)
 
-pub finer : (text : List ℕ) (m n : ℕ) (ps : List Lexeme) → m ≤ n → Each (IsFine text n) ps → Each (IsFine text m) ps
+pub finer : (text : List ℕ) (m n : ℕ) (ps : List Lexeme) → m ≤ n → EachLexeme (IsFine text n) ps → EachLexeme (IsFine text m) ps
 finer text m n [] le s = tt
 finer text m n (p ∷ ps) le s = ((s.0.0, λ there b. let h = s.0.1 there b in omega (arith, le, h)), finer text m n ps le s.1)
 
@@ -101,7 +101,7 @@ pub cuts_push : (text : List ℕ) (a b : ℕ) (ps : List Lexeme) (p : Lexeme) �
 cuts_push text a b [] p c e i = (e ∙ sym c, i, refl)
 cuts_push text a b (q ∷ qs) p c e i = (c.0, c.1, cuts_push text q.past b qs p c.2 e i)
 
-pub each_push : (Q : Lexeme → Type 0) (ps : List Lexeme) (p : Lexeme) → Each Q ps → Q p → Each Q (ps ++ p ∷ [])
+pub each_push : (Q : Lexeme → Type 0) (ps : List Lexeme) (p : Lexeme) → EachLexeme Q ps → Q p → EachLexeme Q (ps ++ p ∷ [])
 each_push Q [] p a s = (s, tt)
 each_push Q (q ∷ qs) p a s = (a.0, each_push Q qs p a.1 s)
 
@@ -122,7 +122,7 @@ fine_push text p f i small none = record {
 }
 
 -- of two cuts the one goes as far as the other, or has a piece where the other ends
-pub meet : (Q : Lexeme → Type 0) (text : List ℕ) (a a' b c : ℕ) (ps qs : List Lexeme) → a ≡ a' → Cuts text a ps b → Each Q ps → Cuts text a' qs c → (b ≤ c) ⊎ ((p : Lexeme) × IsLexeme text p × Q p × (p.from ≡ c))
+pub meet : (Q : Lexeme → Type 0) (text : List ℕ) (a a' b c : ℕ) (ps qs : List Lexeme) → a ≡ a' → Cuts text a ps b → EachLexeme Q ps → Cuts text a' qs c → (b ≤ c) ⊎ ((p : Lexeme) × IsLexeme text p × Q p × (p.from ≡ c))
 meet Q text a a' b c [] qs e p s q = inl (let h = cuts_up text a' c qs q in omega (arith, h, p, e))
 meet Q text a a' b c (p ∷ ps) [] e i s q = inr (p, i.1, s.0, i.0 ∙ e ∙ q)
 meet Q text a a' b c (p ∷ ps) (r ∷ qs) e i s q =

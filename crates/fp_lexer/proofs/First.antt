@@ -23,7 +23,7 @@ use Rattle.fp_lexer.proofs.Gives.{within_from}
 use Rattle.fp_lexer.proofs.Rises.{places_rise}
 use Rattle.fp_lexer.proofs.GivesLong.{body_piece}
 use Rattle.fp_lexer.proofs.LongStrings.{bad_within}
-use Rattle.fp_lexer.proofs.Cuts.{Each, IsFine, IsWhole, AllWhole, whole_fine, finer, each_push, cuts_push, meet, piece_none, small_large, piece_ends}
+use Rattle.fp_lexer.proofs.Cuts.{EachLexeme, IsFine, IsWhole, AllWhole, whole_fine, finer, each_push, cuts_push, meet, piece_none, small_large, piece_ends}
 
 -- a bad escape stands behind the opening of its string, and within the text
 bad_behind : (text : List ℕ) (from at : ℕ) → BadEscapeAt text from at → from + 3 ≤ at
@@ -41,7 +41,7 @@ bad_in_text text from at b =
 
 -- but the length, and the first byte that belongs to no character, nothing is broken before an offset as far as which pieces reach in
 -- which nothing is broken before it
-pub before_reached : (text : List ℕ) (to m : ℕ) (ps : List Lexeme) (other : Rule) (there : ℕ) → Cuts text 0 ps to → Each (IsFine text m) ps → m ≤ to → length text ≤ longest_text → BrokenAt text other there
+pub before_reached : (text : List ℕ) (to m : ℕ) (ps : List Lexeme) (other : Rule) (there : ℕ) → Cuts text 0 ps to → EachLexeme (IsFine text m) ps → m ≤ to → length text ≤ longest_text → BrokenAt text other there
     → (m ≤ there) ⊎ (there ≡ utf8_valid_len text)
 before_reached text to m ps BadCharacter there c s le short b = elim b.1 [
   | inl e ↦ inr e
@@ -138,7 +138,7 @@ pub record FineString (text : List ℕ) (there : ℕ) : Type 0 where
   pub ps : List Lexeme
   pub to : ℕ
   pub cuts : Cuts text 0 ps to
-  pub fine : Each (IsFine text there) ps
+  pub fine : EachLexeme (IsFine text there) ps
   pub behind : there < to
 
 fine_string : (text : List ℕ) (at there : ℕ) (ps : List Lexeme) → Cuts text 0 ps at → AllWhole text ps → IsFlawed text at BadEscape there → FineString text there
@@ -211,7 +211,7 @@ first_flaw text at ps flaw h lt short c s f valid = flaw_kinds text at flaw.at f
     as_rule {rule} r g = subst (λ (x : Rule). IsFirstFlaw text (record { rule = x; at = flaw.at })) (sym r) g
 
 -- the first byte that belongs to no character, where pieces reach it in which nothing is broken before it
-mangled : (text : List ℕ) (to valid : ℕ) (ps : List Lexeme) → valid ≡ utf8_valid_len text → valid < length text → length text ≤ longest_text → Cuts text 0 ps to → Each (IsFine text valid) ps → valid ≤ to
+mangled : (text : List ℕ) (to valid : ℕ) (ps : List Lexeme) → valid ≡ utf8_valid_len text → valid < length text → length text ≤ longest_text → Cuts text 0 ps to → EachLexeme (IsFine text valid) ps → valid ≤ to
     → IsFirstFlaw text (record { rule = BadCharacter; at = valid })
 mangled text to valid ps v h short c s le = record {
   broken = (h, inl v);

@@ -10,8 +10,8 @@ use Rattle.fp_tables.specs.declared.component.Command.{Command}
 use Rattle.fp_tables.specs.declared.component.Component.{Component}
 use Rattle.fp_tables.specs.declared.component.Event.{Event}
 use Rattle.fp_tables.specs.declared.component.Param.{Param}
-use Rattle.fp_tables.specs.declared.component.Part.{Part}
-use Rattle.fp_tables.specs.declared.component.Part.TheVariants as part
+use Rattle.fp_tables.specs.declared.component.CommandPart.{CommandPart}
+use Rattle.fp_tables.specs.declared.component.CommandPart.TheVariants as part
 use Rattle.fp_tables.specs.declared.component.Port.{Port}
 use Rattle.fp_tables.specs.declared.component.Queueing.{Queueing}
 use Rattle.fp_tables.specs.declared.component.Queueing.TheVariants as queueing
@@ -106,7 +106,7 @@ module _ (m : Model) where
       way_word c.way ++ codes " command " ++ c.name ++ formals_text m.types c.formals ++ codes " opcode " ++ decimal c.opcode ++ queue_text c.way
 
   -- a command that is written in the component
-  abbrev pub command_of : Command → Part → List ℕ
+  abbrev pub command_of : Command → CommandPart → List ℕ
   command_of c part.Plain = member_line (command_text c)
   command_of c _ = []
 

@@ -9,8 +9,8 @@ use crate::opcodes::{opcode_of, save_opcodes, set_opcodes};
 use fp_base::{NoMemory, Row, push_quoted, push_value};
 use fp_logtext::{push_number, push_text};
 use fp_tables::{
-    Channel, Command, Component, Event, Model, Param, Part, Port, Queueing, Role, Running, Special,
-    Way,
+    Channel, Command, CommandPart, Component, Event, Model, Param, Port, Queueing, Role, Running,
+    Special, Way,
 };
 use std::alloc::Global;
 
@@ -118,13 +118,13 @@ fn push_command(model: &Model, command: &Command, out: &mut Row<u8>) -> Result<(
     ensures { OnOk result (out.new ≡ out.old ++ M.command_line model.now command.now) }
 {
     match command.part {
-        Part::Plain => {
+        CommandPart::Plain => {
             push_text(out, "  ")?;
             push_command_text(model, command, out)?;
             push_text(out, "\n")
         }
-        Part::SetParam(_) => Ok(()),
-        Part::SaveParam(_) => Ok(()),
+        CommandPart::SetParam(_) => Ok(()),
+        CommandPart::SaveParam(_) => Ok(()),
     }
 }
 

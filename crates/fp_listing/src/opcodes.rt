@@ -5,7 +5,7 @@ ghost use Rattle.fp_tables.specs.Components.{set_parameter, saved_parameter};
 ghost use Rattle.fp_listing.specs.Members.{set_opcode, save_opcode};
 
 use fp_base::NoMemory;
-use fp_tables::{Command, Part};
+use fp_tables::{Command, CommandPart};
 use std::alloc::Global;
 use std::collections::BTreeMap;
 
@@ -14,7 +14,7 @@ fn set_by(command: &Command) -> Option<u32>
     ensures { result ≡ set_parameter command.now }
 {
     match command.part {
-        Part::SetParam(param) => Some(param),
+        CommandPart::SetParam(param) => Some(param),
         _ => None,
     }
 }
@@ -24,7 +24,7 @@ fn saved_by(command: &Command) -> Option<u32>
     ensures { result ≡ saved_parameter command.now }
 {
     match command.part {
-        Part::SaveParam(param) => Some(param),
+        CommandPart::SaveParam(param) => Some(param),
         _ => None,
     }
 }

@@ -10,8 +10,8 @@ use Rattle.fp_tables.specs.Sound.{IsSound}
 use Rattle.fp_tables.specs.declared.component.Command.{Command}
 use Rattle.fp_tables.specs.declared.component.Component.{Component}
 use Rattle.fp_tables.specs.declared.component.Param.{Param}
-use Rattle.fp_tables.specs.declared.component.Part.{Part}
-use Rattle.fp_tables.specs.declared.component.Part.TheVariants as part
+use Rattle.fp_tables.specs.declared.component.CommandPart.{CommandPart}
+use Rattle.fp_tables.specs.declared.component.CommandPart.TheVariants as part
 use Rattle.fp_tables.specs.declared.component.Way.TheVariants.{Later, Sync, Guarded}
 use Rattle.fp_events.specs.Answers.{suits}
 use Rattle.fp_events.specs.Manners.{Manner, by, sets, saves, manner}
@@ -60,7 +60,7 @@ module _ (t : Described) (sound : IsSound t.model) (i : ℕ) where
       let p : m.command.part ≡ part.SetParam k = sets_part m.command.way m.command.part k m.treated in
       let lies : part_lies (length c.0.params) (part.SetParam k) ≡ true = subst (λ q. part_lies (length c.0.params) q ≡ true) p (part_lies_at c.0 m.number m.command c.1 c.2) in
       let named : is_some (param_name t.model i k) ≡ true = param_named c.0 k c.1 lies in
-      let parameter : set_parameter m.command ≡ Some k = ap (λ (q : Part). set_parameter (record m.command { part = q })) p in
+      let parameter : set_parameter m.command ≡ Some k = ap (λ (q : CommandPart). set_parameter (record m.command { part = q })) p in
       rw (m.is, m.found, parameter) named
 
   pub save_is_named : (point : Point) (k : ℕ) → manner t i point ≡ Some (saves k) → is_some (saved_name t.model i point) ≡ true
@@ -70,5 +70,5 @@ module _ (t : Described) (sound : IsSound t.model) (i : ℕ) where
       let p : m.command.part ≡ part.SaveParam k = saves_part m.command.way m.command.part k m.treated in
       let lies : part_lies (length c.0.params) (part.SaveParam k) ≡ true = subst (λ q. part_lies (length c.0.params) q ≡ true) p (part_lies_at c.0 m.number m.command c.1 c.2) in
       let named : is_some (param_name t.model i k) ≡ true = param_named c.0 k c.1 lies in
-      let parameter : saved_parameter m.command ≡ Some k = ap (λ (q : Part). saved_parameter (record m.command { part = q })) p in
+      let parameter : saved_parameter m.command ≡ Some k = ap (λ (q : CommandPart). saved_parameter (record m.command { part = q })) p in
       rw (m.is, m.found, parameter) named

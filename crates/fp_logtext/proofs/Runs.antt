@@ -18,8 +18,8 @@ use Rattle.fp_tables.specs.declared.kind.Formal.{Formal}
 use Rattle.fp_tables.specs.declared.kind.Kind.{Kind}
 use Rattle.fp_tables.specs.declared.component.Command.{Command}
 use Rattle.fp_tables.specs.declared.component.Component.{Component}
-use Rattle.fp_tables.specs.declared.component.Part.{Part}
-use Rattle.fp_tables.specs.declared.component.Part.TheVariants as part
+use Rattle.fp_tables.specs.declared.component.CommandPart.{CommandPart}
+use Rattle.fp_tables.specs.declared.component.CommandPart.TheVariants as part
 use Rattle.fp_tables.specs.declared.program.Program.{Program}
 use Rattle.fp_events.specs.Actor.{ActorState}
 use Rattle.fp_events.specs.Answers.{arrival_in, answers}
@@ -101,7 +101,7 @@ module _ (t : Described) (program : Program) (sound : IsSoundFor t.model (Some t
       let c = then_some (λ (c : Component). slice_get c.commands m.number) (component_of t.model i) m.command m.found in
       let p : m.command.part ≡ part.SaveParam k = saves_part m.command.way m.command.part k m.treated in
       let takes : takes_its_value c.0.params m.command ≡ true = all_get (takes_its_value c.0.params) c.0.commands m.number m.command (values_taken_at t.model sound.0 i c.0 c.1) c.2 in
-      let none : nat_le (length m.command.formals) 0 ≡ true = ap (λ (q : Part). takes_its_value c.0.params (record m.command { part = q })) (sym p) ∙ takes in
+      let none : nat_le (length m.command.formals) 0 ≡ true = ap (λ (q : CommandPart). takes_its_value c.0.params (record m.command { part = q })) (sym p) ∙ takes in
       let ks = some_and_of (λ ks. have_kinds t.model.types ks vs) (place_kinds t program i point) fit in
       let found : slice_get (component t i).commands m.number ≡ Some m.command = command_in t i m.number ∙ m.found in
       let of : place_kinds t program i point ≡ Some (kinds t program m.command.formals) =

@@ -11,8 +11,8 @@ use Rattle.fp_tables.specs.declared.component.Channel.{Channel}
 use Rattle.fp_tables.specs.declared.component.Param.{Param}
 use Rattle.fp_tables.specs.declared.component.Running.{Running}
 use Rattle.fp_tables.specs.declared.component.Component.{Component}
-use Rattle.fp_tables.specs.declared.component.Part.{Part}
-use Rattle.fp_tables.specs.declared.component.Part.TheVariants as part
+use Rattle.fp_tables.specs.declared.component.CommandPart.{CommandPart}
+use Rattle.fp_tables.specs.declared.component.CommandPart.TheVariants as part
 use Rattle.fp_tables.specs.declared.component.Queueing.{Queueing}
 use Rattle.fp_tables.specs.declared.component.Queueing.TheVariants as queueing
 use Rattle.fp_tables.specs.declared.component.Role.TheVariants as role
@@ -38,7 +38,7 @@ use Rattle.fp_logtext.specs.Log.{Log}
 abbrev port : List ℕ → Port
 port name = record { name = name; role = role.Output; size = 1; of = None; formals = [] }
 
-abbrev command : List ℕ → Part → Command
+abbrev command : List ℕ → CommandPart → Command
 command name p = record { name = name; part = p; way = way.Sync; opcode = 0; formals = []; note = [] }
 
 abbrev event : List ℕ → Event

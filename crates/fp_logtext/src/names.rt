@@ -3,7 +3,7 @@ ghost use Rattle.std.specs.Option.{option_copied};
 ghost use Rattle.fp_logtext.specs.Names.{instance_name, port_name, command_at, command_name, event_name, channel_name, param_name, running_at, running_name, machine_at, signal_name, set_name, saved_name};
 
 use fp_events::Point;
-use fp_tables::{Command, Machine, Model, Part, Running};
+use fp_tables::{Command, CommandPart, Machine, Model, Running};
 
 /// The qualified name of an instance.
 pub fn instance_name(model: &Model, instance: u32) -> Option<&str>
@@ -115,7 +115,7 @@ pub fn set_name(model: &Model, instance: u32, point: Point) -> Option<&str>
 {
     match point {
         Point::Command(at) => match command(model, instance, at)?.part {
-            Part::SetParam(param) => param_name(model, instance, param),
+            CommandPart::SetParam(param) => param_name(model, instance, param),
             _ => None,
         },
         _ => None,
@@ -128,7 +128,7 @@ pub fn saved_name(model: &Model, instance: u32, point: Point) -> Option<&str>
 {
     match point {
         Point::Command(at) => match command(model, instance, at)?.part {
-            Part::SaveParam(param) => param_name(model, instance, param),
+            CommandPart::SaveParam(param) => param_name(model, instance, param),
             _ => None,
         },
         _ => None,

@@ -5,7 +5,7 @@ use Rattle.std.specs.List.{All}
 use Rattle.std.specs.Int.{w128}
 use Rattle.fp_base.specs.declared.value.Value.{Value, fold-Value, Int, Bool as Truth, Text, Enumerated, Array, Struct}
 use Rattle.fp_base.specs.declared.value.Value.TheOpen as value
-use Rattle.fp_base.specs.declared.value.Part.{Part}
+use Rattle.fp_base.specs.declared.value.MemberValue.{MemberValue}
 use Rattle.fp_tree.specs.declared.source.Source.{Source}
 use Rattle.fp_tree.specs.declared.name.Name.{Name}
 use Rattle.fp_tree.specs.declared.name.Qual.{Qual}
@@ -88,7 +88,7 @@ abbrev pub IsImplied : Enum → Type 0
 IsImplied e = All (λ (c : EnumConst). c.value ≡ None) e.constants
 
 -- each member's name with its value
-abbrev pub parts_with : List Assignment → List Value → List Part
+abbrev pub parts_with : List Assignment → List Value → List MemberValue
 parts_with (m ∷ ms) (v ∷ vs) = record { name = m.name.text; value = v } ∷ parts_with ms vs
 parts_with _ _ = []
 

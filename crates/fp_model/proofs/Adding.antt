@@ -15,7 +15,7 @@ use Rattle.fp_meaning.specs.Names.{Path}
 use Rattle.fp_meaning.specs.Origins.{Placed, placed, expressions_of}
 use Rattle.fp_meaning.specs.Values.{opened, Val}
 use Rattle.fp_type_forms.proofs.Only.{all_joined}
-use Rattle.fp_model.specs.declared.constants.Found.{Found}
+use Rattle.fp_model.specs.declared.constants.ConstantsFound.{ConstantsFound}
 use Rattle.fp_model.specs.Defined.{AreConstants, IsConstant}
 use Rattle.fp_model.specs.Definitions.{ConstantHere, constant_here, constants_of}
 use Rattle.fp_model.specs.Given.{Adds, AddsIf, AddsItem, Counts, StandFrom, constant_with, entry, value_at}
@@ -29,22 +29,22 @@ plus_none : (n : ℕ) → n ≡ n + 0
 plus_none n = omega arith
 
 module _ (values : List (Option Value)) where
-  adds_none : (source : Source) (ps : List Placed) (before after : Found) → after.constants ≡ before.constants → after.next ≡ before.next + length ps → Adds source ps [] before after
+  adds_none : (source : Source) (ps : List Placed) (before after : ConstantsFound) → after.constants ≡ before.constants → after.next ≡ before.next + length ps → Adds source ps [] before after
   adds_none source ps before after same next = record {
     constants = λ gs are.
         subst (λ (hs : List ConstantHere). AreConstants source hs after.constants) (sym (append-nil gs)) (subst (λ (cs : List Constant). AreConstants source gs cs) (sym same) are);
     next = next;
   }
 
-  pub nothing_more : (before : Found) → AddsIf values [] [] before before
+  pub nothing_more : (before : ConstantsFound) → AddsIf values [] [] before before
   nothing_more before source stand = adds_none source [] before before refl (plus_none before.next)
 
   -- past the value of an expression that is no constant's
-  pub past_one : (p : Placed) (before after : Found) → after.constants ≡ before.constants → Counts (length values) before.next after.next → AddsIf values (p ∷ []) [] before after
+  pub past_one : (p : Placed) (before after : ConstantsFound) → after.constants ≡ before.constants → Counts (length values) before.next after.next → AddsIf values (p ∷ []) [] before after
   past_one p before after same counts source stand = adds_none source (p ∷ []) before after same (counts (slice_get_within values before.next _ stand.0.1))
 
   module _ (scope : Path) (d : Written) where
-    pub one_more : (v : Value) (before after : Found) → value_at values before.next ≡ Some v → after.constants ≡ before.constants ++ constant_with scope d v ∷ []
+    pub one_more : (v : Value) (before after : ConstantsFound) → value_at values before.next ≡ Some v → after.constants ≡ before.constants ++ constant_with scope d v ∷ []
         → Counts (length values) before.next after.next → AddsIf values (placed scope d.value ∷ []) (constant_here scope d ∷ []) before after
     one_more v before after at adds counts source stand =
         let same : stand.0.0 ≡ v = same_some (sym (ap entry stand.0.1) ∙ at) in
@@ -56,21 +56,21 @@ module _ (values : List (Option Value)) where
           next = counts (slice_get_within values before.next _ stand.0.1);
         }
 
-    pub never_missing : (before after : Found) → value_at values before.next ≡ None → AddsIf values (placed scope d.value ∷ []) (constant_here scope d ∷ []) before after
+    pub never_missing : (before after : ConstantsFound) → value_at values before.next ≡ None → AddsIf values (placed scope d.value ∷ []) (constant_here scope d ∷ []) before after
     never_missing before after none source stand = absurd (none-some stand.0.0 (sym none ∙ ap entry stand.0.1))
 
 -- of the first items
-abbrev pub FoundFirst : List (Option Value) → List Item → ℕ → Found → Type 0
+abbrev pub FoundFirst : List (Option Value) → List Item → ℕ → ConstantsFound → Type 0
 FoundFirst values is k found =
     (source : Source) → StandFrom source values (flat_map expressions_of is) 0
     → AreConstants source (flat_map constants_of (take k is)) found.constants × (found.next ≡ length (flat_map expressions_of (take k is)))
 
 module _ (values : List (Option Value)) (is : List Item) where
-  pub found_none : (found : Found) → found ≡ record { constants = []; next = 0 } → FoundFirst values is 0 found
+  pub found_none : (found : ConstantsFound) → found ≡ record { constants = []; next = 0 } → FoundFirst values is 0 found
   found_none found e source stand =
-      subst (λ (f : Found). AreConstants source [] f.constants × (f.next ≡ 0)) (sym e) (tt, refl)
+      subst (λ (f : ConstantsFound). AreConstants source [] f.constants × (f.next ≡ 0)) (sym e) (tt, refl)
 
-  pub found_next : (k : ℕ) (i : Item) (before after : Found) → slice_get is k ≡ Some i → FoundFirst values is k before → AddsItem values i before after → FoundFirst values is (k + 1) after
+  pub found_next : (k : ℕ) (i : Item) (before after : ConstantsFound) → slice_get is k ≡ Some i → FoundFirst values is k before → AddsItem values i before after → FoundFirst values is (k + 1) after
   found_next k i before after at so_far adds source stand =
       let first = so_far source stand in
       let there : StandFrom source values (expressions_of i) (0 + length (flat_map expressions_of (take k is))) = item_stands source values is k i 0 at stand in
@@ -89,6 +89,6 @@ module _ (values : List (Option Value)) (is : List Item) where
         omega (arith, next, number, whole, long),
       )
 
-  pub found_all : (k : ℕ) (found : Found) → length is ≤ k → FoundFirst values is k found
+  pub found_all : (k : ℕ) (found : ConstantsFound) → length is ≤ k → FoundFirst values is k found
       → (source : Source) → StandFrom source values (flat_map expressions_of is) 0 → AreConstants source (flat_map constants_of is) found.constants
   found_all k found past first source stand = subst (λ (xs : List Item). AreConstants source (flat_map constants_of xs) found.constants) (take_all k is past) (first source stand).0

@@ -16,7 +16,7 @@ use Rattle.fp_meaning.specs.declared.item.Item.TheVariants as item
 use Rattle.fp_meaning.specs.Sites.{ModelDef, Path, component, declaration, instance, interface, machine, site, topology}
 use Rattle.fp_type_forms.specs.Written.{types_in, types_of}
 use Rattle.fp_component_forms.specs.Written.{component_in, component_of, port_in, port_of}
-use Rattle.fp_source_components.specs.Machines.{machine_in, machine_of}
+use Rattle.fp_source_components.specs.Machines.{machine_in, machine_declared}
 use Rattle.fp_topology_forms.specs.Written.{instance_in, instance_of, topology_in, topology_of}
 use Rattle.fp_model.specs.declared.ordering.Counts.{Counts}
 use Rattle.fp_model.specs.Counted.{counted, counted_model, counted_with, none_before, order_by, order_by_model, order_from, order_with}
@@ -41,7 +41,7 @@ so_many a b c d e f g = record { constants = a; kinds = b; ports = c; components
 
 abbrev pub counts_of : List Item → Counts
 counts_of before =
-    so_many (length (flat_map constants_of before)) (length (flat_map types_of before)) (length (flat_map port_of before)) (length (flat_map component_of before)) (length (flat_map machine_of before))
+    so_many (length (flat_map constants_of before)) (length (flat_map types_of before)) (length (flat_map port_of before)) (length (flat_map component_of before)) (length (flat_map machine_declared before))
     (length (flat_map instance_of before)) (length (flat_map topology_of before))
 
 same_counts : {a b c d e f g h x y u v s t : ℕ} → a ≡ b → c ≡ d → e ≡ f → g ≡ h → x ≡ y → u ≡ v → s ≡ t → so_many a c e g x u s ≡ so_many b d f h y v t
@@ -74,7 +74,7 @@ module _ (a b c e x u v : ℕ) where
   counted_declared s (topology d) = same_counts (no_more a) (no_more b) (no_more c) (no_more e) (no_more x) (no_more u) refl
 
   counted_item : (i : Item)
-      → so_many (a + length (constants_of i)) (b + length (types_of i)) (c + length (port_of i)) (e + length (component_of i)) (x + length (machine_of i)) (u + length (instance_of i)) (v + length (topology_of i))
+      → so_many (a + length (constants_of i)) (b + length (types_of i)) (c + length (port_of i)) (e + length (component_of i)) (x + length (machine_declared i)) (u + length (instance_of i)) (v + length (topology_of i))
       ≡ counted_with (so_many a b c e x u v) i
   counted_item (item.Defined s) = counted_definition s.scope s.definition
   counted_item (item.Enumerated n) = none_more
@@ -84,9 +84,9 @@ module _ (a b c e x u v : ℕ) where
 
 one_counted : (before : List Item) (i : Item) → counts_of (before ++ i ∷ []) ≡ counted_with (counts_of before) i
 one_counted before i =
-    same_counts (with_one constants_of before i) (with_one types_of before i) (with_one port_of before i) (with_one component_of before i) (with_one machine_of before i)
+    same_counts (with_one constants_of before i) (with_one types_of before i) (with_one port_of before i) (with_one component_of before i) (with_one machine_declared before i)
     (with_one instance_of before i) (with_one topology_of before i)
-    ∙ counted_item (length (flat_map constants_of before)) (length (flat_map types_of before)) (length (flat_map port_of before)) (length (flat_map component_of before)) (length (flat_map machine_of before))
+    ∙ counted_item (length (flat_map constants_of before)) (length (flat_map types_of before)) (length (flat_map port_of before)) (length (flat_map component_of before)) (length (flat_map machine_declared before))
     (length (flat_map instance_of before)) (length (flat_map topology_of before)) i
 
 one_order : (before : List Item) (i : Item) → order_with (counts_of before) i ≡ order_of before i
@@ -129,7 +129,7 @@ all_of_both p (x ∷ xs) ys h k = let b = both (p x) (list_all p xs) h in join (
 
 module _ (m : Model) (all : List Item) (constants : length (flat_map constants_of all) ≡ length m.constants) (types : length (flat_map types_of all) ≡ length m.types)
     (ports : length (flat_map port_of all) ≡ length m.ports) (components : length (flat_map component_of all) ≡ length m.components)
-    (machines : length (flat_map machine_of all) ≡ length m.machines) (instances : length (flat_map instance_of all) ≡ length m.instances)
+    (machines : length (flat_map machine_declared all) ≡ length m.machines) (instances : length (flat_map instance_of all) ≡ length m.instances)
     (topologies : length (flat_map topology_of all) ≡ length m.topologies) where
   below : (a b : ℕ) → a < b → (nat_lt a b && true) ≡ true
   below a b h = join (nat_lt a b) true (grind (arith, nat_tests)) refl
@@ -150,7 +150,7 @@ module _ (m : Model) (all : List Item) (constants : length (flat_map constants_o
     where
       of_declared : (s : Path) (d : ModelDef) → before ++ item.Declared (declaration s d) ∷ is ≡ all → list_all (item_lies m) (order_declared before d) ≡ true
       of_declared s (component d) e = below _ _ (within component_of before is _ _ (ap (λ (xs : List Item). length (flat_map component_of xs)) e ∙ components) refl)
-      of_declared s (machine d) e = below _ _ (within machine_of before is _ _ (ap (λ (xs : List Item). length (flat_map machine_of xs)) e ∙ machines) refl)
+      of_declared s (machine d) e = below _ _ (within machine_declared before is _ _ (ap (λ (xs : List Item). length (flat_map machine_declared xs)) e ∙ machines) refl)
       of_declared s (interface d) e = refl
       of_declared s (instance d) e = below _ _ (within instance_of before is _ _ (ap (λ (xs : List Item). length (flat_map instance_of xs)) e ∙ instances) refl)
       of_declared s (topology d) e = below _ _ (within topology_of before is _ _ (ap (λ (xs : List Item). length (flat_map topology_of xs)) e ∙ topologies) refl)

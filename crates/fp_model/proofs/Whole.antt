@@ -20,7 +20,7 @@ use Rattle.fp_meaning.specs.Names.{Path}
 use Rattle.fp_meaning.specs.Values.{Opened, Val}
 use Rattle.fp_type_forms.specs.Written.{AllAt, types}
 use Rattle.fp_types.specs.WellWritten.{AreSoundTypes}
-use Rattle.fp_source_components.specs.Machines.{machine_of, machines}
+use Rattle.fp_source_components.specs.Machines.{machine_declared, machines}
 use Rattle.fp_source_machines.specs.Built.{IsMachine}
 use Rattle.fp_sound_components.specs.Sound.{AreSound}
 use Rattle.fp_sound_parts.specs.Machines.{AreSoundMachines}
@@ -58,7 +58,7 @@ module _ (source : Source) (m : Model) (d : Joined source m) (one : IsOne source
   constants_long : length (flat_map constants_of (items source)) ≡ length m.constants
   constants_long = as_long (IsConstant source) 0 (flat_map constants_of (items source)) m.constants d.constants
 
-  machines_long : length (flat_map machine_of (items source)) ≡ length m.machines
+  machines_long : length (flat_map machine_declared (items source)) ≡ length m.machines
   machines_long = as_long (IsMachine source) 0 (machines source) m.machines d.machines
 
   order_there : list_all (item_lies m) m.order ≡ true

@@ -17,7 +17,7 @@ use Rattle.fp_meaning.specs.Sites.{ModelDef, component, instance, machine, topol
 use Rattle.fp_meaning.specs.Values.{dotted}
 use Rattle.fp_type_forms.specs.Written.{types_of}
 use Rattle.fp_component_forms.specs.Written.{component_of, port_of}
-use Rattle.fp_source_components.specs.Machines.{machine_of}
+use Rattle.fp_source_components.specs.Machines.{machine_declared}
 use Rattle.fp_topology_forms.specs.Written.{instance_of, topology_of}
 
 -- the name behind those of the modules round it, with a dot between each two
@@ -52,7 +52,7 @@ order_in before _ = ordered.Kind (length (flat_map types_of before))
 
 abbrev pub order_declared : List Item → ModelDef → List Ordered
 order_declared before (component c) = ordered.Component (length (flat_map component_of before)) ∷ []
-order_declared before (machine d) = ordered.Machine (length (flat_map machine_of before)) ∷ []
+order_declared before (machine d) = ordered.Machine (length (flat_map machine_declared before)) ∷ []
 order_declared before (instance d) = ordered.Instance (length (flat_map instance_of before)) ∷ []
 order_declared before (topology d) = ordered.Topology (length (flat_map topology_of before)) ∷ []
 order_declared before _ = []

@@ -11,7 +11,7 @@ use Rattle.fp_meaning.specs.Names.{Path}
 use Rattle.fp_meaning.specs.Origins.{Placed, one, expressions_of}
 use Rattle.fp_meaning.specs.Sites.{in_optional, value_in}
 use Rattle.fp_meaning.specs.Values.{opened, Val}
-use Rattle.fp_model.specs.declared.constants.Found.{Found}
+use Rattle.fp_model.specs.declared.constants.ConstantsFound.{ConstantsFound}
 use Rattle.fp_model.specs.Definitions.{ConstantHere, constants_in, constants_of, qualified}
 use Rattle.fp_model.specs.Defined.{AreConstants}
 
@@ -34,22 +34,22 @@ module _ (source : Source) (values : List (Option Value)) where
   StandFrom (p ∷ ps) from = StandsAt p from × StandFrom ps (from + 1)
 
 -- with the constants of more items, and the place behind the values of their expressions
-pub record Adds (source : Source) (ps : List Placed) (hs : List ConstantHere) (before after : Found) : Type 0 where
+pub record Adds (source : Source) (ps : List Placed) (hs : List ConstantHere) (before after : ConstantsFound) : Type 0 where
   pub constants : (gs : List ConstantHere) → AreConstants source gs before.constants → AreConstants source (gs ++ hs) after.constants
   pub next : after.next ≡ before.next + length ps
 
 -- where these values stand from the place on
-abbrev pub AddsIf : List (Option Value) → List Placed → List ConstantHere → Found → Found → Type 0
+abbrev pub AddsIf : List (Option Value) → List Placed → List ConstantHere → ConstantsFound → ConstantsFound → Type 0
 AddsIf values ps hs before after = (source : Source) → StandFrom source values ps before.next → Adds source ps hs before after
 
-abbrev pub AddsItem : List (Option Value) → Item → Found → Found → Type 0
+abbrev pub AddsItem : List (Option Value) → Item → ConstantsFound → ConstantsFound → Type 0
 AddsItem values i = AddsIf values (expressions_of i) (constants_of i)
 
-abbrev pub AddsDefinition : List (Option Value) → Path → Def → Found → Found → Type 0
+abbrev pub AddsDefinition : List (Option Value) → Path → Def → ConstantsFound → ConstantsFound → Type 0
 AddsDefinition values scope d = AddsIf values (in_optional (one scope) (value_in d)) (constants_in scope d)
 
 -- past the value of an expression that may be left out
-abbrev pub Passes : List (Option Value) → Option Expr → Found → Found → Type 0
+abbrev pub Passes : List (Option Value) → Option Expr → ConstantsFound → ConstantsFound → Type 0
 Passes values o before after = (scope : Path) → AddsIf values (in_optional (one scope) o) [] before after
 
 -- past one value, where there is one

@@ -15,7 +15,7 @@ use std::alloc::Global;
 
 /// Constants, and the place of the value behind those of the items that were passed.
 #[derive(Drop)]
-pub struct Found {
+pub struct ConstantsFound {
     pub constants: Row<Constant>,
     pub next: usize,
 }
@@ -35,10 +35,10 @@ pub fn constants_among(
     Ok(found.constants)
 }
 
-fn nothing(alloc: Global) -> Found
+fn nothing(alloc: Global) -> ConstantsFound
     ensures { result ≡ record { constants = []; next = 0 } }
 {
-    Found {
+    ConstantsFound {
         constants: Row::new(alloc),
         next: 0,
     }
@@ -47,9 +47,9 @@ fn nothing(alloc: Global) -> Found
 fn with_item(
     alloc: Global,
     item: &Item,
-    before: Found,
+    before: ConstantsFound,
     values: &[Option<Value>],
-) -> Result<Found, NoMemory>
+) -> Result<ConstantsFound, NoMemory>
     ensures { IfOk result (AddsItem values.now item.now before) }
 {
     match item {
@@ -70,9 +70,9 @@ fn with_definition(
     alloc: Global,
     scope: &Row<Text>,
     definition: &Def,
-    before: Found,
+    before: ConstantsFound,
     values: &[Option<Value>],
-) -> Result<Found, NoMemory>
+) -> Result<ConstantsFound, NoMemory>
     ensures { IfOk result (AddsDefinition values.now scope.now definition.now before) }
 {
     match definition {
@@ -90,9 +90,9 @@ fn with_constant(
     alloc: Global,
     scope: &Row<Text>,
     constant: &Written,
-    before: Found,
+    before: ConstantsFound,
     values: &[Option<Value>],
-) -> Result<Found, NoMemory>
+) -> Result<ConstantsFound, NoMemory>
     ensures { IfOk result (AddsIf values.now (placed scope.now constant.now.value ∷ []) (constant_here scope.now constant.now ∷ []) before) }
 {
     let value = copy_at(alloc, values, before.next)?;
@@ -117,26 +117,30 @@ fn with_value(
     scope: &Row<Text>,
     constant: &Written,
     value: Value,
-    before: Found,
+    before: ConstantsFound,
     count: usize,
-) -> Result<Found, NoMemory>
+) -> Result<ConstantsFound, NoMemory>
     ensures constants { IfOk result (λ after. after.constants ≡ before.constants ++ constant_with scope.now constant.now value ∷ []) }
     ensures next { IfOk result (λ after. Counts count before.next after.next) }
 {
     let name = qualified(alloc, scope, &constant.name)?;
     let note = constant.note.copy(alloc)?;
-    let Found {
+    let ConstantsFound {
         mut constants,
         next,
     } = before;
     constants.push(Constant { name, value, note })?;
-    Ok(Found {
+    Ok(ConstantsFound {
         constants,
         next: following(next, count),
     })
 }
 
-fn past_optional(expression: Option<&Expr>, before: Found, values: &[Option<Value>]) -> Found
+fn past_optional(
+    expression: Option<&Expr>,
+    before: ConstantsFound,
+    values: &[Option<Value>],
+) -> ConstantsFound
     ensures { Passes values.now (option_copied expression.entry) before result }
 {
     match expression {
@@ -146,12 +150,12 @@ fn past_optional(expression: Option<&Expr>, before: Found, values: &[Option<Valu
 }
 
 /// Past the value of an expression.
-fn past(before: Found, values: &[Option<Value>]) -> Found
+fn past(before: ConstantsFound, values: &[Option<Value>]) -> ConstantsFound
     ensures constants { result.constants ≡ before.constants }
     ensures next { Counts (length values.now) before.next result.next }
 {
-    let Found { constants, next } = before;
-    Found {
+    let ConstantsFound { constants, next } = before;
+    ConstantsFound {
         constants,
         next: following(next, values.len()),
     }

@@ -18,7 +18,7 @@ use crate::naming::{names_of, uses_of};
 use crate::valuing::{Valued, values_of};
 use fp_base::{Refusal, Row, Stop, Value, lesser};
 use fp_meaning::Item;
-use fp_source_components::{Found, Parts, parts_of};
+use fp_source_components::{Parts, PartsFound, parts_of};
 use fp_source_machines::{machine_faults, machines_built};
 use fp_source_types::Measured;
 use fp_tables::{Machine, TypeDef};
@@ -57,7 +57,7 @@ pub fn settled_in(alloc: Global, source: &Source, items: &[Item]) -> Result<Sett
     } = valued;
     let at = values.as_slice();
     let found = parts_of(alloc, source, items, at, &measured, types.as_slice())?;
-    let Found { parts, running } = found;
+    let PartsFound { parts, running } = found;
     let resolutions = measured.resolutions.as_slice();
     let given = types.as_slice();
     let machines = machines_of(alloc, source, items, resolutions, at, given, running)?;

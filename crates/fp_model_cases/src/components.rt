@@ -1,9 +1,9 @@
 use crate::fault::{Fault, misread};
 use crate::json::{FromJson, at, expect_keys, option_at, rows, word_at};
-use fp_base::{Format, Piece, Row, Text};
+use fp_base::{Format, FormatPiece, Row, Text};
 use fp_tables::{
-    Channel, Command, Component, Event, Full, Limit, Param, Part, Port, Queueing, Role, Running,
-    Special, Way,
+    Channel, Command, CommandPart, Component, Event, Full, Limit, Param, Port, Queueing, Role,
+    Running, Special, Way,
 };
 use serde_json::Value as Json;
 use std::alloc::Global;
@@ -84,14 +84,14 @@ impl FromJson for Port {
 }
 
 /// What a command is for: the parameter that it sets or saves, where it does.
-fn part_at(alloc: Global, json: &Json) -> Result<Part, Fault> {
+fn part_at(alloc: Global, json: &Json) -> Result<CommandPart, Fault> {
     match (
         option_at(alloc, json, "sets")?,
         option_at(alloc, json, "saves")?,
     ) {
-        (Some(param), None) => Ok(Part::SetParam(param)),
-        (None, Some(param)) => Ok(Part::SaveParam(param)),
-        (None, None) => Ok(Part::Plain),
+        (Some(param), None) => Ok(CommandPart::SetParam(param)),
+        (None, Some(param)) => Ok(CommandPart::SaveParam(param)),
+        (None, None) => Ok(CommandPart::Plain),
         (Some(_), Some(_)) => Err(misread("sets and saves", "in one command")),
     }
 }
@@ -119,15 +119,15 @@ impl FromJson for Command {
     }
 }
 
-impl FromJson for Piece {
-    fn from_json(alloc: Global, json: &Json) -> Result<Piece, Fault> {
+impl FromJson for FormatPiece {
+    fn from_json(alloc: Global, json: &Json) -> Result<FormatPiece, Fault> {
         match json.as_str() {
-            Some("{}") => Ok(Piece::Any),
-            Some("{d}") => Ok(Piece::Dec),
-            Some("{x}") => Ok(Piece::Hex),
-            Some("{o}") => Ok(Piece::Oct),
-            Some("{c}") => Ok(Piece::Char),
-            Some(text) => Ok(Piece::Plain(Text::from_str(alloc, text)?)),
+            Some("{}") => Ok(FormatPiece::Any),
+            Some("{d}") => Ok(FormatPiece::Dec),
+            Some("{x}") => Ok(FormatPiece::Hex),
+            Some("{o}") => Ok(FormatPiece::Oct),
+            Some("{c}") => Ok(FormatPiece::Char),
+            Some(text) => Ok(FormatPiece::Plain(Text::from_str(alloc, text)?)),
             None => Err(misread("something else", "for a piece of a format")),
         }
     }

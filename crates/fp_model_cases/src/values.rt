@@ -1,6 +1,6 @@
 use crate::fault::{Fault, misread};
 use crate::json::{FromJson, at, expect_keys};
-use fp_base::{Part, Row, Text, Value};
+use fp_base::{MemberValue, Row, Text, Value};
 use fp_tables::Kind;
 use serde_json::Value as Json;
 use std::alloc::Global;
@@ -58,7 +58,7 @@ fn struct_of(parts: &Json, alloc: Global) -> Result<Value, Fault> {
 }
 
 #[cycle(value_of)]
-fn part_of(part: &Json, alloc: Global) -> Result<Part, Fault> {
+fn part_of(part: &Json, alloc: Global) -> Result<MemberValue, Fault> {
     let Json::Array(part) = part else {
         return Err(misread("no pair", "for a member"));
     };
@@ -66,7 +66,7 @@ fn part_of(part: &Json, alloc: Global) -> Result<Part, Fault> {
         [name, value] => {
             let name = Text::from_json(alloc, name)?;
             let value = value_of(value, alloc)?;
-            Ok(Part { name, value })
+            Ok(MemberValue { name, value })
         }
         _ => Err(misread("no pair", "for a member")),
     }

@@ -11,7 +11,7 @@ use Rattle.fp_numbering.specs.Ends.{written_number}
 use Rattle.fp_numbering.specs.Pairs.{said_of, first_of}
 use Rattle.fp_numbering.specs.Numbers.{Source, source_of, Numbered}
 use Rattle.fp_numbering.specs.Numbers.Source.{Said, Paired, Unpaired, Output, Input}
-use Rattle.fp_numbering.specs.Broken.{asks_here, IsBroken, IsTwice, FindsNone, Breaks}
+use Rattle.fp_numbering.specs.Broken.{asks_here, IsTipBroken, IsTwice, FindsNone, Breaks}
 use Rattle.fp_numbering.specs.Walks.{AreAllGiven}
 use Rattle.fp_numbering.specs.Faults.{begins_at, IsTwicePlainly, FindsNonePlainly}
 use Rattle.fp_numbering.specs.Matched.{BreaksByWalks}
@@ -156,7 +156,7 @@ module _ (matches : ℕ → List (ℕ × ℕ)) (ts : List Tip) (os : List Origin
   to_walks : (f : Refusal) → Breaks matches ts f → BreaksByWalks matches ts ss vs ms us ns f
   to_walks f h = go h.0 h.1 h.2 h.3
     where
-      go : (k : ℕ) (t : Tip) → slice_get ts k ≡ Some t → IsBroken matches ts k t f → BreaksByWalks matches ts ss vs ms us ns f
+      go : (k : ℕ) (t : Tip) → slice_get ts k ≡ Some t → IsTipBroken matches ts k t f → BreaksByWalks matches ts ss vs ms us ns f
       go k t at (inl b) = inl (k, t, at, b)
       go k t at (inr (inl b)) = inr (inl (k, said_tip (o_at k) t, are_said.of k t at, to_twice k t f at b))
       go k t at (inr (inr (inl b))) = inr (inr (inl (inl (k, t, at, b))))

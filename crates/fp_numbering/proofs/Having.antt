@@ -14,7 +14,7 @@ use Rattle.fp_numbering.specs.Ends.{written_number, number_below}
 use Rattle.fp_numbering.specs.Pairs.{has, are_alike, pairs, pair_of, is_whole, written_in, given_by, given, is_unwritten, first_of}
 use Rattle.fp_numbering.specs.Numbers.{Source, source_of, Has, Numbered}
 use Rattle.fp_numbering.specs.Numbers.Source.{Said, Paired, Unpaired, Output, Input}
-use Rattle.fp_numbering.specs.Broken.{asks_here, IsBroken, Breaks}
+use Rattle.fp_numbering.specs.Broken.{asks_here, IsTipBroken, Breaks}
 use Rattle.fp_numbering.specs.Keys.{linked}
 use Rattle.fp_numbering.specs.Origins.{no_tip, AreLanes}
 use Rattle.fp_numbering.proofs.Unique.{both_left, both_right}
@@ -39,7 +39,7 @@ order i j = grind arith
 
 module _ (matches : ℕ → List (ℕ × ℕ)) (ts : List Tip) (label : ℕ → ℕ → ℕ) (lanes : AreLanes matches ts label) (ns : List (Option ℕ)) (all : Numbered matches ts ns) (unbroken : IsUnbroken (Breaks matches ts))
     (first_has : (k : ℕ) (t : Tip) (g : List ℕ) → slice_get ts k ≡ Some t → slice_get ns k ≡ Some None → source_of matches ts t k ≡ Paired g → slice_get ns (first_of matches ts g) ≡ Some None) where
-  at_end : (k : ℕ) (t : Tip) (f : Refusal) → slice_get ts k ≡ Some t → IsBroken matches ts k t f → ⊥
+  at_end : (k : ℕ) (t : Tip) (f : Refusal) → slice_get ts k ≡ Some t → IsTipBroken matches ts k t f → ⊥
   at_end k t f at b = unbroken f (k, t, at, b)
 
   out_of_range : (k : ℕ) (t : Tip) (z : ℤ) → slice_get ts k ≡ Some t → written_number t ≡ Some z → number_below t.size z ≡ None → ⊥

@@ -52,8 +52,8 @@ module _ (matches : ℕ → List (ℕ × ℕ)) (ts : List Tip) where
   FindsNone k t f = (ns : List (Option ℕ)) × Numbered matches ts ns × (slice_get ns k ≡ Some None) × asks_here k (source_of matches ts t k) × (f ≡ broken_at NoNumberFree t.at)
 
   -- a rule that an end breaks
-  abbrev pub IsBroken : ℕ → Tip → Refusal → Type 0
-  IsBroken k t f = IsOutOfRange k t f ⊎ IsTwice k t f ⊎ IsMissing k t f ⊎ IsRepeated k t f ⊎ AreDifferent k t f ⊎ FindsNone k t f
+  abbrev pub IsTipBroken : ℕ → Tip → Refusal → Type 0
+  IsTipBroken k t f = IsOutOfRange k t f ⊎ IsTwice k t f ⊎ IsMissing k t f ⊎ IsRepeated k t f ⊎ AreDifferent k t f ⊎ FindsNone k t f
 
   abbrev pub Breaks : Refusal → Type 0
-  Breaks f = InSome IsBroken ts f
+  Breaks f = InSome IsTipBroken ts f

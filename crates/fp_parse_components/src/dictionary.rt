@@ -143,7 +143,7 @@ impl Make for OneLimit {
 }
 
 impl Element for OneLimit {
-    type Part = Made<OneLimit>;
+    type Bare = Made<OneLimit>;
 
     ghost with_note = { D.limit_with_note };
 

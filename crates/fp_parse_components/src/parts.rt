@@ -208,7 +208,7 @@ impl Piece for BarePart {
 }
 
 impl Element for BarePart {
-    type Part = BarePart;
+    type Bare = BarePart;
 
     ghost with_note = { N.part_with_note };
 
@@ -331,7 +331,7 @@ impl Piece for BareInterfacePart {
 }
 
 impl Element for BareInterfacePart {
-    type Part = BareInterfacePart;
+    type Bare = BareInterfacePart;
 
     ghost with_note = { N.interface_part_with_note };
 

@@ -14,7 +14,7 @@ use fp_parse_pieces::{
     After, AtWord, Behind, Either, Made, Make, Maybe, NodeOf, OneName, Parsed, Piece,
     QualifiedName, Seq,
 };
-use fp_parse_states::{RestOfBody, machine_of};
+use fp_parse_states::{RestOfBody, machine_read};
 use fp_tree::{Behavior, Name, Part, Qual, Running};
 use std::alloc::Global;
 
@@ -111,7 +111,7 @@ impl Make for WordsFirst {
         let (word, stated) = parts;
         match stated {
             Stated::Machine { name, behavior } => {
-                let machine = machine_of(alloc, word, name, behavior);
+                let machine = machine_read(alloc, word, name, behavior);
                 Ok(Part::Machine(Boxed::new(alloc, machine)?))
             }
             Stated::Running { name, of, queue } => {

@@ -43,7 +43,7 @@ impl Make for OneField {
 }
 
 impl Element for OneField {
-    type Part = Made<OneField>;
+    type Bare = Made<OneField>;
 
     ghost with_note = { D.field_with_note };
 
@@ -75,7 +75,7 @@ impl Make for OneConst {
 }
 
 impl Element for OneConst {
-    type Part = Made<OneConst>;
+    type Bare = Made<OneConst>;
 
     ghost with_note = { D.enum_const_with_note };
 
@@ -113,7 +113,7 @@ impl Make for OneFormal {
 }
 
 impl Element for OneFormal {
-    type Part = Made<OneFormal>;
+    type Bare = Made<OneFormal>;
 
     ghost with_note = { D.formal_with_note };
 

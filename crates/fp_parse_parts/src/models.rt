@@ -13,7 +13,7 @@ use fp_parse_components::{OneComponent, OneInterface};
 use fp_parse_pieces::{
     After, AtWord, Behind, Either, Made, Make, Maybe, NodeOf, OneName, Parsed, Piece, Seq,
 };
-use fp_parse_states::{RestOfBody, machine_of};
+use fp_parse_states::{RestOfBody, machine_read};
 use fp_parse_topologies::{OneInstance, OneTopology};
 use fp_tree::{Component, Instance, Interface, Machine, Topology};
 use std::alloc::Global;
@@ -32,7 +32,7 @@ impl Make for OneMachine {
 
     fn make(alloc: Global, parts: NodeOf<Self::Parts>) -> Result<Machine, NoMemory> {
         let (word, (name, behavior)) = parts;
-        Ok(machine_of(alloc, word, name, behavior))
+        Ok(machine_read(alloc, word, name, behavior))
     }
 }
 

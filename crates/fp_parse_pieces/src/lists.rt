@@ -15,11 +15,11 @@ use std::marker::PhantomData;
 
 /// What lists are made of: nodes that take an annotation.
 pub trait Element {
-    type Part: Piece;
+    type Bare: Piece;
 
-    ghost with_note: { Self.Part.Node → List ℕ → Self.Part.Node };
+    ghost with_note: { Self.Bare.Node → List ℕ → Self.Bare.Node };
 
-    fn with_note(node: <Self::Part as Piece>::Node, note: Text) -> <Self::Part as Piece>::Node
+    fn with_note(node: <Self::Bare as Piece>::Node, note: Text) -> <Self::Bare as Piece>::Node
         ensures { result ≡ with_note node note };
 }
 
@@ -29,9 +29,9 @@ pub struct AtLeastOne<E: Element, const MARK: u8> {
 }
 
 impl<E: Element, const MARK: u8> Piece for AtLeastOne<E, MARK> {
-    type Node = Row<<E::Part as Piece>::Node>;
+    type Node = Row<<E::Bare as Piece>::Node>;
 
-    ghost grammar = { λ depth. L.some_noted MARK E.with_note (E.Part.grammar depth) };
+    ghost grammar = { λ depth. L.some_noted MARK E.with_note (E.Bare.grammar depth) };
 
     fn read(alloc: Global, tokens: &[Token], from: usize, depth: u32) -> Parsed<Self::Node> {
         some_noted::<E>(alloc, tokens, from, depth, MARK)
@@ -44,9 +44,9 @@ pub struct Listed<E: Element, const MARK: u8> {
 }
 
 impl<E: Element, const MARK: u8> Piece for Listed<E, MARK> {
-    type Node = Row<<E::Part as Piece>::Node>;
+    type Node = Row<<E::Bare as Piece>::Node>;
 
-    ghost grammar = { λ depth. L.any_noted MARK E.with_note (E.Part.grammar depth) };
+    ghost grammar = { λ depth. L.any_noted MARK E.with_note (E.Bare.grammar depth) };
 
     fn read(alloc: Global, tokens: &[Token], from: usize, depth: u32) -> Parsed<Self::Node> {
         match some_noted::<E>(alloc, tokens, from, depth, MARK) {
@@ -64,10 +64,10 @@ impl<E: Element, const MARK: u8> Piece for Listed<E, MARK> {
 
 fn with_noted<E: Element>(
     alloc: Global,
-    row: Row<<E::Part as Piece>::Node>,
-    node: <E::Part as Piece>::Node,
+    row: Row<<E::Bare as Piece>::Node>,
+    node: <E::Bare as Piece>::Node,
     lines: Row<Text>,
-) -> Result<Row<<E::Part as Piece>::Node>, NoMemory>
+) -> Result<Row<<E::Bare as Piece>::Node>, NoMemory>
     ensures { IfOk result (λ longer. longer ≡ L.with_noted E.with_note row node lines) }
 {
     let note = join(alloc, lines.as_slice())?;
@@ -98,11 +98,11 @@ fn some_noted<E: Element>(
     from: usize,
     depth: u32,
     mark: u8,
-) -> Parsed<Row<<E::Part as Piece>::Node>>
-    ensures parses { FitsThroughout kind (L.some_noted mark E.with_note (E.Part.grammar depth)) → Parses kind (L.some_noted mark E.with_note (E.Part.grammar depth)) tokens.now from result }
+) -> Parsed<Row<<E::Bare as Piece>::Node>>
+    ensures parses { FitsThroughout kind (L.some_noted mark E.with_note (E.Bare.grammar depth)) → Parses kind (L.some_noted mark E.with_note (E.Bare.grammar depth)) tokens.now from result }
     ensures forward { IfOk result (λ p. from ≤ p.1) }
 {
-    let ((first, first_lines), start) = noted::<E::Part>(alloc, tokens, from, depth)?;
+    let ((first, first_lines), start) = noted::<E::Bare>(alloc, tokens, from, depth)?;
     let mut row = Row::new(alloc);
     let mut item = first;
     let mut lines = first_lines;
@@ -114,7 +114,7 @@ fn some_noted<E: Element>(
         let (more, to) = after_lines(alloc, tokens, at + 1)?;
         lines = appended(lines, more)?;
         row = with_noted::<E>(alloc, row, item, lines)?;
-        match noted::<E::Part>(alloc, tokens, to, depth) {
+        match noted::<E::Bare>(alloc, tokens, to, depth) {
             Err(halt) => {
                 return if halt == Halt::Unexpected(to) {
                     Ok((row, to))

@@ -12,4 +12,4 @@ mod transitions;
 
 pub use bodies::RestOfBody;
 pub use laws::{machine_or_break, one_machine, same_bodies, worked_rows};
-pub use machines::{machine_of, parse_machine};
+pub use machines::{machine_read, parse_machine};

@@ -22,7 +22,7 @@ fn closing_or(span: Span, behavior: &Option<Behavior>) -> Span
 }
 
 /// A machine of what was read of it, its first word standing there.
-pub fn machine_of(alloc: Global, word: Span, name: Name, behavior: Option<Behavior>) -> Machine
+pub fn machine_read(alloc: Global, word: Span, name: Name, behavior: Option<Behavior>) -> Machine
     ensures { result ≡ N.made_machine (word, (name, behavior)) }
 {
     let at = between(word, closing_or(name.at, &behavior));
@@ -50,7 +50,7 @@ impl Make for OneMachine {
 
     fn make(alloc: Global, parts: NodeOf<Self::Parts>) -> Result<Machine, NoMemory> {
         let (word, (name, behavior)) = parts;
-        Ok(machine_of(alloc, word, name, behavior))
+        Ok(machine_read(alloc, word, name, behavior))
     }
 }
 

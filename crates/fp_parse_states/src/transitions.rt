@@ -40,7 +40,7 @@ impl Piece for OneAction {
 }
 
 impl Element for OneAction {
-    type Part = OneAction;
+    type Bare = OneAction;
 
     ghost with_note = { T.action_with_note };
 

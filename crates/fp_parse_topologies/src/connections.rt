@@ -83,7 +83,7 @@ impl Make for OneConnection {
 }
 
 impl Element for OneConnection {
-    type Part = Made<OneConnection>;
+    type Bare = Made<OneConnection>;
 
     ghost with_note = { C.connection_with_note };
 

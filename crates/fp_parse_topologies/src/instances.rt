@@ -37,7 +37,7 @@ impl Make for OnePhase {
 }
 
 impl Element for OnePhase {
-    type Part = Made<OnePhase>;
+    type Bare = Made<OnePhase>;
 
     ghost with_note = { I.phase_with_note };
 

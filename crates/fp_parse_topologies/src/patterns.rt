@@ -99,7 +99,7 @@ impl Piece for OneTarget {
 }
 
 impl Element for OneTarget {
-    type Part = OneTarget;
+    type Bare = OneTarget;
 
     ghost with_note = { C.target_with_note };
 

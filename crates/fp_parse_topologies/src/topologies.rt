@@ -183,7 +183,7 @@ impl Piece for OneMember {
 }
 
 impl Element for OneMember {
-    type Part = OneMember;
+    type Bare = OneMember;
 
     ghost with_note = { T.member_with_note };
 

@@ -31,25 +31,25 @@ enum Way {
 
 /// What is measured: a whole run, or what comes behind its rounds.
 #[derive(Clone, Copy, PartialEq, Eq)]
-enum Part {
+enum Timed {
     Run(Way),
     Conclude,
     Log,
 }
 
-const PARTS: [Part; 6] = [
-    Part::Run(Way::OnThreads),
-    Part::Run(Way::Alone),
-    Part::Run(Way::Plain(Waiting::Sleeps)),
-    Part::Run(Way::Plain(Waiting::Yields)),
-    Part::Conclude,
-    Part::Log,
+const PARTS: [Timed; 6] = [
+    Timed::Run(Way::OnThreads),
+    Timed::Run(Way::Alone),
+    Timed::Run(Way::Plain(Waiting::Sleeps)),
+    Timed::Run(Way::Plain(Waiting::Yields)),
+    Timed::Conclude,
+    Timed::Log,
 ];
 
 /// How many microseconds a part took.
 #[derive(Clone, Copy)]
 struct Taken {
-    part: Part,
+    part: Timed,
     time: u128,
 }
 
@@ -97,7 +97,7 @@ fn time_run<R: Threads + Wait + Clock + Sync>(
 fn time_part<R: Threads + Wait + Clock + Sync>(
     rt: &R,
     alloc: Global,
-    part: Part,
+    part: Timed,
     chain: Chain,
     tables: &Tables,
     program: &Program,
@@ -107,9 +107,9 @@ fn time_part<R: Threads + Wait + Clock + Sync>(
     requires actors { 0 < actors_of tables.now program.now }
 {
     match part {
-        Part::Run(way) => time_run(rt, alloc, way, chain, tables, program),
-        Part::Conclude => time_conclude(rt, alloc, tables, program),
-        Part::Log => time_log(rt, alloc, tables, program),
+        Timed::Run(way) => time_run(rt, alloc, way, chain, tables, program),
+        Timed::Conclude => time_conclude(rt, alloc, tables, program),
+        Timed::Log => time_log(rt, alloc, tables, program),
     }
 }
 
@@ -135,7 +135,7 @@ fn take_rounds<R: Threads + Wait + Clock + Sync>(
     Ok(taken)
 }
 
-fn times_of(alloc: Global, taken: &[Taken], part: Part) -> Result<Times, AllocError> {
+fn times_of(alloc: Global, taken: &[Taken], part: Timed) -> Result<Times, AllocError> {
     let mut times = Vec::new(alloc);
     for each in taken {
         if each.part == part {
@@ -177,10 +177,10 @@ fn tell_beside<R: Print>(
 }
 
 fn tell_all<R: Print>(rt: &R, alloc: Global, taken: &[Taken]) -> io::Result<()> {
-    let on_threads = times_of(alloc, taken, Part::Run(Way::OnThreads))?;
-    let alone = times_of(alloc, taken, Part::Run(Way::Alone))?;
-    let sleeps = times_of(alloc, taken, Part::Run(Way::Plain(Waiting::Sleeps)))?;
-    let yields = times_of(alloc, taken, Part::Run(Way::Plain(Waiting::Yields)))?;
+    let on_threads = times_of(alloc, taken, Timed::Run(Way::OnThreads))?;
+    let alone = times_of(alloc, taken, Timed::Run(Way::Alone))?;
+    let sleeps = times_of(alloc, taken, Timed::Run(Way::Plain(Waiting::Sleeps)))?;
+    let yields = times_of(alloc, taken, Timed::Run(Way::Plain(Waiting::Yields)))?;
     tell(rt, "run on threads", on_threads)?;
     tell_beside(rt, "run on one thread", alone, on_threads, u128::MAX)?;
     tell_beside(
@@ -197,8 +197,8 @@ fn tell_all<R: Print>(rt: &R, alloc: Global, taken: &[Taken]) -> io::Result<()> 
         on_threads,
         MOST,
     )?;
-    tell(rt, "conclude", times_of(alloc, taken, Part::Conclude)?)?;
-    tell(rt, "log", times_of(alloc, taken, Part::Log)?)
+    tell(rt, "conclude", times_of(alloc, taken, Timed::Conclude)?)?;
+    tell(rt, "log", times_of(alloc, taken, Timed::Log)?)
 }
 
 /// Measures the whole run of a chain on threads beside one on one thread and plain programs, and what comes behind its rounds.

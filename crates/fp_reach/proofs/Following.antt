@@ -16,7 +16,7 @@ use Rattle.fp_reach.specs.declared.vertex.Vertex.TheVariants.{Handler, Action, L
 use Rattle.fp_reach.specs.Nodes.{leads, guards, led, taken, opens, sends}
 use Rattle.fp_reach.specs.Reaching.{Among, Reaches, once, again, Comes}
 use Rattle.fp_reach.specs.Vertices.{counts}
-use Rattle.fp_reach.specs.Cycles.{Leads, arriving, dispatching, Acts, Edge, of_action, of_sending, Takes, action_takes, sending_takes, Holds, holds, HasNoCycle, IsOnCycle, IsOnLockCycle, TakesAlong, itself, through}
+use Rattle.fp_reach.specs.Cycles.{ActLeads, arriving, dispatching, Acts, Edge, of_action, of_sending, Takes, action_takes, sending_takes, Holds, holds, HasNoCycle, IsOnCycle, IsOnLockCycle, TakesAlong, itself, through}
 use Rattle.fp_reach.proofs.Amid.{reaches_join, comes_join, join_comes, comes_comes, first_step, last_step}
 use Rattle.fp_reach.proofs.Vertices.{Goes, to_action, by_action, taken_by_action, by_sending, taken_by_sending, opened}
 use Rattle.fp_reach.proofs.Ways.{IsAt, dispatch_takes, turn_taken, own_turn, sends_at, guards_no_turn}
@@ -107,7 +107,7 @@ module _ (t : Described) (program : Program) where
     opened_at i v (standing n here) e = opened n here e refl
     opened_at i v implied e = absurd (cc)
 
-    act_leads : {n k : ℕ} {h : Handled} {a : Act} {v : Node} → Acts t program n k h a → Leads t h.instance a v → Lives v → Reaches G (Action n k) (Handler v)
+    act_leads : {n k : ℕ} {h : Handled} {a : Act} {v : Node} → Acts t program n k h a → ActLeads t h.instance a v → Lives v → Reaches G (Action n k) (Handler v)
     act_leads acts (arriving e) l = once (by_action acts e)
     act_leads {h = h} {a = a} acts (dispatching {place = place} d e) l =
         again (taken_by_action acts (dispatch_takes t h.instance a d) refl) (once (opened_at h.instance (At h.instance place) l e))
@@ -128,7 +128,7 @@ module _ (t : Described) (program : Program) where
     abbrev pub IsRound : Type 0
     IsRound = (n k : ℕ) × Reaches G (Action n k) (Action n k)
 
-    act_round : {n k : ℕ} {h : Handled} {a : Act} {v : Node} → Acts t program n k h a → Leads t h.instance a v → Comes E v (At h.instance h.place) → IsRound
+    act_round : {n k : ℕ} {h : Handled} {a : Act} {v : Node} → Acts t program n k h a → ActLeads t h.instance a v → Comes E v (At h.instance h.place) → IsRound
     act_round {n = n} {k = k} acts (arriving e) p =
         let l = standing n acts.handler in
         (n, k, again (by_action acts e) (comes_join (comes_goes p (ready (of_action acts (arriving e))) l) (once (to_action acts))))
@@ -213,7 +213,7 @@ module _ (t : Described) (program : Program) where
 
     -- where what is left of the cycle goes through handlers alone
     abbrev LeadsBack : Handled → Act → Type 0
-    LeadsBack g b = (w : Node) × Leads t g.instance b w × Comes E w here
+    LeadsBack g b = (w : Node) × ActLeads t g.instance b w × Comes E w here
 
     abbrev Back : Vertex → Type 0
     Back (Handler v) = Comes E v here

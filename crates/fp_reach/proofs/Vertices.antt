@@ -32,32 +32,32 @@ module _ (t : Described) (program : Program) (b : Bool) where
 
 -- ---- all that the list has
 
-abbrev Each : (Vertex → Vertex → Type 0) → List (Vertex × Vertex) → Type 0
-Each P = AllByRecursion (λ (e : Vertex × Vertex). P e.0 e.1)
+abbrev EachEdge : (Vertex → Vertex → Type 0) → List (Vertex × Vertex) → Type 0
+EachEdge P = AllByRecursion (λ (e : Vertex × Vertex). P e.0 e.1)
 
 module _ (P : Vertex → Vertex → Type 0) where
-  each_among : (xs : List (Vertex × Vertex)) (x y : Vertex) → Each P xs → Among xs (x, y) → P x y
+  each_among : (xs : List (Vertex × Vertex)) (x y : Vertex) → EachEdge P xs → Among xs (x, y) → P x y
   each_among [] x y h k = absurd k
   each_among (e ∷ xs) x y h (inl is) = subst (λ (w : Vertex × Vertex). P w.0 w.1) is h.0
   each_among (e ∷ xs) x y h (inr k) = each_among xs x y h.1 k
 
-  each_leading : (from : Vertex) (o : Option Node) → ((v : Node) → o ≡ Some v → P from (Handler v)) → Each P (leading from o)
+  each_leading : (from : Vertex) (o : Option Node) → ((v : Node) → o ≡ Some v → P from (Handler v)) → EachEdge P (leading from o)
   each_leading from None h = tt
   each_leading from (Some v) h = (h v refl, tt)
 
-  one_if : (x y : Vertex) (c : Bool) → (c ≡ true → P x y) → Each P (cond c ((x, y) ∷ []) [])
+  one_if : (x y : Vertex) (c : Bool) → (c ≡ true → P x y) → EachEdge P (cond c ((x, y) ∷ []) [])
   one_if x y true h = (h refl, tt)
   one_if x y false h = tt
 
-  each_taking : (b : Bool) (from : Vertex) (o : Option Held) → ((m : Held) → o ≡ Some m → counts b m ≡ true → P from (Lock m)) → Each P (taking b from o)
+  each_taking : (b : Bool) (from : Vertex) (o : Option Held) → ((m : Held) → o ≡ Some m → counts b m ≡ true → P from (Lock m)) → EachEdge P (taking b from o)
   each_taking b from None h = tt
   each_taking b from (Some m) h = one_if from (Lock m) (counts b m) (h m refl)
 
-  each_opening : (b : Bool) (u : Node) (o : Option Held) → ((m : Held) → o ≡ Some m → counts b m ≡ true → P (Lock m) (Handler u)) → Each P (opening b u o)
+  each_opening : (b : Bool) (u : Node) (o : Option Held) → ((m : Held) → o ≡ Some m → counts b m ≡ true → P (Lock m) (Handler u)) → EachEdge P (opening b u o)
   each_opening b u None h = tt
   each_opening b u (Some m) h = one_if (Lock m) (Handler u) (counts b m) (h m refl)
 
-  each_of : {X : Type 0} (f : X → List (Vertex × Vertex)) (xs : List X) → ((x : X) → Among xs x → Each P (f x)) → Each P (flat_map f xs)
+  each_of : {X : Type 0} (f : X → List (Vertex × Vertex)) (xs : List X) → ((x : X) → Among xs x → EachEdge P (f x)) → EachEdge P (flat_map f xs)
   each_of f [] h = tt
   each_of f (x ∷ xs) h = each_append (λ (e : Vertex × Vertex). P e.0 e.1) (f x) (flat_map f xs) (h x (inl refl)) (each_of f xs (λ y k. h y (inr k)))
 
@@ -65,7 +65,7 @@ module _ (t : Described) (program : Program) (b : Bool) where
   abbrev Stands : Vertex → Vertex → Type 0
   Stands = Goes t program b
 
-  each_sending : {n k i c : ℕ} {h : Handled} {a : Act} → Acts t program n k h a → led t h.instance a ≡ Some (Implied i c) → Each Stands (flat_map (sending t b (Implied i c)) (sends t i c))
+  each_sending : {n k i c : ℕ} {h : Handled} {a : Act} → Acts t program n k h a → led t h.instance a ≡ Some (Implied i c) → EachEdge Stands (flat_map (sending t b (Implied i c)) (sends t i c))
   each_sending {i = i} {c = c} acts is =
       each_of Stands (sending t b (Implied i c)) (sends t i c)
       (λ x among.
@@ -73,12 +73,12 @@ module _ (t : Described) (program : Program) (b : Bool) where
       (each_leading Stands (Handler (Implied i c)) (leads t x) (λ v e. by_sending x acts is among e))
       (each_taking Stands b (Handler (Implied i c)) (guards t x) (λ m e counted. taken_by_sending x acts is among e counted)))
 
-  each_going_on : {n k : ℕ} {h : Handled} {a : Act} → Acts t program n k h a → (o : Option Node) → led t h.instance a ≡ o → Each Stands (going_on t b o)
+  each_going_on : {n k : ℕ} {h : Handled} {a : Act} → Acts t program n k h a → (o : Option Node) → led t h.instance a ≡ o → EachEdge Stands (going_on t b o)
   each_going_on acts None is = tt
   each_going_on acts (Some (At i place)) is = tt
   each_going_on acts (Some (Implied i c)) is = each_sending acts is
 
-  each_of_act : {n k : ℕ} {h : Handled} {a : Act} → Acts t program n k h a → Each Stands (of_act t b n h k a)
+  each_of_act : {n k : ℕ} {h : Handled} {a : Act} → Acts t program n k h a → EachEdge Stands (of_act t b n h k a)
   each_of_act {n = n} {k = k} {h = h} {a = a} acts =
       let P : Vertex × Vertex → Type 0 = λ e. Stands e.0 e.1 in (
         to_action acts,
@@ -90,20 +90,20 @@ module _ (t : Described) (program : Program) (b : Bool) where
       )
 
   each_acts : (n : ℕ) (h : Handled) → slice_get program.handlers n ≡ Some h → (k : ℕ) (rest : List Act) → ((j : ℕ) (a : Act) → slice_get rest j ≡ Some a → slice_get h.acts (k + j) ≡ Some a)
-      → Each Stands (acts_from t b n h k rest)
+      → EachEdge Stands (acts_from t b n h k rest)
   each_acts n h here k [] at = tt
   each_acts n h here k (a ∷ rest) at =
       let first : slice_get h.acts k ≡ Some a = let z : k + 0 ≡ k = omega arith in subst (λ (j : ℕ). slice_get h.acts j ≡ Some a) z (at 0 a refl) in
       each_append (λ (e : Vertex × Vertex). Stands e.0 e.1) (of_act t b n h k a) (acts_from t b n h (suc k) rest) (each_of_act (record { handler = here; action = first }))
       (each_acts n h here (suc k) rest (λ j x e. let same : k + suc j ≡ suc k + j = omega arith in subst (λ (m : ℕ). slice_get h.acts m ≡ Some x) same (at (suc j) x e)))
 
-  each_handler : (n : ℕ) (h : Handled) → slice_get program.handlers n ≡ Some h → Each Stands (of_handler t b n h)
+  each_handler : (n : ℕ) (h : Handled) → slice_get program.handlers n ≡ Some h → EachEdge Stands (of_handler t b n h)
   each_handler n h here =
       each_append (λ (e : Vertex × Vertex). Stands e.0 e.1) (opening b (At h.instance h.place) (opens t h.instance h.place)) (acts_from t b n h 0 h.acts)
       (each_opening Stands b (At h.instance h.place) (opens t h.instance h.place) (λ m e counted. opened n here e counted))
       (each_acts n h here 0 h.acts (λ j a e. let z : j ≡ 0 + j = omega arith in subst (λ (m : ℕ). slice_get h.acts m ≡ Some a) z e))
 
-  each_handlers : (n : ℕ) (hs : List Handled) → ((j : ℕ) (h : Handled) → slice_get hs j ≡ Some h → slice_get program.handlers (n + j) ≡ Some h) → Each Stands (handlers_from t b n hs)
+  each_handlers : (n : ℕ) (hs : List Handled) → ((j : ℕ) (h : Handled) → slice_get hs j ≡ Some h → slice_get program.handlers (n + j) ≡ Some h) → EachEdge Stands (handlers_from t b n hs)
   each_handlers n [] at = tt
   each_handlers n (h ∷ hs) at =
       let first : slice_get program.handlers n ≡ Some h = let z : n + 0 ≡ n = omega arith in subst (λ (j : ℕ). slice_get program.handlers j ≡ Some h) z (at 0 h refl) in

@@ -9,8 +9,8 @@ use Rattle.fp_tables.specs.Specials.{special_wire}
 use Rattle.fp_tables.specs.declared.component.Full.TheVariants.{Assert, Block, Dropped, Hook}
 use Rattle.fp_tables.specs.declared.component.Way.{Way}
 use Rattle.fp_tables.specs.declared.component.Way.TheVariants.{Later, Sync, Guarded}
-use Rattle.fp_tables.specs.declared.component.Part.{Part}
-use Rattle.fp_tables.specs.declared.component.Part.TheVariants.{Plain, SetParam, SaveParam}
+use Rattle.fp_tables.specs.declared.component.CommandPart.{CommandPart}
+use Rattle.fp_tables.specs.declared.component.CommandPart.TheVariants.{Plain, SetParam, SaveParam}
 use Rattle.fp_tables.specs.declared.component.Command.{Command}
 use Rattle.fp_tables.specs.declared.component.Special.{Special}
 use Rattle.fp_tables.specs.declared.component.Special.TheVariants as special
@@ -67,7 +67,7 @@ module _ (t : Described) where
   sent_at i s x h =
       let m = mapped_some (λ (w : End × End). at_end w.1) (special_wire t i s) x (option_among (sent t i s) x h) in (m.0.1, m.2)
 
-  sent_for_at : (i : ℕ) (part : Option Part) (x : Arrival) → Among (sent_for t i part) x → (e : End) × (at_end e ≡ x)
+  sent_for_at : (i : ℕ) (part : Option CommandPart) (x : Arrival) → Among (sent_for t i part) x → (e : End) × (at_end e ≡ x)
   sent_for_at i (Some (SetParam k)) x h = sent_at i special.CmdResp x h
   sent_for_at i (Some (SaveParam k)) x h =
       either (among_either (option_to_list (sent t i special.PrmSet)) (option_to_list (sent t i special.CmdResp)) x h)

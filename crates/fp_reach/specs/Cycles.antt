@@ -18,9 +18,9 @@ use Rattle.fp_reach.specs.Reaching.{Among, Reaches, Comes}
 
 module _ (t : Described) where
   -- the handlers to which an action of a handler of the instance leads: that of what arrives, and by `dispatch` each asynchronous one
-  pub data Leads (i : ℕ) (a : Act) : Node → Type 0 where
-    arriving : {v : Node} → led t i a ≡ Some v → Leads i a v
-    dispatching : {place : Spot} → a.verb ≡ verb.Dispatch → opens t i place ≡ Some (Turn i) → Leads i a (At i place)
+  pub data ActLeads (i : ℕ) (a : Act) : Node → Type 0 where
+    arriving : {v : Node} → led t i a ≡ Some v → ActLeads i a v
+    dispatching : {place : Spot} → a.verb ≡ verb.Dispatch → opens t i place ≡ Some (Turn i) → ActLeads i a (At i place)
 
   module _ (program : Program) where
     -- the handler of the program with a position has an action at another one
@@ -32,7 +32,7 @@ module _ (t : Described) where
 
     -- what a handler's actions lead to, and a set or save command's sends
     pub data Edge : Node → Node → Type 0 where
-      of_action : {n k : ℕ} {h : Handler} {a : Act} {v : Node} → Acts n k h a → Leads h.instance a v → Edge (At h.instance h.place) v
+      of_action : {n k : ℕ} {h : Handler} {a : Act} {v : Node} → Acts n k h a → ActLeads h.instance a v → Edge (At h.instance h.place) v
       of_sending : {i n : ℕ} {v : Node} (x : Arrival) → Among (sends t i n) x → leads t x ≡ Some v → Edge (Implied i n) v
 
     -- no handler leads to itself, perhaps through others
@@ -41,7 +41,7 @@ module _ (t : Described) where
 
     -- an action leads on along a cycle
     abbrev pub IsOnCycle : Handler → Act → Type 0
-    IsOnCycle h a = (v : Node) × Leads h.instance a v × Comes Edge v (At h.instance h.place)
+    IsOnCycle h a = (v : Node) × ActLeads h.instance a v × Comes Edge v (At h.instance h.place)
 
     -- ---- guards and turns
 
@@ -60,7 +60,7 @@ module _ (t : Described) where
     -- what an action takes itself or through what it leads to
     pub data TakesAlong (i : ℕ) (a : Act) (m : Lock) : Type 0 where
       itself : taken t i a ≡ Some m → TakesAlong i a m
-      through : {v w : Node} → Leads i a v → Comes Edge v w → Takes w m → TakesAlong i a m
+      through : {v w : Node} → ActLeads i a v → Comes Edge v w → Takes w m → TakesAlong i a m
 
     -- an action is reached from what opens with one of the cycle held, and goes on to take the next
     pub record IsOnLockCycle (h : Handler) (a : Act) : Type 0 where

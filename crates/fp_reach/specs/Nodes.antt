@@ -7,8 +7,8 @@ use Rattle.fp_tables.specs.Specials.{special_wire}
 use Rattle.fp_tables.specs.declared.component.Full.TheVariants.{Hook}
 use Rattle.fp_tables.specs.declared.component.Way.{Way}
 use Rattle.fp_tables.specs.declared.component.Way.TheVariants.{Later, Sync, Guarded}
-use Rattle.fp_tables.specs.declared.component.Part.{Part}
-use Rattle.fp_tables.specs.declared.component.Part.TheVariants.{Plain, SetParam, SaveParam}
+use Rattle.fp_tables.specs.declared.component.CommandPart.{CommandPart}
+use Rattle.fp_tables.specs.declared.component.CommandPart.TheVariants.{Plain, SetParam, SaveParam}
 use Rattle.fp_tables.specs.declared.component.Special.{Special}
 use Rattle.fp_tables.specs.declared.component.Special.TheVariants as special
 use Rattle.fp_tables.specs.declared.component.Command.{Command as Described_command}
@@ -53,7 +53,7 @@ held i Sync = None
 abbrev pub led_by_command : ℕ → ℕ → Described_command → Option Node
 led_by_command i n c = of_part c.part
   where
-    of_part : Part → Option Node
+    of_part : CommandPart → Option Node
     of_part Plain = handled c.way (At i (spot.Command n)) (At i (spot.HookCommand n))
     of_part part = Some (Implied i n)
 
@@ -99,7 +99,7 @@ module _ (t : Described) where
   opens i place = None
 
   -- where what a set or a save command sends arrives: the response, and before it the call that saves
-  abbrev pub sent_for : ℕ → Option Part → List Arrival
+  abbrev pub sent_for : ℕ → Option CommandPart → List Arrival
   sent_for i (Some (SetParam k)) = option_to_list (sent i special.CmdResp)
   sent_for i (Some (SaveParam k)) = option_to_list (sent i special.PrmSet) ++ option_to_list (sent i special.CmdResp)
   sent_for i _ = []

@@ -8,7 +8,7 @@ use crate::leading::{guards, leads, led, opens, sent, taken};
 use crate::node::{Arrival, Lock, Node};
 use crate::vertex::Vertex;
 use fp_base::{NoMemory, Row};
-use fp_tables::{Act, Handler, Part, Special, Tables};
+use fp_tables::{Act, CommandPart, Handler, Special, Tables};
 use std::alloc::Global;
 
 fn counts(with_guards: bool, lock: Lock) -> bool
@@ -92,7 +92,7 @@ fn push_arrival(
     push_lock(edges, with_guards, from, lock)
 }
 
-fn part_of(tables: &Tables, instance: u32, command: u32) -> Option<Part>
+fn part_of(tables: &Tables, instance: u32, command: u32) -> Option<CommandPart>
     ensures { result ≡ option_map (λ c. c.part) (command_of tables.now instance command) }
 {
     Some(tables.command(instance, command)?.part)
@@ -110,17 +110,17 @@ fn push_implied(
 {
     let node = Node::Implied { instance, command };
     match part_of(tables, instance, command) {
-        Some(Part::SetParam(_)) => {
+        Some(CommandPart::SetParam(_)) => {
             let response = sent(tables, instance, Special::CmdResp);
             push_arrival(edges, tables, with_guards, node, response)
         }
-        Some(Part::SaveParam(_)) => {
+        Some(CommandPart::SaveParam(_)) => {
             let saved = sent(tables, instance, Special::PrmSet);
             push_arrival(edges, tables, with_guards, node, saved)?;
             let answered = sent(tables, instance, Special::CmdResp);
             push_arrival(edges, tables, with_guards, node, answered)
         }
-        Some(Part::Plain) => Ok(()),
+        Some(CommandPart::Plain) => Ok(()),
         None => Ok(()),
     }
 }

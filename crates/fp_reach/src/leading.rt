@@ -7,7 +7,7 @@ ghost use Rattle.fp_reach.specs.declared.node.Arrival.TheVariants as arrives;
 ghost use Rattle.fp_reach.specs.Nodes.{at_end as end_of, handled, hooked, guarded, held, sent, arrival_of, led_by_command, leads, guards, opens, led, taken};
 
 use crate::node::{Arrival, Lock, Node};
-use fp_tables::{Act, Command, End, Full, Part, Role, Special, Spot, Tables, Verb, Way};
+use fp_tables::{Act, Command, CommandPart, End, Full, Role, Special, Spot, Tables, Verb, Way};
 
 fn way_in(role: Role) -> Option<Way>
     ensures { result ≡ way_in role }
@@ -26,13 +26,13 @@ fn port_way(tables: &Tables, instance: u32, port: u32) -> Option<Way>
     way_in(tables.port(instance, port)?.role)
 }
 
-fn way_written(way: Way, part: Part) -> Option<Way>
+fn way_written(way: Way, part: CommandPart) -> Option<Way>
     ensures { result ≡ way_written way part }
 {
     match part {
-        Part::Plain => Some(way),
-        Part::SetParam(_) => None,
-        Part::SaveParam(_) => None,
+        CommandPart::Plain => Some(way),
+        CommandPart::SetParam(_) => None,
+        CommandPart::SaveParam(_) => None,
     }
 }
 
@@ -173,7 +173,7 @@ fn led_by_command(instance: u32, number: u32, command: &Command) -> Option<Node>
     ensures { result ≡ led_by_command instance number command.now }
 {
     match command.part {
-        Part::Plain => handled(
+        CommandPart::Plain => handled(
             command.way,
             Node::At {
                 instance,
@@ -184,11 +184,11 @@ fn led_by_command(instance: u32, number: u32, command: &Command) -> Option<Node>
                 place: Spot::HookCommand(number),
             },
         ),
-        Part::SetParam(_) => Some(Node::Implied {
+        CommandPart::SetParam(_) => Some(Node::Implied {
             instance,
             command: number,
         }),
-        Part::SaveParam(_) => Some(Node::Implied {
+        CommandPart::SaveParam(_) => Some(Node::Implied {
             instance,
             command: number,
         }),

@@ -9,7 +9,7 @@ use Rattle.fp_base.specs.declared.rule.Rule.{Rule}
 use Rattle.fp_base.specs.declared.rule.Rule.TheVariants.{UnknownKey, WrongKindOfValue, MissingKey, PastSize}
 use Rattle.fp_scenario.specs.Keys.{first_of, wants_object, needed, wanted_at, wanted_of_items}
 use Rattle.fp_scenario.specs.Kinds.{is_of_kind, is_of_size}
-use Rattle.fp_scenario.specs.Broken.{Part, itself, in_member, in_item, Flaw, Breaks, below}
+use Rattle.fp_scenario.specs.Broken.{PartOf, itself, in_member, in_item, Flaw, Breaks, below}
 use Rattle.fp_scenario.specs.Checked.{IsSound, ItemsAreSound, MembersAreSound, Stops, StopsBelow, IsFault}
 use Rattle.fp_scenario.specs.declared.scenario.ScenarioStop.{ScenarioStop}
 use Rattle.fp_scenario.specs.declared.scenario.ScenarioStop.TheVariants.{Broken, NoMemory}
@@ -98,10 +98,10 @@ no_flaw MissingKey w d path well flaw = true≢false (sym (well.has_needed flaw.
 no_flaw PastSize w d path well flaw = true≢false (sym well.size ∙ flaw.2)
 no_flaw _ w d path well flaw = flaw
 
-part_sound : (v : Wanted) (x : Data) (path : List ℕ) (u : Wanted) (y : Data) (rule : Rule) (after : List ℕ) → IsSound v x → Part v x path u y → Flaw rule u y after → ⊥
+part_sound : (v : Wanted) (x : Data) (path : List ℕ) (u : Wanted) (y : Data) (rule : Rule) (after : List ℕ) → IsSound v x → PartOf v x path u y → Flaw rule u y after → ⊥
 part_sound v x path u y rule after sound part flaw = sound rule (path ++ after) (record { part_wanted = u; part = y; before = path; after = after; stands = part; flaw = flaw; joined = refl })
 
-none_in : {w u : Wanted} {d y : Data} {path : List ℕ} (rule : Rule) (after : List ℕ) → WellFormed w d → ItemsAreSound w d → Part w d path u y → Flaw rule u y after → ⊥
+none_in : {w u : Wanted} {d y : Data} {path : List ℕ} (rule : Rule) (after : List ℕ) → WellFormed w d → ItemsAreSound w d → PartOf w d path u y → Flaw rule u y after → ⊥
 none_in rule after well each (itself is) flaw = no_flaw rule _ _ after well flaw
 none_in {w} {u} {d} {y} rule after well each (in_member k x v found wants part is) flaw =
     let known = well.members k x found (object_at_key w d k v wants) in

@@ -13,7 +13,7 @@ use Rattle.fp_base.specs.declared.rule.Rule.TheVariants.{WrongKindOfValue, Missi
 use Rattle.fp_scenario.specs.Keys.{wanted_at, wanted_of_items, needed, first_of}
 use Rattle.fp_scenario.specs.Kinds.{list_of, items, natural, within, is_of_kind, is_of_size}
 use Rattle.fp_scenario.specs.Checked.{IsSound, AllSound}
-use Rattle.fp_scenario.specs.Spelled.{Each, items_at, number_at}
+use Rattle.fp_scenario.specs.Spelled.{EachSpelled, items_at, number_at}
 use Rattle.fp_scenario.specs.declared.wanted.Wanted.{Wanted}
 use Rattle.fp_scenario.specs.declared.wanted.Wanted.TheVariants.{Scenario, Steps}
 use Rattle.fp_scenario.proofs.Breaking.{breaks_here, breaks_in_member, breaks_in_item}
@@ -64,17 +64,17 @@ mapped_at (v ∷ vs) (suc i) x within = mapped_at vs i x (omega arith)
 pub sound_at : (w : Wanted) (vs : List Value) (i : ℕ) (x y : Value) → AllSound w (map view vs) → i < length vs → x ≡ get_or vs i y → IsSound w (view x)
 sound_at w vs i x y all within is = all i (view x) (mapped_at vs i y within ∙ ap (λ v. Some (view v)) (sym is))
 
-each_snoc : {A : Type 0} (P : Data → A → Type 0) (ds : List Data) (as_ : List A) (d : Data) (a : A) → Each P ds as_ → P d a → Each P (ds ++ d ∷ []) (as_ ++ a ∷ [])
+each_snoc : {A : Type 0} (P : Data → A → Type 0) (ds : List Data) (as_ : List A) (d : Data) (a : A) → EachSpelled P ds as_ → P d a → EachSpelled P (ds ++ d ∷ []) (as_ ++ a ∷ [])
 each_snoc P [] [] d a h p = (p, tt)
 each_snoc P [] (b ∷ bs) d a h p = absurd h
 each_snoc P (e ∷ es) [] d a h p = absurd h
 each_snoc P (e ∷ es) (b ∷ bs) d a h p = (h.0, each_snoc P es bs d a h.1 p)
 
 -- a loop that turns values into parts, one by one
-pub each_more : {A : Type 0} (P : Data → A → Type 0) (vs : List Value) (i : ℕ) (x y : Value) (row new : List A) (a : A) → i < length vs → x ≡ get_or vs i y → Each P (map view (take i vs)) row → P (view x) a → new ≡ row ++ a ∷ [] → Each P (map view (take (i + 1) vs)) new
+pub each_more : {A : Type 0} (P : Data → A → Type 0) (vs : List Value) (i : ℕ) (x y : Value) (row new : List A) (a : A) → i < length vs → x ≡ get_or vs i y → EachSpelled P (map view (take i vs)) row → P (view x) a → new ≡ row ++ a ∷ [] → EachSpelled P (map view (take (i + 1) vs)) new
 each_more P vs i x y row new a within is before last pushed =
     let longer : map view (take (i + 1) vs) ≡ map view (take i vs) ++ view x ∷ [] = ap (map view) (take_more vs i y within) ∙ map-append view (take i vs) (get_or vs i y ∷ []) ∙ ap (λ v. map view (take i vs) ++ view v ∷ []) (sym is) in
-    subst (λ ds. Each P ds new) (sym longer) (subst (Each P (map view (take i vs) ++ view x ∷ [])) (sym pushed) (each_snoc P (map view (take i vs)) row (view x) a before last))
+    subst (λ ds. EachSpelled P ds new) (sym longer) (subst (EachSpelled P (map view (take i vs) ++ view x ∷ [])) (sym pushed) (each_snoc P (map view (take i vs)) row (view x) a before last))
 
 -- ---- numbers of steps
 

@@ -8,7 +8,7 @@ use Rattle.fp_base.proofs.Options.{same_some}
 use Rattle.fp_scenario.specs.Checked.{IsSound, AllSound}
 use Rattle.fp_scenario.specs.Keys.{first_of, at_key, keys_of, needed, wanted_at}
 use Rattle.fp_scenario.specs.Kinds.{items, natural, within, is_identifier, is_of_kind, is_of_size}
-use Rattle.fp_scenario.specs.Spelled.{Each, IsAct, IsCaller, IsHandler, IsAnswer, IsGuard, Spells, items_at, number_at, text_at, first_text, given}
+use Rattle.fp_scenario.specs.Spelled.{EachSpelled, IsAct, IsCaller, IsHandler, IsAnswer, IsGuard, Spells, items_at, number_at, text_at, first_text, given}
 use Rattle.fp_scenario.specs.Same.{Paired, IsSameAct, IsSameCaller, IsSameHandler, IsSameGuard, IsSame, IsOfText, IsNamed, IsKept}
 use Rattle.fp_scenario.specs.declared.scenario.Scenario.{Scenario}
 use Rattle.fp_scenario.specs.declared.scenario.CallerText.{CallerText}
@@ -21,7 +21,7 @@ use Rattle.fp_scenario.specs.declared.first_key.FirstKey.TheVariants.{Read, Resp
 use Rattle.fp_scenario.proofs.Kept.{first_there}
 use Rattle.fp_scenario.proofs.Inside.{kind_of_sound, size_of_sound, member_sound, items_sound, needed_of_sound}
 
-paired : {A : Type 0} (P : Data → A → Type 0) (Q : A → A → Type 0) → ((d : Data) (a b : A) → P d a → P d b → Q a b) → (ds : List Data) (as_ bs : List A) → Each P ds as_ → Each P ds bs → Paired Q as_ bs
+paired : {A : Type 0} (P : Data → A → Type 0) (Q : A → A → Type 0) → ((d : Data) (a b : A) → P d a → P d b → Q a b) → (ds : List Data) (as_ bs : List A) → EachSpelled P ds as_ → EachSpelled P ds bs → Paired Q as_ bs
 paired P Q one [] [] [] x y = tt
 paired P Q one [] [] (b ∷ bs) x y = absurd y
 paired P Q one [] (a ∷ as_) bs x y = absurd x
@@ -47,7 +47,7 @@ one_caller d a b x y = record { name = x.name ∙ sym y.name; do_ = paired IsAct
 one_handler : (d : Data) (a b : HandlerText) → IsHandler d a → IsHandler d b → IsSameHandler a b
 one_handler d a b x y = record { of = x.of ∙ sym y.of; on_ = x.on_ ∙ sym y.on_; do_ = paired IsAct IsSameAct one_act _ _ _ x.do_ y.do_ }
 
-one_list : (ds : List Data) (as_ bs : List Bool) → Each IsAnswer ds as_ → Each IsAnswer ds bs → as_ ≡ bs
+one_list : (ds : List Data) (as_ bs : List Bool) → EachSpelled IsAnswer ds as_ → EachSpelled IsAnswer ds bs → as_ ≡ bs
 one_list [] [] [] x y = refl
 one_list [] [] (b ∷ bs) x y = absurd y
 one_list [] (a ∷ as_) bs x y = absurd x
@@ -68,7 +68,7 @@ spelled_once d a b x y = record {
 
 -- ---- limits
 
-each_length : {A : Type 0} (P : Data → A → Type 0) (ds : List Data) (as_ : List A) → Each P ds as_ → length ds ≡ length as_
+each_length : {A : Type 0} (P : Data → A → Type 0) (ds : List Data) (as_ : List A) → EachSpelled P ds as_ → length ds ≡ length as_
 each_length P [] [] x = refl
 each_length P [] (a ∷ as_) x = absurd x
 each_length P (d ∷ ds) [] x = absurd x
@@ -109,7 +109,7 @@ caller_named d h =
     let there = needed_of_sound wanted.Caller d h (kind_of_sound wanted.Caller d h) in
     identified_at (get (codes "name") d) (λ y found. kind_of_sound wanted.Identifier y (member_sound wanted.Caller wanted.Identifier d y (codes "name") h refl found)) (λ none. true≢false (sym (both _ _ there).0 ∙ ap is_some none))
 
-over_each : {A : Type 0} (w : Wanted) (P : Data → A → Type 0) (Q : A → Type 0) → ((d : Data) (a : A) → IsSound w d → P d a → Q a) → (ds : List Data) (as_ : List A) → AllSound w ds → Each P ds as_ → AllByRecursion Q as_
+over_each : {A : Type 0} (w : Wanted) (P : Data → A → Type 0) (Q : A → Type 0) → ((d : Data) (a : A) → IsSound w d → P d a → Q a) → (ds : List Data) (as_ : List A) → AllSound w ds → EachSpelled P ds as_ → AllByRecursion Q as_
 over_each w P Q gives [] [] all each = tt
 over_each w P Q gives [] (a ∷ as_) all each = absurd each
 over_each w P Q gives (d ∷ ds) [] all each = absurd each
@@ -145,7 +145,7 @@ act_reads d act h x reads =
 act_named : (d : Data) (act : ActText) → IsSound wanted.Action d → IsAct d act → IsNamed act
 act_named d act h x = record { responds = act_responds d act h x; reads = act_reads d act h x }
 
-few_acts : (w : Wanted) (d : Data) (acts : List ActText) → IsSound w d → wanted_at w d (codes "do") ≡ Some wanted.Actions → Each IsAct (items_at (codes "do") d) acts → (length acts ≤ 1000) × AllByRecursion IsNamed acts
+few_acts : (w : Wanted) (d : Data) (acts : List ActText) → IsSound w d → wanted_at w d (codes "do") ≡ Some wanted.Actions → EachSpelled IsAct (items_at (codes "do") d) acts → (length acts ≤ 1000) × AllByRecursion IsNamed acts
 few_acts w d acts h wants each = (
   subst (λ n. n ≤ 1000) (each_length IsAct (items_at (codes "do") d) acts each) (no_more 1000 _ (counted 1000 refl (get (codes "do") d) (λ y found. size_of_sound wanted.Actions y (member_sound w wanted.Actions d y (codes "do") h wants found)))),
   over_each wanted.Action IsAct IsNamed act_named (items_at (codes "do") d) acts (items_sound w wanted.Actions wanted.Action d (codes "do") h wants refl) each,

@@ -4,7 +4,7 @@ use Rattle.serde_json.specs.Data.{Data}
 use Rattle.fp_base.proofs.Options.{same_some}
 use Rattle.fp_base.specs.declared.rule.Rule.{Rule}
 use Rattle.fp_base.specs.declared.rule.Rule.TheVariants.{NotJson, PastSize}
-use Rattle.fp_scenario.specs.Broken.{Reads, Breaks, IsBroken, BreaksInside, IsTooLong}
+use Rattle.fp_scenario.specs.Broken.{Reads, Breaks, IsTextBroken, BreaksInside, IsTooLong}
 use Rattle.fp_scenario.specs.Checked.{IsSound}
 use Rattle.fp_scenario.specs.declared.wanted.Wanted.TheVariants.{Scenario}
 
@@ -14,7 +14,7 @@ none_inside bytes d rule path reads sound b = sound rule b.1 (subst (λ e. Break
 short : (bytes : List ℕ) → length bytes ≤ 4194304 → IsTooLong bytes → ⊥
 short bytes within long = absurd (omega arith)
 
-pub not_broken : (bytes : List ℕ) (d : Data) → length bytes ≤ 4194304 → Reads bytes d → IsSound Scenario d → (rule : Rule) (path : List ℕ) → IsBroken bytes rule path → ⊥
+pub not_broken : (bytes : List ℕ) (d : Data) → length bytes ≤ 4194304 → Reads bytes d → IsSound Scenario d → (rule : Rule) (path : List ℕ) → IsTextBroken bytes rule path → ⊥
 not_broken bytes d within reads sound NotJson path b = b.1 d reads
 not_broken bytes d within reads sound PastSize path b = ⊎_elim (λ (root : (path ≡ codes "/") × IsTooLong bytes). short bytes within root.1) (λ (inner : BreaksInside bytes PastSize path). none_inside bytes d PastSize path reads sound inner) b
 not_broken bytes d within reads sound rule path b = none_inside bytes d rule path reads sound b

@@ -20,10 +20,10 @@ abbrev pub below : List ℕ → List ℕ → List ℕ
 below step path = 47 ∷ step ++ path
 
 -- the part of a value at a path, with what is wanted of it: the value itself, or a part of what stands at a known key or in a list
-pub data Part : Wanted → Data → List ℕ → Wanted → Data → Type 0 where
-  itself : {w : Wanted} {d : Data} {path : List ℕ} → path ≡ [] → Part w d path w d
-  in_member : {w u : Wanted} {d y : Data} {path rest : List ℕ} (k : List ℕ) (x : Data) (v : Wanted) → get k d ≡ Some x → wanted_at w d k ≡ Some v → Part v x rest u y → path ≡ below k rest → Part w d path u y
-  in_item : {w u : Wanted} {d y : Data} {path rest : List ℕ} (i : ℕ) (x : Data) (v : Wanted) → at i d ≡ Some x → wanted_of_items w ≡ Some v → Part v x rest u y → path ≡ below (decimal i) rest → Part w d path u y
+pub data PartOf : Wanted → Data → List ℕ → Wanted → Data → Type 0 where
+  itself : {w : Wanted} {d : Data} {path : List ℕ} → path ≡ [] → PartOf w d path w d
+  in_member : {w u : Wanted} {d y : Data} {path rest : List ℕ} (k : List ℕ) (x : Data) (v : Wanted) → get k d ≡ Some x → wanted_at w d k ≡ Some v → PartOf v x rest u y → path ≡ below k rest → PartOf w d path u y
+  in_item : {w u : Wanted} {d y : Data} {path rest : List ℕ} (i : ℕ) (x : Data) (v : Wanted) → at i d ≡ Some x → wanted_of_items w ≡ Some v → PartOf v x rest u y → path ≡ below (decimal i) rest → PartOf w d path u y
 
 -- a key that is none of such an object's, at the key
 abbrev pub HasUnknownKey : Wanted → Data → List ℕ → Type 0
@@ -55,7 +55,7 @@ pub record Breaks (w : Wanted) (d : Data) (rule : Rule) (path : List ℕ) : Type
   pub part : Data
   pub before : List ℕ
   pub after : List ℕ
-  pub stands : Part w d before part_wanted part
+  pub stands : PartOf w d before part_wanted part
   pub flaw : Flaw rule part_wanted part after
   pub joined : path ≡ before ++ after
 
@@ -75,7 +75,7 @@ abbrev pub BreaksInside : List ℕ → Rule → List ℕ → Type 0
 BreaksInside bytes rule path = (d : Data) × (inner : List ℕ) × Reads bytes d × Breaks Scenario d rule inner × (path ≡ named inner)
 
 -- the text of a scenario breaks a rule at a path
-abbrev pub IsBroken : List ℕ → Rule → List ℕ → Type 0
-IsBroken bytes NotJson path = (path ≡ codes "/") × IsNotJson bytes
-IsBroken bytes PastSize path = ((path ≡ codes "/") × IsTooLong bytes) ⊎ BreaksInside bytes PastSize path
-IsBroken bytes rule path = BreaksInside bytes rule path
+abbrev pub IsTextBroken : List ℕ → Rule → List ℕ → Type 0
+IsTextBroken bytes NotJson path = (path ≡ codes "/") × IsNotJson bytes
+IsTextBroken bytes PastSize path = ((path ≡ codes "/") × IsTooLong bytes) ⊎ BreaksInside bytes PastSize path
+IsTextBroken bytes rule path = BreaksInside bytes rule path

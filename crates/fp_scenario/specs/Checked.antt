@@ -4,7 +4,7 @@ use Rattle.serde_json.specs.Data.{Data}
 use Rattle.serde_json.specs.Find.{get, at}
 use Rattle.fp_base.specs.declared.rule.Rule.{Rule}
 use Rattle.fp_scenario.specs.Keys.{wants_object, wanted_at, wanted_of_items}
-use Rattle.fp_scenario.specs.Broken.{Breaks, IsBroken, below, named}
+use Rattle.fp_scenario.specs.Broken.{Breaks, IsTextBroken, below, named}
 use Rattle.fp_scenario.specs.declared.scenario.ScenarioStop.{ScenarioStop}
 use Rattle.fp_scenario.specs.declared.scenario.ScenarioStop.TheVariants.{Broken, NoMemory}
 use Rattle.fp_scenario.specs.declared.wanted.Wanted.{Wanted}
@@ -48,7 +48,7 @@ IsFaultNamed d NoMemory = ⊤
 
 -- a stop for want of memory, or by a rule that the text breaks at the path
 abbrev pub IsRefusal : List ℕ → ScenarioStop → Type 0
-IsRefusal bytes (Broken stop) = IsBroken bytes stop.rule stop.path
+IsRefusal bytes (Broken stop) = IsTextBroken bytes stop.rule stop.path
 IsRefusal bytes NoMemory = ⊤
 
 -- each value of a list is sound

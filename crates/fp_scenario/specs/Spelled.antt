@@ -25,11 +25,11 @@ abbrev pub number_at : List ℕ → Data → Option ℕ
 number_at k d = option_and_then natural (get k d)
 
 -- the objects of two lists, one by one
-abbrev pub Each : {A : Type 0} → (Data → A → Type 0) → List Data → List A → Type 0
-Each P [] [] = ⊤
-Each P [] (a ∷ as_) = ⊥
-Each P (d ∷ ds) [] = ⊥
-Each P (d ∷ ds) (a ∷ as_) = P d a × Each P ds as_
+abbrev pub EachSpelled : {A : Type 0} → (Data → A → Type 0) → List Data → List A → Type 0
+EachSpelled P [] [] = ⊤
+EachSpelled P [] (a ∷ as_) = ⊥
+EachSpelled P (d ∷ ds) [] = ⊥
+EachSpelled P (d ∷ ds) (a ∷ as_) = P d a × EachSpelled P ds as_
 
 -- what stands at the first key, where it is a text
 abbrev pub first_text : FirstKey → Data → List ℕ
@@ -56,12 +56,12 @@ pub record IsAct (d : Data) (act : ActText) : Type 0 where
 
 pub record IsCaller (d : Data) (caller : CallerText) : Type 0 where
   pub name : caller.name ≡ text_at (codes "name") d
-  pub do_ : Each IsAct (items_at (codes "do") d) caller.do_
+  pub do_ : EachSpelled IsAct (items_at (codes "do") d) caller.do_
 
 pub record IsHandler (d : Data) (handler : HandlerText) : Type 0 where
   pub of : handler.of ≡ text_at (codes "of") d
   pub on_ : handler.on_ ≡ text_at (codes "on") d
-  pub do_ : Each IsAct (items_at (codes "do") d) handler.do_
+  pub do_ : EachSpelled IsAct (items_at (codes "do") d) handler.do_
 
 abbrev pub IsAnswer : Data → Bool → Type 0
 IsAnswer d answer = as_bool d ≡ Some answer
@@ -70,10 +70,10 @@ pub record IsGuard (d : Data) (guard : GuardText) : Type 0 where
   pub of : guard.of ≡ text_at (codes "of") d
   pub machine : guard.machine ≡ text_at (codes "machine") d
   pub guard_name : guard.guard ≡ text_at (codes "guard") d
-  pub answers : Each IsAnswer (items_at (codes "answers") d) guard.answers
+  pub answers : EachSpelled IsAnswer (items_at (codes "answers") d) guard.answers
 
 pub record Spells (d : Data) (scenario : Scenario) : Type 0 where
   pub steps : scenario.steps ≡ unwrap_or (number_at (codes "steps") d) 10000
-  pub callers : Each IsCaller (items_at (codes "callers") d) scenario.callers
-  pub handlers : Each IsHandler (items_at (codes "handlers") d) scenario.handlers
-  pub guards : Each IsGuard (items_at (codes "guards") d) scenario.guards
+  pub callers : EachSpelled IsCaller (items_at (codes "callers") d) scenario.callers
+  pub handlers : EachSpelled IsHandler (items_at (codes "handlers") d) scenario.handlers
+  pub guards : EachSpelled IsGuard (items_at (codes "guards") d) scenario.guards

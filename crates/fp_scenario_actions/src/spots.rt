@@ -11,7 +11,7 @@ ghost use Rattle.fp_scenario_actions.specs.Spots.{behind, parted, port_spot, com
 use crate::finding::machine_in;
 use crate::named::{command_named, name_of, port_named, running_named};
 use fp_sound_programs::{is_hooked, role_is_hooked};
-use fp_tables::{Command, Component, Part, Port, Role, Running, Spot, Tables};
+use fp_tables::{Command, CommandPart, Component, Port, Role, Running, Spot, Tables};
 
 /// What stands behind a beginning.
 fn behind<'a>(beginning: &[u8], text: &'a [u8]) -> Option<&'a [u8]>
@@ -97,7 +97,7 @@ fn is_hooked_command_at(commands: &[Command], at: u32) -> bool
 {
     match commands.get(at as usize) {
         Some(command) => match command.part {
-            Part::Plain => is_hooked(&command.way),
+            CommandPart::Plain => is_hooked(&command.way),
             _ => false,
         },
         None => false,

@@ -6,7 +6,7 @@ use Rattle.fp_base.proofs.Bools.{both}
 use Rattle.fp_base.proofs.Lists.{all_get}
 use Rattle.fp_base.proofs.Options.{then_some}
 use Rattle.fp_tables.specs.Acts.{machine_at}
-use Rattle.fp_tables.specs.Lookup.{Described, machine_of}
+use Rattle.fp_tables.specs.Lookup.{Described, machine_running}
 use Rattle.fp_tables.specs.Positions.{is_short, lists_are_short, machine_is_short}
 use Rattle.fp_tables.specs.declared.machine.Machine.{Machine}
 use Rattle.fp_tables.specs.declared.model.Model.{Model}
@@ -24,5 +24,5 @@ machine_short m n x h e =
 
 pub guards_short : (t : Described) (i r : ℕ) (x : Machine) → lists_are_short t.model ≡ true → machine_at t i r ≡ Some x → is_short x.guards ≡ true
 guards_short t i r x h e =
-    let n = then_some (slice_get t.model.machines) (machine_of t.model i r) x e in
+    let n = then_some (slice_get t.model.machines) (machine_running t.model i r) x e in
     guards_of_short x (machine_short t.model n.0 x h n.2)

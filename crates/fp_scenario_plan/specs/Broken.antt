@@ -25,14 +25,14 @@ module _ (t : Described) (scenario : Scenario) where
     of_locks : (n k m : ℕ) (h : Handler) (a : Act) → Acts t program n k h a → IsOnLockCycle t program h a → slice_get (texts_from 0 scenario.handlers) n ≡ Some m → BreaksCycle program LockCycle (handler_path m (action_path k))
 
   -- cycles are looked for where no other rule is broken, which is where the scenario stands for a program
-  abbrev pub IsBroken : Rule → List ℕ → Type 0
-  IsBroken rule path = Breaks t scenario rule path ⊎ ((program : Program) × Planned t scenario program × BreaksCycle program rule path)
+  abbrev pub IsScenarioBroken : Rule → List ℕ → Type 0
+  IsScenarioBroken rule path = Breaks t scenario rule path ⊎ ((program : Program) × Planned t scenario program × BreaksCycle program rule path)
 
   -- no rule is broken, at no path
   abbrev pub BreaksNothing : Type 0
-  BreaksNothing = (rule : Rule) (path : List ℕ) → IsBroken rule path → ⊥
+  BreaksNothing = (rule : Rule) (path : List ℕ) → IsScenarioBroken rule path → ⊥
 
   -- want of memory, or a rule that is broken at the path
   abbrev pub IsRefusal : ScenarioStop → Type 0
-  IsRefusal (Broken stop) = IsBroken stop.rule stop.path
+  IsRefusal (Broken stop) = IsScenarioBroken stop.rule stop.path
   IsRefusal NoMemory = ⊤

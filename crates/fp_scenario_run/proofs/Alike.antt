@@ -21,7 +21,7 @@ use Rattle.fp_scenario_actions.specs.Named.{placed_named}
 use Rattle.fp_scenario_actions.specs.Spots.{spot_in}
 use Rattle.fp_scenario_actions.specs.Listing.{ActsPlan, lacks_return}
 use Rattle.fp_scenario_plan.specs.Planned.{Pairwise, IsRepeated, PlansCaller, PlansAnswers, same_guard, PlansHandler, Planned, IsUnknownHandler, nothing_named, no_place, no_place_of_component, Stands, Breaks, too_large, caller_repeated, handler_repeated, guard_repeated, handler_unknown, guard_unknown, in_caller, in_handler, return_missing, is_of, has_own, of_instance, stands_for, at_each, pairs, component_named, same_caller, same_handler}
-use Rattle.fp_scenario_plan.specs.Broken.{texts_from, BreaksCycle, synchronous, of_locks, IsBroken}
+use Rattle.fp_scenario_plan.specs.Broken.{texts_from, BreaksCycle, synchronous, of_locks, IsScenarioBroken}
 use Rattle.fp_scenario_run.proofs.Paired.{beside, paired_append, planned_beside, repeated_beside}
 use Rattle.fp_scenario_run.proofs.AlikeActs.{acts_plan, acts_break, lacks_alike}
 use Rattle.fp_scenario_run.proofs.AlikeCalls.{calls_plan, calls_break}
@@ -169,6 +169,6 @@ module _ (t : Described) where
     cycle_alike program rule path (synchronous n k m h x acts on text) = synchronous n k m h x acts on (subst (λ ms. slice_get ms n ≡ Some m) (texts_alike 0 a.handlers b.handlers same.handlers) text)
     cycle_alike program rule path (of_locks n k m h x acts on text) = of_locks n k m h x acts on (subst (λ ms. slice_get ms n ≡ Some m) (texts_alike 0 a.handlers b.handlers same.handlers) text)
 
-    pub broken_alike : (rule : Rule) (path : List ℕ) → IsBroken t a rule path → IsBroken t b rule path
+    pub broken_alike : (rule : Rule) (path : List ℕ) → IsScenarioBroken t a rule path → IsScenarioBroken t b rule path
     broken_alike rule path (inl h) = inl (rule_alike rule path h)
     broken_alike rule path (inr h) = inr (h.0, plan_alike h.0 h.1, cycle_alike h.0 rule path h.2)

@@ -4,13 +4,13 @@ use Rattle.serde_json.specs.Data.{Data}
 use Rattle.fp_base.specs.declared.rule.Rule.{Rule}
 use Rattle.fp_tables.specs.Lookup.{Described}
 use Rattle.fp_tables.specs.declared.program.Program.{Program}
-use Rattle.fp_scenario.specs.Broken.{Reads, IsBroken as IsTextBroken}
+use Rattle.fp_scenario.specs.Broken.{Reads, IsTextBroken}
 use Rattle.fp_scenario.specs.Spelled.{Spells}
 use Rattle.fp_scenario.specs.declared.scenario.Scenario.{Scenario}
 use Rattle.fp_scenario.specs.declared.scenario.ScenarioStop.{ScenarioStop}
 use Rattle.fp_scenario.specs.declared.scenario.ScenarioStop.TheVariants.{Broken, NoMemory}
 use Rattle.fp_scenario_plan.specs.Planned.{Planned}
-use Rattle.fp_scenario_plan.specs.Broken.{IsBroken as IsScenarioBroken}
+use Rattle.fp_scenario_plan.specs.Broken.{IsScenarioBroken}
 
 -- the text is JSON whose value spells the scenario
 abbrev pub IsSpelled : List ℕ → Scenario → Type 0

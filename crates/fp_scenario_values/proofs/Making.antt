@@ -9,7 +9,7 @@ use Rattle.serde_json.specs.View.{view, items_view, items_of, members_view}
 use Rattle.serde_json.specs.declared.value.Value.{Value as Json}
 use Rattle.serde_json.proofs.Views.{Entry}
 use Rattle.fp_base.specs.declared.value.Value.{Value, Int, Array}
-use Rattle.fp_base.specs.declared.value.Part.{Part}
+use Rattle.fp_base.specs.declared.value.MemberValue.{MemberValue}
 use Rattle.fp_base.proofs.Options.{same_some}
 use Rattle.fp_tables.specs.Types as shapes
 use Rattle.fp_tables.specs.declared.kind.Kind.{Kind}
@@ -44,7 +44,7 @@ module _ (types : List TypeDef) where
   Fits (constants cs) (json.string s) = (x : Constant) × (constant_named cs s ≡ Some x)
   Fits opaque json.null = Unit {0}
   Fits (array size k) (json.array ds) = (vs : List Value) × EachMeans types (wanted types k) ds vs × (length vs ≡ size)
-  Fits (struct fields default) (json.object ms) = (given : List Part) × MembersMean types fields ms given
+  Fits (struct fields default) (json.object ms) = (given : List MemberValue) × MembersMean types fields ms given
   Fits _ _ = ⊥
 
   pub back : {w : Wanted} {d : json.Data} {v : Value} → Means types w d v → Fits w d
@@ -169,30 +169,30 @@ module _ (types : List TypeDef) where
 
   -- ---- objects
 
-  members_snoc : (fields : List Field) (es : List Entry) (e : Entry) (f : Field) (v : Value) {given : List Part} → MembersMean types fields (members_view es) given → member_named fields (string_bytes e.0) ≡ Some f
+  members_snoc : (fields : List Field) (es : List Entry) (e : Entry) (f : Field) (v : Value) {given : List MemberValue} → MembersMean types fields (members_view es) given → member_named fields (string_bytes e.0) ≡ Some f
       → Means types (member types f) (view e.1) v → MembersMean types fields (members_view (es ++ e ∷ [])) (given ++ record { name = string_bytes e.0; value = v } ∷ [])
   members_snoc fields [] e f v no_member is g = in_member is g no_member
   members_snoc fields (x ∷ es) e f v (in_member d h hs) is g = in_member d h (members_snoc fields es e f v hs is g)
 
-  pub members_first : (fields : List Field) (given : List Part) → given ≡ [] → MembersMean types fields (members_view []) given
+  pub members_first : (fields : List Field) (given : List MemberValue) → given ≡ [] → MembersMean types fields (members_view []) given
   members_first fields given is = subst (λ ps. MembersMean types fields (members_view []) ps) (sym is) no_member
 
-  pub members_next : (fields : List Field) (es : List Entry) (e : Entry) (name : List ℕ) (v : Value) (given longer : List Part) → MembersMean types fields (members_view es) given → name ≡ string_bytes e.0
+  pub members_next : (fields : List Field) (es : List Entry) (e : Entry) (name : List ℕ) (v : Value) (given longer : List MemberValue) → MembersMean types fields (members_view es) given → name ≡ string_bytes e.0
       → IsMadeAt types fields (string_bytes e.0) (view e.1) (Some v) → longer ≡ given ++ record { name = name; value = v } ∷ [] → MembersMean types fields (members_view (es ++ e ∷ [])) longer
   members_next fields es e name v given longer h named g is =
       subst (λ ps. MembersMean types fields (members_view (es ++ e ∷ [])) ps) (sym (is ∙ ap (λ (n : List ℕ). given ++ record { name = n; value = v } ∷ []) named)) (members_snoc fields es e g.0 v h g.1 g.2)
 
-  member_at : (fields : List Field) (es : List Entry) (e : Entry) (rest : List Entry) {given : List Part} → MembersMean types fields (members_view (es ++ e ∷ rest)) given
+  member_at : (fields : List Field) (es : List Entry) (e : Entry) (rest : List Entry) {given : List MemberValue} → MembersMean types fields (members_view (es ++ e ∷ rest)) given
       → (f : Field) × (v : Value) × (member_named fields (string_bytes e.0) ≡ Some f) × Means types (member types f) (view e.1) v
   member_at fields [] e rest (in_member {f = f} {v = v} d h hs) = (f, v, d, h)
   member_at fields (x ∷ es) e rest (in_member d h hs) = member_at fields es e rest hs
 
   pub members_none : (fields : List Field) (all es : List Entry) (e : Entry) (rest : List Entry) → all ≡ es ++ e ∷ rest → IsMadeAt types fields (string_bytes e.0) (view e.1) None
-      → (given : List Part) → MembersMean types fields (members_view all) given → ⊥
+      → (given : List MemberValue) → MembersMean types fields (members_view all) given → ⊥
   members_none fields all es e rest is never given h =
       let p = member_at fields es e rest (subst (λ xs. MembersMean types fields (members_view xs) given) is h) in never p.0 p.1 p.2 p.3
 
-  pub object_is : (fields : List Field) (default : Value) (ms : json.Members) (m : Option (List Part)) → AreMadeAt types fields ms m → IsMade types (struct fields default) (json.object ms) (option_map (completed default) m)
+  pub object_is : (fields : List Field) (default : Value) (ms : json.Members) (m : Option (List MemberValue)) → AreMadeAt types fields ms m → IsMade types (struct fields default) (json.object ms) (option_map (completed default) m)
   object_is fields default ms (Some given) h = members h
   object_is fields default ms None h = λ v g. let p = back g in h p.0 p.1
 

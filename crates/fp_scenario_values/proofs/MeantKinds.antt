@@ -7,7 +7,7 @@ use Rattle.std.proofs.lemmas.Slice.Eq.{bytes_eq-Decides}
 use Rattle.serde_json.specs.Data as json
 use Rattle.fp_base.specs.Same.{same}
 use Rattle.fp_base.specs.declared.value.Value.{Value, Int, Bool as Truth, Text, Enumerated, Array', Struct', Opaque}
-use Rattle.fp_base.specs.declared.value.Part.{Part}
+use Rattle.fp_base.specs.declared.value.MemberValue.{MemberValue}
 use Rattle.fp_base.proofs.Bools.{both, join, or_left, or_right}
 use Rattle.fp_base.proofs.Lists.{all_get}
 use Rattle.fp_base.proofs.Options.{same_some, mapped_some}
@@ -141,11 +141,11 @@ module _ (types : List TypeDef) where
 
   -- ---- structs
 
-  part_given : (all : List Field) (f : Field) (p : Part) (given : List Part) (o : Option Value) → AreGivenFor types all given → member_named all f.name ≡ Some f → value_named given f.name ≡ o → has types (member_shape types f) p.value ≡ true → has types (member_shape types f) (unwrap_or o p.value) ≡ true
+  part_given : (all : List Field) (f : Field) (p : MemberValue) (given : List MemberValue) (o : Option Value) → AreGivenFor types all given → member_named all f.name ≡ Some f → value_named given f.name ≡ o → has types (member_shape types f) p.value ≡ true → has types (member_shape types f) (unwrap_or o p.value) ≡ true
   part_given all f p given None are is found own = own
   part_given all f p given (Some w) are is found own = given_has types all f w given are is found
 
-  given_beside : (all : List Field) (given : List Part) (fs : List Field) (ps : List Part) → AreGivenFor types all given → AreMeant all fs → all_beside (part_has types) fs ps ≡ true
+  given_beside : (all : List Field) (given : List MemberValue) (fs : List Field) (ps : List MemberValue) → AreGivenFor types all given → AreMeant all fs → all_beside (part_has types) fs ps ≡ true
       → all_beside (part_has types) fs (with_given given ps) ≡ true
   given_beside all given [] [] are meant h = refl
   given_beside all given [] (p ∷ ps) are meant h = absurd (cc)
@@ -239,7 +239,7 @@ module _ (m : Model) (sound : HasSoundTypes m) where
     each_has none good = refl
     each_has (more h hs) good = join _ _ (has_meant h good) (each_has hs good)
 
-    are_given : {fields : List Field} {ms : json.Members} {given : List Part} → MembersMean m.types fields ms given → AreGivenFor m.types fields given
+    are_given : {fields : List Field} {ms : json.Members} {given : List MemberValue} → MembersMean m.types fields ms given → AreGivenFor m.types fields given
     are_given (no_member {fields = fields}) = no_given m.types fields
     are_given (in_member {fields = fields} {f = f} {k = k} {v = v} {given = given} is h hs) =
         next_given m.types fields (record { name = k; value = v }) f v given is (out_of m.types (default_of m.types f.kind) (member_shape m.types f) v (has_meant h (sized_sound f f.size refl))) (are_given hs)

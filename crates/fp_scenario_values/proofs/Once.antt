@@ -3,7 +3,7 @@ use Rattle.std.proofs.Common.{◌≡◌, ℕ, List, [], ◌∷◌, Some, refl, s
 use Rattle.serde_json.specs.Data as json
 use Rattle.serde_json.specs.Find.{as_integer}
 use Rattle.fp_base.specs.declared.value.Value.{Value, Int, Bool as Truth, Text, Array, Struct, Opaque}
-use Rattle.fp_base.specs.declared.value.Part.{Part}
+use Rattle.fp_base.specs.declared.value.MemberValue.{MemberValue}
 use Rattle.fp_base.proofs.Options.{one_some}
 use Rattle.fp_tables.specs.Arguments.{Scope}
 use Rattle.fp_tables.specs.declared.kind.Kind.{Kind}
@@ -28,7 +28,7 @@ module _ (types : List TypeDef) where
   Meant (constants cs) (json.string s) v = (x : Constant) × (constant_named cs s ≡ Some x) × (v ≡ x.value)
   Meant opaque json.null v = v ≡ Opaque
   Meant (array size k) (json.array ds) v = (vs : List Value) × EachMeans types (wanted types k) ds vs × (v ≡ Array vs)
-  Meant (struct fields default) (json.object ms) v = (given : List Part) × MembersMean types fields ms given × (v ≡ Struct (with_given given (parts_in default)))
+  Meant (struct fields default) (json.object ms) v = (given : List MemberValue) × MembersMean types fields ms given × (v ≡ Struct (with_given given (parts_in default)))
   Meant _ _ v = ⊥
 
   meant : {w : Wanted} {d : json.Data} {v : Value} → Means types w d v → Meant w d v
@@ -48,15 +48,15 @@ module _ (types : List TypeDef) where
   each_meant none = refl
   each_meant (more {v = v} {vs = vs} h hs) = (v, vs, h, hs, refl)
 
-  abbrev part : List ℕ → Value → Part
+  abbrev part : List ℕ → Value → MemberValue
   part name value = record { name = name; value = value }
 
-  abbrev MembersMeant : List Field → json.Members → List Part → Type 0
+  abbrev MembersMeant : List Field → json.Members → List MemberValue → Type 0
   MembersMeant fields json.no_members given = given ≡ []
   MembersMeant fields (json.member k d ms) given =
-      (f : Field) × (v : Value) × (rest : List Part) × (member_named fields k ≡ Some f) × Means types (member types f) d v × MembersMean types fields ms rest × (given ≡ part k v ∷ rest)
+      (f : Field) × (v : Value) × (rest : List MemberValue) × (member_named fields k ≡ Some f) × Means types (member types f) d v × MembersMean types fields ms rest × (given ≡ part k v ∷ rest)
 
-  members_meant : {fields : List Field} {ms : json.Members} {given : List Part} → MembersMean types fields ms given → MembersMeant fields ms given
+  members_meant : {fields : List Field} {ms : json.Members} {given : List MemberValue} → MembersMean types fields ms given → MembersMeant fields ms given
   members_meant no_member = refl
   members_meant (in_member {f = f} {v = v} {given = given} e h hs) = (f, v, given, e, h, hs, refl)
 
@@ -70,18 +70,18 @@ module _ (types : List TypeDef) where
     one_value (constant {s = s} {cs = cs} {x = x} e) u g = let b = meant g in ap (λ (y : Constant). y.value) (one_some (constant_named cs s) x b.0 e b.1) ∙ sym b.2
     one_value no_value u g = sym (meant g)
     one_value (items h e) u g = let b = meant g in ap Array (one_each h b.0 b.1) ∙ sym b.2
-    one_value (members {default = default} h) u g = let b = meant g in ap (λ (given : List Part). Struct (with_given given (parts_in default))) (one_members h b.0 b.1) ∙ sym b.2
+    one_value (members {default = default} h) u g = let b = meant g in ap (λ (given : List MemberValue). Struct (with_given given (parts_in default))) (one_members h b.0 b.1) ∙ sym b.2
 
     one_each : {w : Wanted} {ds : json.Items} {vs : List Value} → EachMeans types w ds vs → (us : List Value) → EachMeans types w ds us → vs ≡ us
     one_each none us g = sym (each_meant g)
     one_each (more h hs) us g = let b = each_meant g in ap₂ (λ (v : Value) (vs : List Value). v ∷ vs) (one_value h b.0 b.2) (one_each hs b.1 b.3) ∙ sym b.4
 
-    one_members : {fields : List Field} {ms : json.Members} {given : List Part} → MembersMean types fields ms given → (others : List Part) → MembersMean types fields ms others → given ≡ others
+    one_members : {fields : List Field} {ms : json.Members} {given : List MemberValue} → MembersMean types fields ms given → (others : List MemberValue) → MembersMean types fields ms others → given ≡ others
     one_members no_member others g = sym (members_meant g)
     one_members (in_member {fields = fields} {f = f} {k = k} {d = d} {v = v} e h hs) others g =
         let b = members_meant g in
         let same_field : b.0 ≡ f = one_some (member_named fields k) b.0 f b.3 e in
-        ap₂ (λ (x : Value) (xs : List Part). part k x ∷ xs) (one_value h b.1 (subst (λ (x : Field). Means types (member types x) d b.1) same_field b.4)) (one_members hs b.2 b.5) ∙ sym b.6
+        ap₂ (λ (x : Value) (xs : List MemberValue). part k x ∷ xs) (one_value h b.1 (subst (λ (x : Field). Means types (member types x) d b.1) same_field b.4)) (one_members hs b.2 b.5) ∙ sym b.6
 
 -- ---- arguments
 

@@ -5,7 +5,7 @@ use Rattle.serde_json.specs.Data as json
 use Rattle.serde_json.specs.Find.{get, as_str, as_object, as_integer}
 use Rattle.serde_json.specs.Events.{members_len}
 use Rattle.fp_base.specs.declared.value.Value.{Value, Int, Bool as Truth, Text, Array, Struct, Opaque}
-use Rattle.fp_base.specs.declared.value.Part.{Part}
+use Rattle.fp_base.specs.declared.value.MemberValue.{MemberValue}
 use Rattle.fp_tables.specs.Arguments.{Scope, is_one_kind}
 use Rattle.fp_tables.specs.declared.kind.Kind.{Kind}
 use Rattle.fp_tables.specs.declared.kind.Field.{Field}
@@ -31,7 +31,7 @@ mutual
     -- a list of the exact length
     items : {size : ℕ} {k : Kind} {ds : json.Items} {vs : List Value} → EachMeans types (wanted types k) ds vs → length vs ≡ size → Means types (array size k) (json.array ds) (Array vs)
     -- an object with members of the struct; those that it leaves out are as in the struct's default
-    members : {fields : List Field} {default : Value} {ms : json.Members} {given : List Part} → MembersMean types fields ms given
+    members : {fields : List Field} {default : Value} {ms : json.Members} {given : List MemberValue} → MembersMean types fields ms given
         → Means types (struct fields default) (json.object ms) (Struct (with_given given (parts_in default)))
 
   pub data EachMeans (types : List TypeDef) : Wanted → json.Items → List Value → Type 0 where
@@ -39,9 +39,9 @@ mutual
     more : {w : Wanted} {d : json.Data} {v : Value} {ds : json.Items} {vs : List Value} → Means types w d v → EachMeans types w ds vs → EachMeans types w (json.item d ds) (v ∷ vs)
 
   -- each key is the name of a field
-  pub data MembersMean (types : List TypeDef) : List Field → json.Members → List Part → Type 0 where
+  pub data MembersMean (types : List TypeDef) : List Field → json.Members → List MemberValue → Type 0 where
     no_member : {fields : List Field} → MembersMean types fields json.no_members []
-    in_member : {fields : List Field} {f : Field} {k : List ℕ} {d : json.Data} {v : Value} {ms : json.Members} {given : List Part} → member_named fields k ≡ Some f → Means types (member types f) d v
+    in_member : {fields : List Field} {f : Field} {k : List ℕ} {d : json.Data} {v : Value} {ms : json.Members} {given : List MemberValue} → member_named fields k ≡ Some f → Means types (member types f) d v
         → MembersMean types fields ms given → MembersMean types fields (json.member k d ms) (record { name = k; value = v } ∷ given)
 
 -- ---- arguments

@@ -3,7 +3,7 @@ use Rattle.std.specs.Prelude.{◌≡◌, ℕ, Bool, List, Option, Some, None, co
 use Rattle.serde_json.specs.Data as json
 use Rattle.serde_json.specs.Find.{as_integer}
 use Rattle.fp_base.specs.declared.value.Value.{Value, Bool as Truth, Text, Struct, Opaque}
-use Rattle.fp_base.specs.declared.value.Part.{Part}
+use Rattle.fp_base.specs.declared.value.MemberValue.{MemberValue}
 use Rattle.fp_tables.specs.Arguments.{Scope, is_one_kind}
 use Rattle.fp_tables.specs.Types.{Shape, integer, truth, words, constants, opaque}
 use Rattle.fp_tables.specs.declared.kind.Kind.{Kind}
@@ -36,7 +36,7 @@ abbrev pub null_made : Shape → Option Value
 null_made opaque = Some Opaque
 null_made _ = None
 
-abbrev pub completed : Value → List Part → Value
+abbrev pub completed : Value → List MemberValue → Value
 completed default given = Struct (with_given given (parts_in default))
 
 -- ---- all values
@@ -55,9 +55,9 @@ module _ (types : List TypeDef) where
   IsMadeAt fields k d (Some v) = (f : Field) × (member_named fields k ≡ Some f) × Means types (member types f) d v
   IsMadeAt fields k d None = (f : Field) (v : Value) → member_named fields k ≡ Some f → Means types (member types f) d v → ⊥
 
-  abbrev pub AreMadeAt : List Field → json.Members → Option (List Part) → Type 0
+  abbrev pub AreMadeAt : List Field → json.Members → Option (List MemberValue) → Type 0
   AreMadeAt fields ms (Some given) = MembersMean types fields ms given
-  AreMadeAt fields ms None = (given : List Part) → MembersMean types fields ms given → ⊥
+  AreMadeAt fields ms None = (given : List MemberValue) → MembersMean types fields ms given → ⊥
 
   abbrev pub IsArgumentMade : Scope → Kind → json.Data → Option Arg → Type 0
   IsArgumentMade scope k d (Some a) = IsArgument types scope k d a

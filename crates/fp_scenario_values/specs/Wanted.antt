@@ -2,7 +2,7 @@
 use Rattle.std.specs.Prelude.{ℕ, ℤ, List, map, find, Option, Some, None, option_map, unwrap_or, slice_get}
 use Rattle.std.specs.Str.{bytes_eq}
 use Rattle.fp_base.specs.declared.value.Value.{Value}
-use Rattle.fp_base.specs.declared.value.Part.{Part}
+use Rattle.fp_base.specs.declared.value.MemberValue.{MemberValue}
 use Rattle.fp_tables.specs.Machines.{target}
 use Rattle.fp_tables.specs.Types as types
 use Rattle.fp_tables.specs.declared.kind.Kind.{Kind}
@@ -57,5 +57,5 @@ abbrev pub constant_named : List Constant → List ℕ → Option Constant
 constant_named cs name = find (λ (x : Constant). bytes_eq x.name name) cs
 
 -- each part with the value that is given for its name, or as it is where none is given
-abbrev pub with_given : List Part → List Part → List Part
-with_given given parts = map (λ (p : Part). record { name = p.name; value = unwrap_or (value_named given p.name) p.value }) parts
+abbrev pub with_given : List MemberValue → List MemberValue → List MemberValue
+with_given given parts = map (λ (p : MemberValue). record { name = p.name; value = unwrap_or (value_named given p.name) p.value }) parts

@@ -4,7 +4,7 @@ ghost use Rattle.fp_scenario_values.specs.Wanted.{with_given};
 ghost use Rattle.fp_types.specs.Index.{FindsParts};
 ghost use Rattle.fp_scenario_values.specs.Made.{completed};
 
-use fp_base::{NoMemory, Part, Row, Value};
+use fp_base::{MemberValue, NoMemory, Row, Value};
 use fp_types::{part_named, parts_in, places_of_parts};
 use std::alloc::Global;
 use std::collections::BTreeMap;
@@ -12,7 +12,7 @@ use std::collections::BTreeMap;
 /// A struct with what is given, and the rest from its default.
 pub fn completed(
     alloc: Global,
-    given: Option<Row<Part>>,
+    given: Option<Row<MemberValue>>,
     default: &Value,
 ) -> Result<Option<Value>, NoMemory>
     ensures { IfOk result (λ made. made ≡ option_map (completed default.now) given) }
@@ -29,10 +29,10 @@ pub fn completed(
 
 fn with_given(
     alloc: Global,
-    given: &[Part],
+    given: &[MemberValue],
     places: &BTreeMap<String, usize>,
-    parts: &[Part],
-) -> Result<Row<Part>, NoMemory>
+    parts: &[MemberValue],
+) -> Result<Row<MemberValue>, NoMemory>
     requires { FindsParts given.now places.now }
     ensures { IfOk result (λ row. row ≡ with_given given.now parts.now) }
 {
@@ -40,16 +40,16 @@ fn with_given(
     for part in parts {
         let name = part.name.copy(alloc)?;
         let value = given_or_own(alloc, given, places, part)?;
-        row.push(Part { name, value })?;
+        row.push(MemberValue { name, value })?;
     }
     Ok(row)
 }
 
 fn given_or_own(
     alloc: Global,
-    given: &[Part],
+    given: &[MemberValue],
     places: &BTreeMap<String, usize>,
-    part: &Part,
+    part: &MemberValue,
 ) -> Result<Value, NoMemory>
     requires { FindsParts given.now places.now }
     ensures { IfOk result (λ value. value ≡ unwrap_or (value_named given.now part.now.name) part.now.value) }

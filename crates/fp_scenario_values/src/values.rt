@@ -10,7 +10,7 @@ ghost use Rattle.fp_scenario_values.specs.Made.{IsMade, IsMadeAt, AreMadeAt};
 use crate::leaves::{of_null, of_number, of_text, of_truth};
 use crate::parts::completed;
 use crate::wanted::{Wanted, member_of, wanted_of};
-use fp_base::{NoMemory, Part, Row, Text, Value};
+use fp_base::{MemberValue, NoMemory, Row, Text, Value};
 use fp_sound_types::Shape;
 use fp_tables::{Field, Kind, TypeDef};
 use fp_types::{field_named, places_of_fields};
@@ -96,7 +96,7 @@ fn members_of(
     fields: &[Field],
     places: &BTreeMap<String, usize>,
     alloc: Global,
-) -> Result<Option<Row<Part>>, NoMemory>
+) -> Result<Option<Row<MemberValue>>, NoMemory>
     requires { FindsFields fields.now places.now }
     ensures { IfOk result (λ given. AreMadeAt types.now fields.now (members_view members.now.entries) given) }
 {
@@ -106,7 +106,7 @@ fn members_of(
         match next {
             Some(value) => {
                 let name = Text::from_str(alloc, key.as_str())?;
-                given.push(Part { name, value })?;
+                given.push(MemberValue { name, value })?;
             }
             None => return Ok(None),
         }

@@ -3,7 +3,7 @@ use Rattle.std.proofs.Common.{◌≡◌, ℕ, zero, suc, ℤ, pos, ◌+ℤ◌, L
 use Rattle.std.specs.Prelude.{position}
 use Rattle.fp_base.proofs.Options.{one_some, same_some}
 use Rattle.fp_base.specs.declared.format.Format.{Format}
-use Rattle.fp_base.specs.declared.format.Piece.{Piece}
+use Rattle.fp_base.specs.declared.format.FormatPiece.{FormatPiece}
 use Rattle.fp_base.specs.declared.value.Value.{Value, Int}
 use Rattle.fp_formats.specs.Spelling.{IsFormat}
 use Rattle.fp_tables.specs.declared.component.Channel.{Channel}

@@ -14,8 +14,8 @@ use Rattle.fp_tables.specs.Positions as positions
 use Rattle.fp_tables.specs.Sound as sound
 use Rattle.fp_tables.specs.declared.kind.Formal.{Formal}
 use Rattle.fp_tables.specs.declared.component.Way.{Way}
-use Rattle.fp_tables.specs.declared.component.Part.{Part}
-use Rattle.fp_tables.specs.declared.component.Part.TheVariants as part
+use Rattle.fp_tables.specs.declared.component.CommandPart.{CommandPart}
+use Rattle.fp_tables.specs.declared.component.CommandPart.TheVariants as part
 use Rattle.fp_tables.specs.declared.component.Command.{Command}
 use Rattle.fp_tables.specs.declared.component.Param.{Param}
 use Rattle.fp_tree.specs.declared.dictionary.CommandKind.{CommandKind}
@@ -75,10 +75,10 @@ command_quiet (saves n p) d is none = ap (λ (w : Way). not (is_later w)) is.way
 -- ---- beside the parameters
 
 module _ (params : List Param) where
-  abbrev lies_as : ℕ → List Formal → Part → Bool
+  abbrev lies_as : ℕ → List Formal → CommandPart → Bool
   lies_as types fs part = positions.formals_lie types fs && positions.part_lies (length params) part
 
-  abbrev takes_as : Command → Part → List Formal → Bool
+  abbrev takes_as : Command → CommandPart → List Formal → Bool
   takes_as d r fs = takes_its_value params (record d { part = r; formals = fs })
 
   -- the parameter at a place has the type of the one that is written there
@@ -103,19 +103,19 @@ module _ (params : List Param) where
   command_lies types (saves n p) d is h has = ap₂ (lies_as types) is.formals is.part ∙ param_lies p n has
 
   pub command_takes : (h : CommandHere) (d : Command) → IsCommandHere h d → HasItsParam h → takes_its_value params d ≡ true
-  command_takes (written c) d is has = ap (λ (r : Part). takes_as d r d.formals) is.part
+  command_takes (written c) d is has = ap (λ (r : CommandPart). takes_as d r d.formals) is.part
   command_takes (sets n p) d is (y, at, same) =
       ap₂ (takes_as d) is.part is.formals ∙ ap (some_and (λ (x : Param). same_kind p.kind x.kind)) at ∙ ap (same_kind p.kind) same ∙ kind_itself p.kind
   command_takes (saves n p) d is has = ap₂ (takes_as d) is.part is.formals
 
 -- ---- each parameter once
 
-set_is : (d : Command) (r : Part) → set_parameter (record d { part = r }) ≡ set_by r
+set_is : (d : Command) (r : CommandPart) → set_parameter (record d { part = r }) ≡ set_by r
 set_is d part.Plain = refl
 set_is d (part.SetParam n) = refl
 set_is d (part.SaveParam n) = refl
 
-saved_is : (d : Command) (r : Part) → saved_parameter (record d { part = r }) ≡ saved_by r
+saved_is : (d : Command) (r : CommandPart) → saved_parameter (record d { part = r }) ≡ saved_by r
 saved_is d part.Plain = refl
 saved_is d (part.SetParam n) = refl
 saved_is d (part.SaveParam n) = refl

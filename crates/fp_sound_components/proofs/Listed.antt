@@ -5,8 +5,8 @@ use Rattle.std.proofs.lemmas.List.{map-append}
 use Rattle.std.proofs.lemmas.Option.{slice_get-map}
 use Rattle.std.specs.Prelude.{option_map}
 use Rattle.fp_base.proofs.Lists.{each_flat, each_weaker, of_item}
-use Rattle.fp_tables.specs.declared.component.Part.{Part}
-use Rattle.fp_tables.specs.declared.component.Part.TheVariants as part
+use Rattle.fp_tables.specs.declared.component.CommandPart.{CommandPart}
+use Rattle.fp_tables.specs.declared.component.CommandPart.TheVariants as part
 use Rattle.fp_written_parts.specs.declared.dictionary.WrittenEvent.{WrittenEvent}
 use Rattle.fp_written_parts.specs.declared.dictionary.WrittenChannel.{WrittenChannel}
 use Rattle.fp_written_parts.specs.declared.dictionary.WrittenParam.{WrittenParam}
@@ -212,16 +212,16 @@ pub param_at : (ms : List WrittenMember) (k : ℕ) (x : CommandHere) → slice_g
 param_at ms k x e = of_item (ParamHere zero (flat_map param_in ms)) (commands_from zero ms) k x (params_here zero ms) e
 
 -- what a command is of
-abbrev pub part_here : CommandHere → Part
+abbrev pub part_here : CommandHere → CommandPart
 part_here (written c) = part.Plain
 part_here (sets n p) = part.SetParam n
 part_here (saves n p) = part.SaveParam n
 
-abbrev pub set_by : Part → Option ℕ
+abbrev pub set_by : CommandPart → Option ℕ
 set_by (part.SetParam n) = Some n
 set_by _ = None
 
-abbrev pub saved_by : Part → Option ℕ
+abbrev pub saved_by : CommandPart → Option ℕ
 saved_by (part.SaveParam n) = Some n
 saved_by _ = None
 

@@ -3,7 +3,7 @@
 use Rattle.std.specs.Prelude.{◌≡◌, ℕ, ℤ, Bool, true, false, ◌&&◌, List, length, map, flat_map, slice_get, Option, Some, None}
 use Rattle.std.specs.List.{list_all}
 use Rattle.fp_base.specs.Names.{is_name}
-use Rattle.fp_base.specs.declared.format.Piece.{Piece}
+use Rattle.fp_base.specs.declared.format.FormatPiece.{FormatPiece}
 use Rattle.fp_base.specs.declared.value.Value.{Value, Int}
 use Rattle.fp_tables.specs.Components.{definition_of}
 use Rattle.fp_tables.specs.Formats.{agree}
@@ -102,7 +102,7 @@ HasFittingLimits types _ = Unit {0}
 
 -- the fields of the format are for the parameters
 abbrev pub FormatAgrees : List TypeDef → WrittenEvent → Type 0
-FormatAgrees types e = (parts : List Piece) → IsFormat e.format parts → agree types parts (formals_of e.formals) ≡ true
+FormatAgrees types e = (parts : List FormatPiece) → IsFormat e.format parts → agree types parts (formals_of e.formals) ≡ true
 
 abbrev pub HasAgreeingFormat : List TypeDef → WrittenMember → Type 0
 HasAgreeingFormat types (member.Event e) = FormatAgrees types e

@@ -3,27 +3,27 @@ ghost use Rattle.std.specs.List.{list_all};
 ghost use Rattle.fp_tables.specs.Formats.{suits, agree};
 ghost use Rattle.fp_tables.specs.Components.{agrees_with_formals};
 
-use fp_base::Piece;
+use fp_base::FormatPiece;
 use fp_sound_types::is_integer;
 use fp_tables::{Event, Formal, TypeDef};
 
 /// Whether a field may show a formal.
-fn suits(types: &[TypeDef], piece: &Piece, formal: &Formal) -> bool
+fn suits(types: &[TypeDef], piece: &FormatPiece, formal: &Formal) -> bool
     ensures { result ≡ suits types.now piece.now formal.now }
 {
     match piece {
-        Piece::Any => true,
+        FormatPiece::Any => true,
         _ => is_integer(types, formal.kind),
     }
 }
 
-fn agree(types: &[TypeDef], pieces: &[Piece], formals: &[Formal]) -> bool
+fn agree(types: &[TypeDef], pieces: &[FormatPiece], formals: &[Formal]) -> bool
     ensures { result ≡ agree types.now pieces.now formals.now }
 {
     let mut rest = formals.iter();
     for piece in pieces {
         match piece {
-            Piece::Plain(_) => {}
+            FormatPiece::Plain(_) => {}
             _ => match rest.next() {
                 Some(formal) => {
                     if !suits(types, piece, formal) {

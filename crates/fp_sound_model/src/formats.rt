@@ -3,7 +3,7 @@ ghost use Rattle.fp_base.specs.Formats.{doubled, spelled, are_whole};
 ghost use Rattle.fp_tables.specs.Formats.{is_plain};
 ghost use Rattle.fp_tables.specs.Components.{reads_its_format};
 
-use fp_base::{NoMemory, Piece, Row};
+use fp_base::{FormatPiece, NoMemory, Row};
 use fp_tables::Event;
 use std::alloc::Global;
 
@@ -17,7 +17,7 @@ pub fn reads_its_format(alloc: Global, event: &Event) -> Result<bool, NoMemory>
     Ok(spelled && are_whole(event.fields.parts.as_slice()))
 }
 
-fn write_pieces(pieces: &[Piece], out: &mut Row<u8>) -> Result<(), NoMemory>
+fn write_pieces(pieces: &[FormatPiece], out: &mut Row<u8>) -> Result<(), NoMemory>
     ensures { OnOk result (out.new ≡ out.old ++ flat_map spelled pieces.now) }
 {
     for piece in pieces {
@@ -26,16 +26,16 @@ fn write_pieces(pieces: &[Piece], out: &mut Row<u8>) -> Result<(), NoMemory>
     Ok(())
 }
 
-fn write_piece(piece: &Piece, out: &mut Row<u8>) -> Result<(), NoMemory>
+fn write_piece(piece: &FormatPiece, out: &mut Row<u8>) -> Result<(), NoMemory>
     ensures { OnOk result (out.new ≡ out.old ++ spelled piece.now) }
 {
     match piece {
-        Piece::Plain(text) => write_plain(text.as_bytes(), out),
-        Piece::Any => out.extend_from_slice(b"{}"),
-        Piece::Dec => out.extend_from_slice(b"{d}"),
-        Piece::Hex => out.extend_from_slice(b"{x}"),
-        Piece::Oct => out.extend_from_slice(b"{o}"),
-        Piece::Char => out.extend_from_slice(b"{c}"),
+        FormatPiece::Plain(text) => write_plain(text.as_bytes(), out),
+        FormatPiece::Any => out.extend_from_slice(b"{}"),
+        FormatPiece::Dec => out.extend_from_slice(b"{d}"),
+        FormatPiece::Hex => out.extend_from_slice(b"{x}"),
+        FormatPiece::Oct => out.extend_from_slice(b"{o}"),
+        FormatPiece::Char => out.extend_from_slice(b"{c}"),
     }
 }
 
@@ -58,13 +58,13 @@ fn write_doubled(byte: u8, out: &mut Row<u8>) -> Result<(), NoMemory>
 }
 
 /// Whether no text is empty, and no two texts stand side by side.
-fn are_whole(pieces: &[Piece]) -> bool
+fn are_whole(pieces: &[FormatPiece]) -> bool
     ensures { result ≡ are_whole false pieces.now }
 {
     let mut after_plain = false;
     for piece in pieces {
         match piece {
-            Piece::Plain(text) => {
+            FormatPiece::Plain(text) => {
                 if after_plain || text.len() == 0 {
                     return false;
                 }

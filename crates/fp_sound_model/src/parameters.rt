@@ -8,7 +8,7 @@ ghost use Rattle.fp_tables.specs.Components.{set_parameter, saved_parameter, are
 ghost use Rattle.fp_tables.specs.declared.component.Param.{Param};
 
 use fp_base::NoMemory;
-use fp_tables::{Command, Component, Param, Part, same_kind, set_of};
+use fp_tables::{Command, CommandPart, Component, Param, same_kind, set_of};
 use std::alloc::{AllocError, Global};
 use std::collections::BTreeSet;
 
@@ -16,7 +16,7 @@ fn set_parameter(command: &Command) -> Option<usize>
     ensures { result ≡ set_parameter command.now }
 {
     match command.part {
-        Part::SetParam(at) => Some(at as usize),
+        CommandPart::SetParam(at) => Some(at as usize),
         _ => None,
     }
 }
@@ -25,7 +25,7 @@ fn saved_parameter(command: &Command) -> Option<usize>
     ensures { result ≡ saved_parameter command.now }
 {
     match command.part {
-        Part::SaveParam(at) => Some(at as usize),
+        CommandPart::SaveParam(at) => Some(at as usize),
         _ => None,
     }
 }
@@ -89,15 +89,15 @@ fn takes_its_value(params: &[Param], command: &Command) -> bool
     ensures { result ≡ takes_its_value params.now command.now }
 {
     match command.part {
-        Part::Plain => true,
-        Part::SetParam(at) => match params.get(at as usize) {
+        CommandPart::Plain => true,
+        CommandPart::SetParam(at) => match params.get(at as usize) {
             Some(param) => match command.formals.as_slice() {
                 [formal] => same_kind(formal.kind, param.kind),
                 _ => false,
             },
             None => false,
         },
-        Part::SaveParam(_) => command.formals.len() == 0,
+        CommandPart::SaveParam(_) => command.formals.len() == 0,
     }
 }
 

@@ -7,8 +7,8 @@ ghost use Rattle.fp_tables.specs.declared.component.Running.{Running};
 ghost use Rattle.fp_tables.specs.Positions.{kind_lies, form_lies, formals_lie, port_def_lies, port_lies, part_lies, command_lies, event_lies, channel_lies, component_lies, named_lies, numbers_lie, step_lies, on_lies, node_lies, vertex_lies, machine_lies};
 
 use fp_tables::{
-    Channel, Command, Component, Event, Field, Form, Formal, Kind, Limit, Machine, Named, Node, On,
-    Param, Part, Port, PortDef, Running, Step, Vertex,
+    Channel, Command, CommandPart, Component, Event, Field, Form, Formal, Kind, Limit, Machine,
+    Named, Node, On, Param, Port, PortDef, Running, Step, Vertex,
 };
 
 fn kind_lies(kind: &Kind, types: usize) -> bool
@@ -64,12 +64,12 @@ fn port_lies(port: &Port, types: usize, ports: usize) -> bool
     formals_lie(port.formals.as_slice(), types) && of
 }
 
-fn part_lies(part: &Part, params: usize) -> bool
+fn part_lies(part: &CommandPart, params: usize) -> bool
     ensures { result ≡ part_lies params part.now }
 {
     match part {
-        Part::Plain => true,
-        Part::SetParam(at) | Part::SaveParam(at) => (*at as usize) < params,
+        CommandPart::Plain => true,
+        CommandPart::SetParam(at) | CommandPart::SaveParam(at) => (*at as usize) < params,
     }
 }
 

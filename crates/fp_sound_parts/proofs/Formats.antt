@@ -1,8 +1,8 @@
 -- The fields of the formats of events agree with the parameters, by the kinds that these have.
 use Rattle.std.proofs.Common.{◌≡◌, ℕ, suc, true, List, [], ◌∷◌, slice_get, Option, Some, refl, sym, ap, subst, ◌∙◌, inl}
 use Rattle.fp_base.proofs.Bools.{join}
-use Rattle.fp_base.specs.declared.format.Piece.{Piece}
-use Rattle.fp_base.specs.declared.format.Piece.TheVariants as piece
+use Rattle.fp_base.specs.declared.format.FormatPiece.{FormatPiece}
+use Rattle.fp_base.specs.declared.format.FormatPiece.TheVariants as piece
 use Rattle.fp_base.specs.declared.value.Value.{Value}
 use Rattle.fp_base.specs.Least.{IsUnbroken}
 use Rattle.fp_tree.specs.declared.source.Source.{Source}
@@ -48,13 +48,13 @@ use Rattle.fp_sound_components.specs.Ready.{HasAgreeingFormat, OfEachMember}
 use Rattle.fp_sound_parts.proofs.FormatsKinds.{integer_kind}
 
 -- a text is one list of pieces
-one_format : (text : List ℕ) (ps qs : List Piece) → IsFormat text ps → IsFormat text qs → ps ≡ qs
+one_format : (text : List ℕ) (ps qs : List FormatPiece) → IsFormat text ps → IsFormat text qs → ps ≡ qs
 one_format text ps qs h k =
     same_pieces ps qs h.whole k.whole (one_reading text _ _ (marks_of ps) (marks_of qs) (reads_format text ps h) (reads_format text qs k)).0
 
 module _ (source : Source) (types : List TypeDef) (scope : Path)
     (integer : (f : Formal) (g : WrittenFormal) → FormalIs source scope f g → (NamesNoInteger (items source) 256 scope f.of.form → ⊥) → is_integer types g.kind ≡ true) where
-  agrees : (ps : List Piece) (k : ℕ) (fs : List Formal) (gs : List WrittenFormal) → AllAt (λ position. FormalIs source scope) k fs gs
+  agrees : (ps : List FormatPiece) (k : ℕ) (fs : List Formal) (gs : List WrittenFormal) → AllAt (λ position. FormalIs source scope) k fs gs
       → Agree (λ (f : Formal). NamesNoInteger (items source) 256 scope f.of.form) ps fs → agree types ps (formals_of gs) ≡ true
   agrees [] k [] [] all h = refl
   agrees [] k [] (g ∷ gs) all h = absurd all
@@ -69,7 +69,7 @@ module _ (source : Source) (types : List TypeDef) (scope : Path)
   event_agrees : (e : Event) (w : WrittenEvent) → EventIs source scope e w → IsReadableEvent (items source) scope e → HasAgreeingFormat types (member.Event w)
   event_agrees e w is reads parts format =
       let same : parts ≡ reads.parts = one_format e.format.text parts reads.parts (subst (λ (text : List ℕ). IsFormat text parts) is.format format) reads.format in
-      ap (λ (ps : List Piece). agree types ps (formals_of w.formals)) same ∙ agrees reads.parts 0 e.formals w.formals is.formals reads.parameters
+      ap (λ (ps : List FormatPiece). agree types ps (formals_of w.formals)) same ∙ agrees reads.parts 0 e.formals w.formals is.formals reads.parameters
 
 -- in interfaces stand no events
 inner_agrees : (source : Source) (types : List TypeDef) (scope : Path) (of : InterfacePart) (m : WrittenMember) → MemberIs source scope (part_of of) m → HasAgreeingFormat types m

@@ -55,7 +55,7 @@ there (x ∷ xs) (suc k) low = there xs k (omega (arith, low))
 
 -- ---- positions
 
-one_machine_of : (i : Item) → among group.Machine (definitions_of i) ≡ length (all.machine_of i)
+one_machine_of : (i : Item) → among group.Machine (definitions_of i) ≡ length (all.machine_declared i)
 one_machine_of (item.Defined s) = of_definition s.scope s.definition
   where
     of_definition : (scope : Path) (d : Def) → among group.Machine (defined (group_of d) scope (name_of d) ∷ []) ≡ 0
@@ -79,7 +79,7 @@ one_machine_of (item.Used since n) = refl
 one_machine_of (item.Written since p) = refl
 
 pub machine_lies : (source : Source) (scope : Path) (q : Qual) (position : ℕ) → PositionIs source scope group.Machine q position → position < length (machines source)
-machine_lies = position_lies group.Machine all.machine_of one_machine_of
+machine_lies = position_lies group.Machine all.machine_declared one_machine_of
 
 -- ---- what is known of each machine
 
@@ -95,7 +95,7 @@ module _ (source : Source) (ts : List TypeDef) where
     placed : AreWellPlaced (elements_in s.node.behavior)
     unbroken : IsUnbroken (BrokenMachine ts source s.scope s.node)
 
-  machine_kept : (i : Item) → ItemKept i → AllByRecursion MachineKept (all.machine_of i)
+  machine_kept : (i : Item) → ItemKept i → AllByRecursion MachineKept (all.machine_declared i)
   machine_kept (item.Declared d) h = of_model d.scope d.definition h.names.own.0 h.names.parts h.ordered h.unbroken
     where
       of_model : (scope : Path) (m : ModelDef) → HasName scope (model_name m).text → HasNamedParts m → IsOrderedModel m → IsUnbroken (BrokenModel ts source scope m)
@@ -114,8 +114,8 @@ module _ (source : Source) (ts : List TypeDef) where
       (unbroken : IsUnbroken (MachinesBroken source)) where
     machines_kept : AllByRecursion MachineKept (machines source)
     machines_kept =
-        each_flat MachineKept all.machine_of (items source)
-        (each_weaker ItemKept (λ (i : Item). AllByRecursion MachineKept (all.machine_of i)) machine_kept (items source)
+        each_flat MachineKept all.machine_declared (items source)
+        (each_weaker ItemKept (λ (i : Item). AllByRecursion MachineKept (all.machine_declared i)) machine_kept (items source)
         (each_by_place ItemKept (items source)
         (λ k i at. record {
           names = of_item NamesHold (items source) k i (items_named source definitions parts) at;

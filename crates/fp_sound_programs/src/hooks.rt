@@ -2,7 +2,7 @@ ghost use Rattle.std.specs.Prelude.{◌≡◌};
 ghost use Rattle.fp_tables.specs.Lists.{some_and};
 ghost use Rattle.fp_tables.specs.Programs.{is_hooked, way_in, port_way, command_way, signal_way};
 
-use fp_tables::{Full, Part, Role, Tables, Way};
+use fp_tables::{CommandPart, Full, Role, Tables, Way};
 
 /// Whether what arrives in this way at a full queue runs a hook handler.
 pub fn is_hooked(way: &Way) -> bool
@@ -43,7 +43,7 @@ pub fn command_is_hooked(tables: &Tables, instance: u32, command: u32) -> bool
 {
     match tables.command(instance, command) {
         Some(command) => match command.part {
-            Part::Plain => is_hooked(&command.way),
+            CommandPart::Plain => is_hooked(&command.way),
             _ => false,
         },
         None => false,

@@ -5,11 +5,11 @@ use Rattle.std.proofs.lemmas.List.Sums.{sum_by-cons}
 use Rattle.fp_base.specs.declared.value.Value.{Value, Row_of-Value, more_of-Value, end_of-Value, items-the_row-Value, items_hidden-the_row-Value-0}
 use Rattle.fp_base.specs.declared.value.Value.TheViews.{Array, Struct}
 use Rattle.fp_base.specs.declared.value.Value.TheBlock as block
-use Rattle.fp_base.specs.declared.value.Part.{Part}
+use Rattle.fp_base.specs.declared.value.MemberValue.{MemberValue}
 use Rattle.fp_tables.specs.Types.{leaves, items_leaves, parts_leaves, levels, items_levels, parts_levels}
 use Rattle.fp_tables.proofs.Shaped.{items_of, parts_of}
 
-abbrev in_part : (Value → ℕ) → Part → ℕ
+abbrev in_part : (Value → ℕ) → MemberValue → ℕ
 in_part f p = f p.value
 
 module _ {A : Type 0} (f : A → ℕ) where
@@ -27,36 +27,36 @@ items_leaves_row : (n : _) (row : Row_of-Value n) → items_leaves row ≡ sum_b
 items_leaves_row n end_of-Value = refl
 items_leaves_row n (more_of-Value v row) = ap (λ k. leaves v + k) (items_leaves_row _ row) ∙ sym (sum_by-cons leaves v (items-the_row-Value _ row))
 
-parts_leaves_row : (n : _) (row : block.Row_of-Part n) → parts_leaves row ≡ sum_by (in_part leaves) (block.items-the_row-Part n row)
-parts_leaves_row n block.end_of-Part = refl
-parts_leaves_row n (block.more_of-Part m v row) =
-    ap (λ k. leaves v + k) (parts_leaves_row _ row) ∙ sym (sum_by-cons (in_part leaves) (record { name = m; value = v }) (block.items-the_row-Part _ row))
+parts_leaves_row : (n : _) (row : block.Row_of-MemberValue n) → parts_leaves row ≡ sum_by (in_part leaves) (block.items-the_row-MemberValue n row)
+parts_leaves_row n block.end_of-MemberValue = refl
+parts_leaves_row n (block.more_of-MemberValue m v row) =
+    ap (λ k. leaves v + k) (parts_leaves_row _ row) ∙ sym (sum_by-cons (in_part leaves) (record { name = m; value = v }) (block.items-the_row-MemberValue _ row))
 
 items_levels_row : (n : _) (row : Row_of-Value n) → items_levels row ≡ fold (λ most v. max most (levels v)) 0 (items-the_row-Value n row)
 items_levels_row n end_of-Value = refl
 items_levels_row n (more_of-Value v row) = ap (max (levels v)) (items_levels_row _ row) ∙ sym (most-cons levels v (items-the_row-Value _ row))
 
-parts_levels_row : (n : _) (row : block.Row_of-Part n) → parts_levels row ≡ fold (λ most p. max most (in_part levels p)) 0 (block.items-the_row-Part n row)
-parts_levels_row n block.end_of-Part = refl
-parts_levels_row n (block.more_of-Part m v row) =
-    ap (max (levels v)) (parts_levels_row _ row) ∙ sym (most-cons (in_part levels) (record { name = m; value = v }) (block.items-the_row-Part _ row))
+parts_levels_row : (n : _) (row : block.Row_of-MemberValue n) → parts_levels row ≡ fold (λ most p. max most (in_part levels p)) 0 (block.items-the_row-MemberValue n row)
+parts_levels_row n block.end_of-MemberValue = refl
+parts_levels_row n (block.more_of-MemberValue m v row) =
+    ap (max (levels v)) (parts_levels_row _ row) ∙ sym (most-cons (in_part levels) (record { name = m; value = v }) (block.items-the_row-MemberValue _ row))
 
 pub array_leaves : (items : List Value) → leaves (Array items) ≡ max 1 (sum_by leaves items)
 array_leaves items =
     let row = items_of (Array items) in
     ap (max 1) (items_leaves_row row.0 row.1 ∙ ap (sum_by leaves) (items_hidden-the_row-Value-0 items))
 
-pub struct_leaves : (parts : List Part) → leaves (Struct parts) ≡ max 1 (sum_by (λ (p : Part). leaves p.value) parts)
+pub struct_leaves : (parts : List MemberValue) → leaves (Struct parts) ≡ max 1 (sum_by (λ (p : MemberValue). leaves p.value) parts)
 struct_leaves parts =
     let row = parts_of (Struct parts) in
-    ap (max 1) (parts_leaves_row row.0 row.1 ∙ ap (sum_by (in_part leaves)) (block.items_hidden-the_row-Part-1 parts))
+    ap (max 1) (parts_leaves_row row.0 row.1 ∙ ap (sum_by (in_part leaves)) (block.items_hidden-the_row-MemberValue-1 parts))
 
 pub array_levels : (items : List Value) → levels (Array items) ≡ suc (fold (λ most v. max most (levels v)) 0 items)
 array_levels items =
     let row = items_of (Array items) in
     ap suc (items_levels_row row.0 row.1 ∙ ap (fold (λ most v. max most (levels v)) 0) (items_hidden-the_row-Value-0 items))
 
-pub struct_levels : (parts : List Part) → levels (Struct parts) ≡ suc (fold (λ most (p : Part). max most (levels p.value)) 0 parts)
+pub struct_levels : (parts : List MemberValue) → levels (Struct parts) ≡ suc (fold (λ most (p : MemberValue). max most (levels p.value)) 0 parts)
 struct_levels parts =
     let row = parts_of (Struct parts) in
-    ap suc (parts_levels_row row.0 row.1 ∙ ap (fold (λ most p. max most (in_part levels p)) 0) (block.items_hidden-the_row-Part-1 parts))
+    ap suc (parts_levels_row row.0 row.1 ∙ ap (fold (λ most p. max most (in_part levels p)) 0) (block.items_hidden-the_row-MemberValue-1 parts))

@@ -1,9 +1,9 @@
 ghost use Rattle.std.specs.Prelude.{◌≡◌, min, max};
 ghost use Rattle.std.specs.List.{fold, sum_by};
-ghost use Rattle.fp_base.specs.declared.value.Part.{Part};
+ghost use Rattle.fp_base.specs.declared.value.MemberValue.{MemberValue};
 ghost use Rattle.fp_tables.specs.Types.{leaves, levels, is_of_size};
 
-use fp_base::{Part, Value};
+use fp_base::{MemberValue, Value};
 
 /// The first number of leaves that a value may not have.
 const MANY_LEAVES: u32 = 65_537;
@@ -35,8 +35,8 @@ fn items_leaves(items: &[Value]) -> u32
 }
 
 #[cycle(leaves)]
-fn parts_leaves(parts: &[Part]) -> u32
-    ensures { result ≡ min (sum_by (λ (part : Part). leaves part.value) parts.now) 65537 }
+fn parts_leaves(parts: &[MemberValue]) -> u32
+    ensures { result ≡ min (sum_by (λ (part : MemberValue). leaves part.value) parts.now) 65537 }
 {
     let mut count = 0;
     for part in parts {
@@ -69,8 +69,8 @@ fn items_levels(items: &[Value]) -> u32
 }
 
 #[cycle(levels)]
-fn parts_levels(parts: &[Part]) -> u32
-    ensures { result ≡ min (fold (λ most (part : Part). max most (levels part.value)) 0 parts.now) 65 }
+fn parts_levels(parts: &[MemberValue]) -> u32
+    ensures { result ≡ min (fold (λ most (part : MemberValue). max most (levels part.value)) 0 parts.now) 65 }
 {
     let mut most = 0;
     for part in parts {

@@ -8,7 +8,7 @@ ghost use Rattle.fp_tables.specs.Types.{part_has};
 ghost use Rattle.fp_tables.specs.declared.kind.Constant.{Constant};
 
 use crate::shapes::{Shape, member_shape, shape_of};
-use fp_base::{Part, Value};
+use fp_base::{MemberValue, Value};
 use fp_tables::{Constant, Field, Kind, TypeDef};
 
 /// Whether a value is one of the type.
@@ -55,7 +55,7 @@ fn items_have(items: &[Value], types: &[TypeDef], shape: &Shape) -> bool
 }
 
 #[cycle(has)]
-fn parts_have(parts: &[Part], types: &[TypeDef], fields: &[Field]) -> bool
+fn parts_have(parts: &[MemberValue], types: &[TypeDef], fields: &[Field]) -> bool
     ensures { result ≡ all_beside (part_has types.now) fields.now parts.now }
 {
     if parts.len() != fields.len() {
@@ -70,7 +70,7 @@ fn parts_have(parts: &[Part], types: &[TypeDef], fields: &[Field]) -> bool
 }
 
 #[cycle(has)]
-fn part_has(part: &Part, types: &[TypeDef], field: &Field) -> bool
+fn part_has(part: &MemberValue, types: &[TypeDef], field: &Field) -> bool
     ensures { result ≡ part_has types.now field.now part.now }
 {
     let shape = member_shape(types, field);

@@ -3,7 +3,7 @@ use Rattle.std.proofs.Common.{◌≡◌, ℕ, zero, suc, ◌<◌, ℤ, List, fla
 use Rattle.std.proofs.lemmas.List.{length-map}
 use Rattle.std.proofs.lemmas.Option.{slice_get_within}
 use Rattle.fp_base.specs.declared.value.Value.{Value}
-use Rattle.fp_base.specs.declared.format.Piece.{Piece}
+use Rattle.fp_base.specs.declared.format.FormatPiece.{FormatPiece}
 use Rattle.fp_base.specs.Least.{IsUnbroken}
 use Rattle.fp_formats.specs.Spelling.{IsFormat}
 use Rattle.fp_tree.specs.declared.source.Source.{Source}
@@ -167,7 +167,7 @@ module _ (source : Source) (ws : List WrittenType) (types : List TypeDef) (w : W
     all_given : AreTypesGiven ws (map (λ (d : TypeDef). Some d) types)
     all_given = subst (λ (l : List WrittenType). AreTypesGiven l (map (λ (d : TypeDef). Some d) types)) (one_list source given.written ws given.are written) given.types
 
-    event_reads : (scope : Path) (e : Event) → IsPart source scope (part.Event e) → (parts : List Piece) × IsFormat e.format.text parts
+    event_reads : (scope : Path) (e : Event) → IsPart source scope (part.Event e) → (parts : List FormatPiece) × IsFormat e.format.text parts
     event_reads scope e h =
         let r = readable h.at (item.Declared (declaration h.outside (component h.whole))) h.here h.place (part.Event e) h.there in
         (r.parts, r.format)

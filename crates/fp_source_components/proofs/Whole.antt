@@ -5,7 +5,7 @@ use Rattle.std.proofs.lemmas.Int.{ints}
 use Rattle.std.specs.List.{AllByRecursion as Each}
 use Rattle.fp_base.proofs.Bools.{join}
 use Rattle.fp_base.proofs.Lists.{each_before, each_behind}
-use Rattle.fp_base.specs.declared.format.Piece.{Piece}
+use Rattle.fp_base.specs.declared.format.FormatPiece.{FormatPiece}
 use Rattle.fp_base.specs.declared.rule.Rule.{Rule}
 use Rattle.fp_base.specs.declared.value.Value.{Value}
 use Rattle.fp_base.specs.Least.{ByOptional, IsUnbroken}
@@ -159,7 +159,7 @@ default_stands source scope p h =
     (each_before (Stands source) (type_items 0 scope p.of ++ value_items scope p.default ++ value_items scope p.id ++ value_items scope p.set) (value_items scope p.save) h)))
 
 module _ (source : Source) (ws : List WrittenType) (types : List TypeDef) (definitions : List WrittenPortDef)
-    (event_reads : (scope : Path) (e : Event) → IsPart source scope (part.Event e) → (parts : List Piece) × IsFormat e.format.text parts)
+    (event_reads : (scope : Path) (e : Event) → IsPart source scope (part.Event e) → (parts : List FormatPiece) × IsFormat e.format.text parts)
     (kind_default : (scope : Path) (p : ParamDef) (k : Kind) → KindIs source scope p.of.form k → (v : Value) × DefaultIs ws k v)
     (converts : (scope : Path) (p : ParamDef) (e : Expr) (v : Value) (k : Kind) → IsPart source scope (part.Param p) → p.default ≡ Some e → Val source scope (opened e) v → KindIs source scope p.of.form k
     → (made : Value) × Converts ws v k made) where

@@ -18,13 +18,13 @@ abbrev pub machine_in : Path → ModelDef → List (Scoped Machine)
 machine_in scope (machine d) = scoped scope d ∷ []
 machine_in scope _ = []
 
-abbrev pub machine_of : Item → List (Scoped Machine)
-machine_of (item.Declared d) = machine_in d.scope d.definition
-machine_of _ = []
+abbrev pub machine_declared : Item → List (Scoped Machine)
+machine_declared (item.Declared d) = machine_in d.scope d.definition
+machine_declared _ = []
 
 -- in source order: a state machine is named by its position here
 abbrev pub machines : Source → List (Scoped Machine)
-machines source = flat_map machine_of (items source)
+machines source = flat_map machine_declared (items source)
 
 -- its body is written elsewhere
 abbrev pub is_outside : Scoped Machine → Bool

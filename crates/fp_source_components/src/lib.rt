@@ -6,4 +6,4 @@ mod outside;
 mod parts;
 
 pub use laws::{parts_are_least, unbroken_components_are_whole};
-pub use parts::{Found, Parts, parts_of};
+pub use parts::{Parts, PartsFound, parts_of};

@@ -1,5 +1,5 @@
 ghost use Rattle.std.specs.Prelude.{◌≡◌, ◌++◌, IfOk, OnOk, flat_map, map};
-ghost use Rattle.fp_source_components.specs.Machines.{is_outside, machine_in, machine_of};
+ghost use Rattle.fp_source_components.specs.Machines.{is_outside, machine_in, machine_declared};
 
 use fp_base::NoMemory;
 use fp_meaning::{Declared, Item, ModelDef};
@@ -7,7 +7,7 @@ use std::alloc::Global;
 
 /// Of each state machine among items whether its body is written elsewhere.
 pub fn externals_in(alloc: Global, items: &[Item]) -> Result<Vec<bool>, NoMemory>
-    ensures { IfOk result (λ externals. externals.items ≡ map is_outside (flat_map machine_of items.now)) }
+    ensures { IfOk result (λ externals. externals.items ≡ map is_outside (flat_map machine_declared items.now)) }
 {
     let mut externals = Vec::new(alloc);
     for item in items {
@@ -17,7 +17,7 @@ pub fn externals_in(alloc: Global, items: &[Item]) -> Result<Vec<bool>, NoMemory
 }
 
 fn note_item(item: &Item, externals: &mut Vec<bool>) -> Result<(), NoMemory>
-    ensures { OnOk result (externals.new.items ≡ externals.old.items ++ map is_outside (machine_of item.now)) }
+    ensures { OnOk result (externals.new.items ≡ externals.old.items ++ map is_outside (machine_declared item.now)) }
 {
     match item {
         Item::Defined(_) => Ok(()),

@@ -12,7 +12,7 @@ ghost use Rattle.fp_source_types.specs.Measured.{IsMeasured};
 ghost use Rattle.fp_tables.specs.Positions.{component_is_short};
 ghost use Rattle.fp_source_components.specs.Broken.{BrokenBy, PartsBroken};
 ghost use Rattle.fp_source_components.specs.Built.{ArePartsOf};
-ghost use Rattle.fp_source_components.specs.Machines.{InstancesBroken, is_outside, machine_of};
+ghost use Rattle.fp_source_components.specs.Machines.{InstancesBroken, is_outside, machine_declared};
 ghost use Rattle.fp_source_components.specs.Valued.{IsValued};
 
 use crate::laws::{
@@ -41,7 +41,7 @@ pub struct Parts {
 
 /// What is found of the ports and components of a source that breaks no rule of these.
 #[derive(Drop)]
-pub struct Found {
+pub struct PartsFound {
     pub parts: Parts,
     /// The least rule that instances of state machines break, if they break one.
     pub running: Option<Refusal>,
@@ -56,7 +56,7 @@ pub fn parts_of(
     values: &[Option<Value>],
     measured: &Measured,
     types: &[TypeDef],
-) -> Result<Found, Stop>
+) -> Result<PartsFound, Stop>
     requires laid { items.now ≡ layout.items source.now }
     requires measured { IsMeasured measured.now }
     requires valued { IsValued source.now values.now measured.now.resolutions measured.now.written types.now }
@@ -79,7 +79,7 @@ pub fn parts_of(
         None => {
             let parts = built(alloc, measured, &written)?;
             let running = instances_fault(alloc, items, &written)?;
-            Ok(Found { parts, running })
+            Ok(PartsFound { parts, running })
         }
     }
 }
@@ -110,7 +110,7 @@ fn instances_fault(
     items: &[Item],
     written: &WrittenSource,
 ) -> Result<Option<Refusal>, NoMemory>
-    ensures { IfOk result (IsLeast (InSome (λ (k : ℕ). RunningBroken (map is_outside (flat_map machine_of items.now))) written.now.components)) }
+    ensures { IfOk result (IsLeast (InSome (λ (k : ℕ). RunningBroken (map is_outside (flat_map machine_declared items.now))) written.now.components)) }
 {
     let externals = externals_in(alloc, items)?;
     running_faults(alloc, &externals, written.components.as_slice())

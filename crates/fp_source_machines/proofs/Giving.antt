@@ -20,7 +20,7 @@ use Rattle.fp_type_forms.specs.Written.{AllAt}
 use Rattle.fp_type_forms.proofs.Adding.{parts_resolved}
 use Rattle.fp_type_forms.proofs.Only.{all_joined}
 use Rattle.fp_component_forms.specs.Taken.{row_of}
-use Rattle.fp_source_components.specs.Machines.{machine_in, machine_of}
+use Rattle.fp_source_components.specs.Machines.{machine_in, machine_declared}
 use Rattle.fp_source_machines.specs.Built.{AreMachinesOf, IsMachine}
 
 flat_next : {A B : Type 0} (f : A → List B) (xs : List A) (k : ℕ) (x : A) → slice_get xs k ≡ Some x → flat_map f (take (k + 1) xs) ≡ flat_map f (take k xs) ++ f x
@@ -34,7 +34,7 @@ all_short (x ∷ xs) ys h k = let parts = both (machine_is_short x) _ h in join 
 module _ (marks : List (Option Value)) (rs : List Resolution) where
   -- what an item gives, whose parts are read from a place on
   abbrev pub GivesMachine : ℕ → Item → Option Machine → Type 0
-  GivesMachine start i one = (source : Source) → AreResolved source marks rs (parts_of_item i) start → AllAt (λ position. IsMachine source) 0 (machine_of i) (row_of one)
+  GivesMachine start i one = (source : Source) → AreResolved source marks rs (parts_of_item i) start → AllAt (λ position. IsMachine source) 0 (machine_declared i) (row_of one)
 
   pub given_by : (start : ℕ) (i j : Item) (one : Option Machine) → i ≡ j → GivesMachine start j one → GivesMachine start i one
   given_by start i j one is h = subst (λ (x : Item). GivesMachine start x one) (sym is) h
@@ -47,7 +47,7 @@ module _ (marks : List (Option Value)) (rs : List Resolution) where
 
   module _ (is : List Item) where
     abbrev pub GiveFirst : ℕ → List Machine → Type 0
-    GiveFirst k ms = (source : Source) → is ≡ items source → AreResolved source marks rs is 0 → AllAt (λ position. IsMachine source) 0 (flat_map machine_of (take k is)) ms
+    GiveFirst k ms = (source : Source) → is ≡ items source → AreResolved source marks rs is 0 → AllAt (λ position. IsMachine source) 0 (flat_map machine_declared (take k is)) ms
 
     -- of the first items, and none has a list that is too long
     pub record AreGiven (k : ℕ) (ms : List Machine) : Type 0 where
@@ -64,13 +64,13 @@ module _ (marks : List (Option Value)) (rs : List Resolution) where
         → GivesMachine (k + 1) i one → list_all machine_is_short (row_of one) ≡ true → AreGiven (k + 1) new
     next_given k i old new one at made before here short = record {
       given = λ source laid h.
-          subst (λ l. AllAt (λ position. IsMachine source) 0 l new) (sym (flat_next machine_of is k i at))
-          (subst (λ (l : List Machine). AllAt (λ position. IsMachine source) 0 (flat_map machine_of (take k is) ++ machine_of i) l) (sym made)
-          (all_joined (IsMachine source) 0 0 (flat_map machine_of (take k is)) (machine_of i) old (row_of one) (before.given source laid h)
+          subst (λ l. AllAt (λ position. IsMachine source) 0 l new) (sym (flat_next machine_declared is k i at))
+          (subst (λ (l : List Machine). AllAt (λ position. IsMachine source) 0 (flat_map machine_declared (take k is) ++ machine_declared i) l) (sym made)
+          (all_joined (IsMachine source) 0 0 (flat_map machine_declared (take k is)) (machine_declared i) old (row_of one) (before.given source laid h)
           (here source (parts_resolved source marks rs is k i laid at h))));
       short = ap (list_all machine_is_short) made ∙ all_short old (row_of one) before.short short;
     }
 
     pub all_given : (k : ℕ) (ms : List Machine) → length is ≤ k → GiveFirst k ms → (source : Source) → is ≡ items source → AreResolved source marks rs is 0 → AreMachinesOf source ms
     all_given k ms past h source laid resolved =
-        subst (λ (l : List Item). AllAt (λ position. IsMachine source) 0 (flat_map machine_of l) ms) (take_all k is past ∙ laid) (h source laid resolved)
+        subst (λ (l : List Item). AllAt (λ position. IsMachine source) 0 (flat_map machine_declared l) ms) (take_all k is past ∙ laid) (h source laid resolved)

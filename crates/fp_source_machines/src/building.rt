@@ -9,7 +9,7 @@ ghost use Rattle.fp_type_forms.specs.Resolved.{AreResolved, parts_of_item};
 ghost use Rattle.fp_type_forms.specs.Written.{AllAt};
 ghost use Rattle.fp_component_forms.specs.Taken.{row_of};
 ghost use Rattle.fp_component_forms.specs.Written.{qualified, scoped};
-ghost use Rattle.fp_source_components.specs.Machines.{machine_in, machine_of as those_of};
+ghost use Rattle.fp_source_components.specs.Machines.{machine_in, machine_declared as those_of};
 ghost use Rattle.fp_source_machines.specs.Built.{AreMachinesOf, IsMachine};
 
 use crate::kinds::kinds_in;

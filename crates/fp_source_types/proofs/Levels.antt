@@ -9,7 +9,7 @@ use Rattle.fp_base.proofs.Bools.{join}
 use Rattle.fp_base.specs.declared.value.Value.{Value, Int, Bool as Truth, Text, Enumerated, Array', Struct', Opaque, Row_of-Value, more_of-Value, end_of-Value, items-the_row-Value, items_hidden-the_row-Value-0}
 use Rattle.fp_base.specs.declared.value.Value.TheViews.{Array, Struct}
 use Rattle.fp_base.specs.declared.value.Value.TheBlock as block
-use Rattle.fp_base.specs.declared.value.Part.{Part}
+use Rattle.fp_base.specs.declared.value.MemberValue.{MemberValue}
 use Rattle.fp_tree.specs.declared.source.Source.{Source}
 use Rattle.fp_tree.specs.declared.expression.Expr.{Expr}
 use Rattle.fp_tree.specs.declared.expression.Assignment.{Assignment}
@@ -46,9 +46,9 @@ abbrev items_of : Value → (n : Count) × Row_of-Value n
 items_of (Array' _ row) = (_, row)
 items_of _ = (_, end_of-Value)
 
-abbrev parts_of : Value → (n : Count) × block.Row_of-Part n
+abbrev parts_of : Value → (n : Count) × block.Row_of-MemberValue n
 parts_of (Struct' _ row) = (_, row)
-parts_of _ = (_, block.end_of-Part)
+parts_of _ = (_, block.end_of-MemberValue)
 
 items_total : (n : _) (row : Row_of-Value n) → items_leaves row ≡ total (map leaves (items-the_row-Value n row))
 items_total n end_of-Value = refl
@@ -58,13 +58,13 @@ items_deepest : (n : _) (row : Row_of-Value n) → items_levels row ≡ deepest 
 items_deepest n end_of-Value = refl
 items_deepest n (more_of-Value v row) = ap (λ (m : ℕ). max (levels v) m) (items_deepest _ row)
 
-parts_total : (n : _) (row : block.Row_of-Part n) → parts_leaves row ≡ total (map (λ (p : Part). leaves p.value) (block.items-the_row-Part n row))
-parts_total n block.end_of-Part = refl
-parts_total n (block.more_of-Part m v row) = ap (λ (k : ℕ). leaves v + k) (parts_total _ row)
+parts_total : (n : _) (row : block.Row_of-MemberValue n) → parts_leaves row ≡ total (map (λ (p : MemberValue). leaves p.value) (block.items-the_row-MemberValue n row))
+parts_total n block.end_of-MemberValue = refl
+parts_total n (block.more_of-MemberValue m v row) = ap (λ (k : ℕ). leaves v + k) (parts_total _ row)
 
-parts_deepest : (n : _) (row : block.Row_of-Part n) → parts_levels row ≡ deepest (map (λ (p : Part). levels p.value) (block.items-the_row-Part n row))
-parts_deepest n block.end_of-Part = refl
-parts_deepest n (block.more_of-Part m v row) = ap (λ (k : ℕ). max (levels v) k) (parts_deepest _ row)
+parts_deepest : (n : _) (row : block.Row_of-MemberValue n) → parts_levels row ≡ deepest (map (λ (p : MemberValue). levels p.value) (block.items-the_row-MemberValue n row))
+parts_deepest n block.end_of-MemberValue = refl
+parts_deepest n (block.more_of-MemberValue m v row) = ap (λ (k : ℕ). max (levels v) k) (parts_deepest _ row)
 
 list_leaves : (vs : List Value) → leaves (Array vs) ≡ max 1 (total (map leaves vs))
 list_leaves vs =
@@ -76,19 +76,19 @@ list_levels vs =
     let row = items_of (Array vs) in
     ap suc (items_deepest row.0 row.1 ∙ ap (λ (xs : List Value). deepest (map levels xs)) (items_hidden-the_row-Value-0 vs))
 
-record_leaves : (ps : List Part) → leaves (Struct ps) ≡ max 1 (total (map (λ (p : Part). leaves p.value) ps))
+record_leaves : (ps : List MemberValue) → leaves (Struct ps) ≡ max 1 (total (map (λ (p : MemberValue). leaves p.value) ps))
 record_leaves ps =
     let row = parts_of (Struct ps) in
-    ap (λ (n : ℕ). max 1 n) (parts_total row.0 row.1 ∙ ap (λ (xs : List Part). total (map (λ (p : Part). leaves p.value) xs)) (block.items_hidden-the_row-Part-1 ps))
+    ap (λ (n : ℕ). max 1 n) (parts_total row.0 row.1 ∙ ap (λ (xs : List MemberValue). total (map (λ (p : MemberValue). leaves p.value) xs)) (block.items_hidden-the_row-MemberValue-1 ps))
 
-record_levels : (ps : List Part) → levels (Struct ps) ≡ suc (deepest (map (λ (p : Part). levels p.value) ps))
+record_levels : (ps : List MemberValue) → levels (Struct ps) ≡ suc (deepest (map (λ (p : MemberValue). levels p.value) ps))
 record_levels ps =
     let row = parts_of (Struct ps) in
-    ap suc (parts_deepest row.0 row.1 ∙ ap (λ (xs : List Part). deepest (map (λ (p : Part). levels p.value) xs)) (block.items_hidden-the_row-Part-1 ps))
+    ap suc (parts_deepest row.0 row.1 ∙ ap (λ (xs : List MemberValue). deepest (map (λ (p : MemberValue). levels p.value) xs)) (block.items_hidden-the_row-MemberValue-1 ps))
 
 -- the values of members are those that stand there
 members_mapped : {source : Source} {scope : Path} (f : Value → ℕ) (ms : List Assignment) (vs : List Value) → Vals source scope (values_in ms) vs
-    → map (λ (p : Part). f p.value) (parts_with ms vs) ≡ map f vs
+    → map (λ (p : MemberValue). f p.value) (parts_with ms vs) ≡ map f vs
 members_mapped f [] [] h = refl
 members_mapped f [] (v ∷ vs) h = elim h [ ]
 members_mapped f (m ∷ ms) [] h = elim h [ ]

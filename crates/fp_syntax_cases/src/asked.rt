@@ -6,7 +6,7 @@ use crate::grammar::{
 use crate::parsed_components::{component, copied_component, copied_interface, interface};
 use crate::tokens::tokens;
 use fp_base::{NoMemory, Stop, Text};
-use fp_case_texts::{Case, refused};
+use fp_case_texts::{Asked, Case, refused};
 use std::alloc::Global;
 
 /// What tokens, expressions, definitions, machines and files are; None where there is no such question.
@@ -61,16 +61,21 @@ fn told(alloc: Global, answer: Result<Text, Stop>) -> Result<Text, NoMemory> {
     }
 }
 
-/// What comes of a question: an answer, or the rule that is broken, and where.
-pub fn answer(alloc: Global, case: &Case, question: &str) -> Result<Text, NoMemory> {
-    if let Some(answer) = of_source(alloc, case, question) {
-        return told(alloc, answer);
+/// The questions that this program knows.
+#[derive(Clone, Copy)]
+pub struct Questions;
+
+impl Asked for Questions {
+    fn answer(&self, alloc: Global, case: &Case, question: &str) -> Result<Text, NoMemory> {
+        if let Some(answer) = of_source(alloc, case, question) {
+            return told(alloc, answer);
+        }
+        if let Some(answer) = of_topologies(alloc, case, question) {
+            return told(alloc, answer);
+        }
+        if let Some(answer) = of_component(alloc, case, question) {
+            return told(alloc, answer);
+        }
+        Text::from_str(alloc, "no such question")
     }
-    if let Some(answer) = of_topologies(alloc, case, question) {
-        return told(alloc, answer);
-    }
-    if let Some(answer) = of_component(alloc, case, question) {
-        return told(alloc, answer);
-    }
-    Text::from_str(alloc, "no such question")
 }

@@ -7,7 +7,7 @@ use mathlib.Core.Former.{Count}
 use Rattle.fp_base.specs.declared.value.Value.{Value, Array', Struct', Row_of-Value, more_of-Value, end_of-Value, items-the_row-Value, items_hidden-the_row-Value-0}
 use Rattle.fp_base.specs.declared.value.Value.TheViews.{Array, Struct}
 use Rattle.fp_base.specs.declared.value.Value.TheBlock as block
-use Rattle.fp_base.specs.declared.value.Part.{Part}
+use Rattle.fp_base.specs.declared.value.MemberValue.{MemberValue}
 use Rattle.fp_tables.specs.Lists.{all_beside}
 use Rattle.fp_tables.specs.Types.{Shape, array, struct, shape, member_shape, has, items_have, parts_have, part_has}
 use Rattle.fp_tables.specs.declared.kind.Kind.{Kind}
@@ -18,9 +18,9 @@ abbrev pub items_of : Value → (n : Count) × Row_of-Value n
 items_of (Array' _ row) = (_, row)
 items_of _ = (_, end_of-Value)
 
-abbrev pub parts_of : Value → (n : Count) × block.Row_of-Part n
+abbrev pub parts_of : Value → (n : Count) × block.Row_of-MemberValue n
 parts_of (Struct' _ row) = (_, row)
-parts_of _ = (_, block.end_of-Part)
+parts_of _ = (_, block.end_of-MemberValue)
 
 none_of : (n : ℕ) (b : Bool) → (eqb (suc n) 0 && b) ≡ false
 none_of n b = grind (arith, nat_tests)
@@ -47,18 +47,18 @@ module _ (types : List TypeDef) where
       first (has types s v) _ (eqb (length items) size) (list_all (has types s) items) (items_row size s _ row)
       ∙ sym (one_more (length items) size (has types s v && list_all (has types s) items))
 
-  parts_row : (fields : List Field) (n : _) (row : block.Row_of-Part n) → parts_have types fields row ≡ all_beside (part_has types) fields (block.items-the_row-Part n row)
-  parts_row [] n block.end_of-Part = refl
-  parts_row [] n (block.more_of-Part m v row) = refl
-  parts_row (f ∷ fields) n block.end_of-Part = refl
-  parts_row (f ∷ fields) n (block.more_of-Part m v row) = ap (λ b. (bytes_eq m f.name && has types (member_shape types f) v) && b) (parts_row fields _ row)
+  parts_row : (fields : List Field) (n : _) (row : block.Row_of-MemberValue n) → parts_have types fields row ≡ all_beside (part_has types) fields (block.items-the_row-MemberValue n row)
+  parts_row [] n block.end_of-MemberValue = refl
+  parts_row [] n (block.more_of-MemberValue m v row) = refl
+  parts_row (f ∷ fields) n block.end_of-MemberValue = refl
+  parts_row (f ∷ fields) n (block.more_of-MemberValue m v row) = ap (λ b. (bytes_eq m f.name && has types (member_shape types f) v) && b) (parts_row fields _ row)
 
   pub array_has : (size : ℕ) (k : Kind) (items : List Value) → has types (array size k) (Array items) ≡ (eqb (length items) size && list_all (has types (shape types k)) items)
   array_has size k items =
       let row = items_of (Array items) in
       items_row size (shape types k) row.0 row.1 ∙ ap (λ (vs : List Value). eqb (length vs) size && list_all (has types (shape types k)) vs) (items_hidden-the_row-Value-0 items)
 
-  pub struct_has : (fields : List Field) (parts : List Part) → has types (struct fields) (Struct parts) ≡ all_beside (part_has types) fields parts
+  pub struct_has : (fields : List Field) (parts : List MemberValue) → has types (struct fields) (Struct parts) ≡ all_beside (part_has types) fields parts
   struct_has fields parts =
       let row = parts_of (Struct parts) in
-      parts_row fields row.0 row.1 ∙ ap (λ (ps : List Part). all_beside (part_has types) fields ps) (block.items_hidden-the_row-Part-1 parts)
+      parts_row fields row.0 row.1 ∙ ap (λ (ps : List MemberValue). all_beside (part_has types) fields ps) (block.items_hidden-the_row-MemberValue-1 parts)

@@ -14,8 +14,8 @@ use Rattle.fp_tables.specs.declared.kind.PortDef.{PortDef}
 use Rattle.fp_tables.specs.declared.component.Full.TheVariants.{Hook}
 use Rattle.fp_tables.specs.declared.component.Way.{Way}
 use Rattle.fp_tables.specs.declared.component.Way.TheVariants.{Later}
-use Rattle.fp_tables.specs.declared.component.Part.{Part}
-use Rattle.fp_tables.specs.declared.component.Part.TheVariants.{Plain}
+use Rattle.fp_tables.specs.declared.component.CommandPart.{CommandPart}
+use Rattle.fp_tables.specs.declared.component.CommandPart.TheVariants.{Plain}
 use Rattle.fp_tables.specs.declared.component.Special.TheVariants.{CmdRecv, CmdResp}
 use Rattle.fp_tables.specs.declared.component.Role.{Role}
 use Rattle.fp_tables.specs.declared.component.Role.TheVariants as role
@@ -72,7 +72,7 @@ way_in (role.Internal way) = Some way
 way_in _ = None
 
 -- of a command that is written in its component: an implied one isn't put into the queue
-abbrev pub way_written : Way → Part → Option Way
+abbrev pub way_written : Way → CommandPart → Option Way
 way_written way Plain = Some way
 way_written way _ = None
 

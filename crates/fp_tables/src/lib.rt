@@ -18,8 +18,8 @@ mod waiting;
 
 pub use bindings::Bound;
 pub use component::{
-    Channel, Command, Component, Event, Full, Limit, Param, Part, Port, Queueing, Role, Running,
-    Special, Way,
+    Channel, Command, CommandPart, Component, Event, Full, Limit, Param, Port, Queueing, Role,
+    Running, Special, Way,
 };
 pub use distinct::{all_differ, numbers_differ, set_of};
 pub use kind::{Constant, Field, Form, Formal, Kind, PortDef, TypeDef};

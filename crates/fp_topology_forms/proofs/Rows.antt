@@ -18,19 +18,19 @@ use Rattle.fp_written_topologies.specs.declared.topology.ImportedTopology.{Impor
 use Rattle.fp_written_topologies.specs.declared.topology.MemberInstance.{MemberInstance}
 use Rattle.fp_written_topologies.specs.declared.topology.WrittenConnection.{WrittenConnection}
 use Rattle.fp_written_topologies.specs.declared.topology.WrittenPattern.{WrittenPattern}
-use Rattle.fp_topology_forms.specs.declared.members.Members.{Members}
+use Rattle.fp_topology_forms.specs.declared.members.MembersTaken.{MembersTaken}
 use Rattle.fp_topology_forms.specs.Taken.{AreWithMember, MembersAre, no_members}
 use Rattle.fp_topology_forms.specs.Written.{ConnectionIs, ImportIs, MemberInstanceIs, PatternIs, connections_in, imports_in, patterns_in, uses_in}
 use Rattle.fp_topology_forms.proofs.Growing.{row_more, row_same}
 
-abbrev pub members : List MemberInstance → List ImportedTopology → List WrittenConnection → List WrittenPattern → Members
+abbrev pub members : List MemberInstance → List ImportedTopology → List WrittenConnection → List WrittenPattern → MembersTaken
 members is ts cs ps = record { instances = is; imports = ts; connections = cs; patterns = ps }
 
 module _ (source : Source) (scope : Path) where
-  pub none_are : (w : Members) → w ≡ no_members → MembersAre source scope [] w
-  none_are w is = subst (λ (x : Members). MembersAre source scope [] x) (sym is) (record { instances = tt; imports = tt; connections = tt; patterns = tt })
+  pub none_are : (w : MembersTaken) → w ≡ no_members → MembersAre source scope [] w
+  none_are w is = subst (λ (x : MembersTaken). MembersAre source scope [] x) (sym is) (record { instances = tt; imports = tt; connections = tt; patterns = tt })
 
-  module _ (before : Members) where
+  module _ (before : MembersTaken) where
     pub instance_behind : (u : InstanceUse) (w : MemberInstance) (row : List MemberInstance) → row ≡ before.instances ++ w ∷ [] → MemberInstanceIs source scope u w
         → AreWithMember source scope (member.Instance u) before (members row before.imports before.connections before.patterns)
     instance_behind u w row is r ms h = record {
@@ -76,7 +76,7 @@ module _ (source : Source) (scope : Path) where
     }
 
   -- a member by which it is
-  pub member_by : (marks : List (Option Value)) (rs : List Resolution) (m n : TMember) (a b : ℕ) (old new : Members) → m ≡ n
+  pub member_by : (marks : List (Option Value)) (rs : List Resolution) (m n : TMember) (a b : ℕ) (old new : MembersTaken) → m ≡ n
       → Takes source marks rs (topology_member_items scope n) a b (AreWithMember source scope n old new) → Takes source marks rs (topology_member_items scope m) a b (AreWithMember source scope m old new)
   member_by marks rs m n a b old new is h =
       subst (λ (x : TMember). Takes source marks rs (topology_member_items scope x) a b (AreWithMember source scope x old new)) (sym is) h

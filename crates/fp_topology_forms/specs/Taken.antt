@@ -12,7 +12,7 @@ use Rattle.fp_type_forms.specs.Resolved.{AreResolved, parts_of_item}
 use Rattle.fp_type_forms.specs.Written.{AllAt}
 use Rattle.fp_component_forms.specs.Positions.{RanksAre}
 use Rattle.fp_component_forms.specs.Taken.{row_of}
-use Rattle.fp_topology_forms.specs.declared.members.Members.{Members}
+use Rattle.fp_topology_forms.specs.declared.members.MembersTaken.{MembersTaken}
 use Rattle.fp_topology_forms.specs.declared.ranks.Ranks.{Ranks}
 use Rattle.fp_topology_forms.specs.Written.{ConnectionIs, ImportIs, MemberInstanceIs, PatternIs, connections_in, imports_in, patterns_in, uses_in}
 
@@ -24,18 +24,18 @@ pub record AreRanks (source : Source) (r : Ranks) : Type 0 where
 
 -- ---- members of a topology
 
-abbrev pub no_members : Members
+abbrev pub no_members : MembersTaken
 no_members = record { instances = []; imports = []; connections = []; patterns = [] }
 
 -- what these give
-pub record MembersAre (source : Source) (scope : Path) (ms : List TMember) (w : Members) : Type 0 where
+pub record MembersAre (source : Source) (scope : Path) (ms : List TMember) (w : MembersTaken) : Type 0 where
   pub instances : AllAt (λ position. MemberInstanceIs source scope) 0 (flat_map uses_in ms) w.instances
   pub imports : AllAt (λ position. ImportIs source scope) 0 (flat_map imports_in ms) w.imports
   pub connections : AllAt (λ position. ConnectionIs source scope) 0 (flat_map connections_in ms) w.connections
   pub patterns : AllAt (λ position. PatternIs source scope) 0 (flat_map patterns_in ms) w.patterns
 
 -- with a member behind those before
-abbrev pub AreWithMember : Source → Path → TMember → Members → Members → Type 0
+abbrev pub AreWithMember : Source → Path → TMember → MembersTaken → MembersTaken → Type 0
 AreWithMember source scope m before after = (ms : List TMember) → MembersAre source scope ms before → MembersAre source scope (ms ++ m ∷ []) after
 
 -- ---- items

@@ -22,7 +22,7 @@ use std::alloc::Global;
 
 /// What is written of the members of a topology, kind by kind, each in source order.
 #[derive(Drop)]
-pub struct Members {
+pub struct MembersTaken {
     pub instances: Row<MemberInstance>,
     pub imports: Row<ImportedTopology>,
     pub connections: Row<WrittenConnection>,
@@ -37,7 +37,7 @@ pub fn members_taken(
     resolutions: &[Resolution],
     marks: &[Option<Value>],
     next: &mut usize,
-) -> Result<Members, NoMemory>
+) -> Result<MembersTaken, NoMemory>
     ensures { IfOk result (λ all. (source : Source) (scope : Path) → AreRanks source ranks.now → Takes source marks.now resolutions.now (flat_map (topology_member_items scope) members.now) next.old next.new (MembersAre source scope members.now all)) }
 {
     let mut found = nothing_found(alloc);
@@ -47,10 +47,10 @@ pub fn members_taken(
     Ok(found)
 }
 
-fn nothing_found(alloc: Global) -> Members
+fn nothing_found(alloc: Global) -> MembersTaken
     ensures { result ≡ no_members }
 {
-    Members {
+    MembersTaken {
         instances: Row::new(alloc),
         imports: Row::new(alloc),
         connections: Row::new(alloc),
@@ -61,13 +61,13 @@ fn nothing_found(alloc: Global) -> Members
 /// With a member more. What was included stands among the members, and the include itself gives nothing.
 fn with_member(
     alloc: Global,
-    before: Members,
+    before: MembersTaken,
     member: &TMember,
     ranks: &Ranks,
     resolutions: &[Resolution],
     marks: &[Option<Value>],
     next: &mut usize,
-) -> Result<Members, NoMemory>
+) -> Result<MembersTaken, NoMemory>
     ensures { IfOk result (λ after. (source : Source) (scope : Path) → AreRanks source ranks.now → Takes source marks.now resolutions.now (topology_member_items scope member.now) next.old next.new (AreWithMember source scope member.now before after)) }
 {
     match member {
@@ -84,15 +84,15 @@ fn with_member(
 }
 
 fn with_instance(
-    before: Members,
+    before: MembersTaken,
     instance: &InstanceUse,
     ranks: &Ranks,
     resolutions: &[Resolution],
     next: &mut usize,
-) -> Result<Members, NoMemory>
+) -> Result<MembersTaken, NoMemory>
     ensures { IfOk result (λ after. (source : Source) (scope : Path) (marks : List (Option Data)) → AreRanks source ranks.now → Takes source marks resolutions.now (use_items group.Instance scope instance.now.of) next.old next.new (AreWithMember source scope (member.Instance instance.now) before after)) }
 {
-    let Members {
+    let MembersTaken {
         instances,
         imports,
         connections,
@@ -104,7 +104,7 @@ fn with_instance(
         used,
     };
     let instances = with_one(instances, one)?;
-    Ok(Members {
+    Ok(MembersTaken {
         instances,
         imports,
         connections,
@@ -113,15 +113,15 @@ fn with_instance(
 }
 
 fn with_import(
-    before: Members,
+    before: MembersTaken,
     import: &Import,
     ranks: &Ranks,
     resolutions: &[Resolution],
     next: &mut usize,
-) -> Result<Members, NoMemory>
+) -> Result<MembersTaken, NoMemory>
     ensures { IfOk result (λ after. (source : Source) (scope : Path) (marks : List (Option Data)) → AreRanks source ranks.now → Takes source marks resolutions.now (use_items group.Topology scope import.now.of) next.old next.new (AreWithMember source scope (member.Import import.now) before after)) }
 {
-    let Members {
+    let MembersTaken {
         instances,
         imports,
         connections,
@@ -133,7 +133,7 @@ fn with_import(
         topology,
     };
     let imports = with_one(imports, one)?;
-    Ok(Members {
+    Ok(MembersTaken {
         instances,
         imports,
         connections,
@@ -143,16 +143,16 @@ fn with_import(
 
 fn with_connections(
     alloc: Global,
-    before: Members,
+    before: MembersTaken,
     group: &Connections,
     ranks: &Ranks,
     resolutions: &[Resolution],
     marks: &[Option<Value>],
     next: &mut usize,
-) -> Result<Members, NoMemory>
+) -> Result<MembersTaken, NoMemory>
     ensures { IfOk result (λ after. (source : Source) (scope : Path) → AreRanks source ranks.now → Takes source marks.now resolutions.now (flat_map (connection_items scope) group.now.connections) next.old next.new (AreWithMember source scope (member.Connections group.now) before after)) }
 {
-    let Members {
+    let MembersTaken {
         instances,
         imports,
         connections,
@@ -161,7 +161,7 @@ fn with_connections(
     let of = group.connections.as_slice();
     let more = connections_taken(alloc, of, ranks, resolutions, marks, next)?;
     let connections = with_all(connections, more)?;
-    Ok(Members {
+    Ok(MembersTaken {
         instances,
         imports,
         connections,
@@ -171,15 +171,15 @@ fn with_connections(
 
 fn with_pattern(
     alloc: Global,
-    before: Members,
+    before: MembersTaken,
     pattern: &PatternConnections,
     ranks: &Ranks,
     resolutions: &[Resolution],
     next: &mut usize,
-) -> Result<Members, NoMemory>
+) -> Result<MembersTaken, NoMemory>
     ensures { IfOk result (λ after. (source : Source) (scope : Path) (marks : List (Option Data)) → AreRanks source ranks.now → Takes source marks resolutions.now (pattern_items scope pattern.now) next.old next.new (AreWithMember source scope (member.Pattern pattern.now) before after)) }
 {
-    let Members {
+    let MembersTaken {
         instances,
         imports,
         connections,
@@ -187,7 +187,7 @@ fn with_pattern(
     } = before;
     let one = pattern_taken(alloc, pattern, ranks, resolutions, next)?;
     let patterns = with_one(patterns, one)?;
-    Ok(Members {
+    Ok(MembersTaken {
         instances,
         imports,
         connections,

@@ -7,7 +7,7 @@ ghost use Rattle.fp_component_forms.specs.Written.{scoped};
 ghost use Rattle.fp_topology_forms.specs.Taken.{AreRanks};
 ghost use Rattle.fp_topology_forms.specs.Written.{InstanceIs, TopologyIs};
 
-use crate::members::{Members, members_taken};
+use crate::members::{MembersTaken, members_taken};
 use crate::ranks::Ranks;
 use fp_base::{NoMemory, Row, Text, Value};
 use fp_component_forms::{given_taken, name_behind, optional_taken, position_taken};
@@ -64,7 +64,7 @@ pub fn topology_written(
     let members = topology.members.as_slice();
     let all = members_taken(alloc, members, ranks, resolutions, marks, &mut next)?;
     let name = name_behind(alloc, scope, &topology.name)?;
-    let Members {
+    let MembersTaken {
         instances,
         imports,
         connections,

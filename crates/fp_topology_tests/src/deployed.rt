@@ -1,6 +1,6 @@
 use fp_base::{NoMemory, Place, Refusal, Row, Text};
 use fp_instances::{instances_fault, instances_of};
-use fp_tables::{Command, Component, Part, Queueing, Way};
+use fp_tables::{Command, CommandPart, Component, Queueing, Way};
 use fp_written_parts::Given;
 use fp_written_topologies::WrittenInstance;
 use std::alloc::Global;
@@ -19,7 +19,7 @@ fn component(alloc: Global, opcode: u32) -> Result<Component, NoMemory> {
     let mut commands = Row::new(alloc);
     commands.push(Command {
         name: Text::from_str(alloc, "A")?,
-        part: Part::Plain,
+        part: CommandPart::Plain,
         way: Way::Sync,
         opcode,
         formals: Row::new(alloc),

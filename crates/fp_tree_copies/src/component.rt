@@ -73,8 +73,10 @@ impl Copied for Import {
 
 impl Copied for General {
     fn copy(&self, alloc: Global) -> Result<General, NoMemory> {
-        let (name, note) = two(alloc, &self.name, &self.note)?;
-        let (size, of, priority) = three(alloc, &self.size, &self.of, &self.priority)?;
+        let first = two(alloc, &self.name, &self.note)?;
+        let second = three(alloc, &self.size, &self.of, &self.priority)?;
+        let (name, note) = first;
+        let (size, of, priority) = second;
         Ok(General {
             kind: self.kind,
             name,
@@ -103,8 +105,10 @@ impl Copied for Special {
 
 impl Copied for Internal {
     fn copy(&self, alloc: Global) -> Result<Internal, NoMemory> {
-        let (name, note) = two(alloc, &self.name, &self.note)?;
-        let (formals, priority) = two(alloc, &self.formals, &self.priority)?;
+        let first = two(alloc, &self.name, &self.note)?;
+        let second = two(alloc, &self.formals, &self.priority)?;
+        let (name, note) = first;
+        let (formals, priority) = second;
         Ok(Internal {
             name,
             formals,
@@ -131,8 +135,10 @@ impl Copied for Match {
 
 impl Copied for Running {
     fn copy(&self, alloc: Global) -> Result<Running, NoMemory> {
-        let (name, note) = two(alloc, &self.name, &self.note)?;
-        let (of, priority) = two(alloc, &self.of, &self.priority)?;
+        let first = two(alloc, &self.name, &self.note)?;
+        let second = two(alloc, &self.of, &self.priority)?;
+        let (name, note) = first;
+        let (of, priority) = second;
         Ok(Running {
             name,
             of,

@@ -54,8 +54,10 @@ impl Copied for Alias {
 
 impl Copied for Array {
     fn copy(&self, alloc: Global) -> Result<Array, NoMemory> {
-        let (name, size, element) = three(alloc, &self.name, &self.size, &self.element)?;
-        let (default, format, note) = three(alloc, &self.default, &self.format, &self.note)?;
+        let first = three(alloc, &self.name, &self.size, &self.element)?;
+        let second = three(alloc, &self.default, &self.format, &self.note)?;
+        let (name, size, element) = first;
+        let (default, format, note) = second;
         Ok(Array {
             name,
             size,
@@ -70,8 +72,10 @@ impl Copied for Array {
 
 impl Copied for Struct {
     fn copy(&self, alloc: Global) -> Result<Struct, NoMemory> {
-        let (name, note) = two(alloc, &self.name, &self.note)?;
-        let (fields, default) = two(alloc, &self.fields, &self.default)?;
+        let first = two(alloc, &self.name, &self.note)?;
+        let second = two(alloc, &self.fields, &self.default)?;
+        let (name, note) = first;
+        let (fields, default) = second;
         Ok(Struct {
             name,
             fields,
@@ -84,8 +88,10 @@ impl Copied for Struct {
 
 impl Copied for Enum {
     fn copy(&self, alloc: Global) -> Result<Enum, NoMemory> {
-        let (name, note) = two(alloc, &self.name, &self.note)?;
-        let (repr, constants, default) = three(alloc, &self.repr, &self.constants, &self.default)?;
+        let first = two(alloc, &self.name, &self.note)?;
+        let second = three(alloc, &self.repr, &self.constants, &self.default)?;
+        let (name, note) = first;
+        let (repr, constants, default) = second;
         Ok(Enum {
             name,
             repr,
@@ -99,8 +105,10 @@ impl Copied for Enum {
 
 impl Copied for Port {
     fn copy(&self, alloc: Global) -> Result<Port, NoMemory> {
-        let (name, note) = two(alloc, &self.name, &self.note)?;
-        let (formals, result) = two(alloc, &self.formals, &self.result)?;
+        let first = two(alloc, &self.name, &self.note)?;
+        let second = two(alloc, &self.formals, &self.result)?;
+        let (name, note) = first;
+        let (formals, result) = second;
         Ok(Port {
             name,
             formals,

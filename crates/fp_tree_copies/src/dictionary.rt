@@ -5,8 +5,10 @@ use std::alloc::Global;
 
 impl Copied for Command {
     fn copy(&self, alloc: Global) -> Result<Command, NoMemory> {
-        let (name, formals, note) = three(alloc, &self.name, &self.formals, &self.note)?;
-        let (opcode, priority) = two(alloc, &self.opcode, &self.priority)?;
+        let first = three(alloc, &self.name, &self.formals, &self.note)?;
+        let second = two(alloc, &self.opcode, &self.priority)?;
+        let (name, formals, note) = first;
+        let (opcode, priority) = second;
         Ok(Command {
             kind: self.kind,
             name,
@@ -23,8 +25,10 @@ impl Copied for Command {
 
 impl Copied for Event {
     fn copy(&self, alloc: Global) -> Result<Event, NoMemory> {
-        let (name, formals, note) = three(alloc, &self.name, &self.formals, &self.note)?;
-        let (id, format, throttle) = three(alloc, &self.id, &self.format, &self.throttle)?;
+        let first = three(alloc, &self.name, &self.formals, &self.note)?;
+        let second = three(alloc, &self.id, &self.format, &self.throttle)?;
+        let (name, formals, note) = first;
+        let (id, format, throttle) = second;
         Ok(Event {
             name,
             formals,
@@ -40,9 +44,12 @@ impl Copied for Event {
 
 impl Copied for Channel {
     fn copy(&self, alloc: Global) -> Result<Channel, NoMemory> {
-        let (name, of, note) = three(alloc, &self.name, &self.of, &self.note)?;
-        let (id, format) = two(alloc, &self.id, &self.format)?;
-        let (low, high) = two(alloc, &self.low, &self.high)?;
+        let first = three(alloc, &self.name, &self.of, &self.note)?;
+        let second = two(alloc, &self.id, &self.format)?;
+        let third = two(alloc, &self.low, &self.high)?;
+        let (name, of, note) = first;
+        let (id, format) = second;
+        let (low, high) = third;
         Ok(Channel {
             name,
             of,
@@ -81,9 +88,12 @@ impl Copied for Limit {
 
 impl Copied for ParamDef {
     fn copy(&self, alloc: Global) -> Result<ParamDef, NoMemory> {
-        let (name, of, note) = three(alloc, &self.name, &self.of, &self.note)?;
-        let (default, id) = two(alloc, &self.default, &self.id)?;
-        let (set, save) = two(alloc, &self.set, &self.save)?;
+        let first = three(alloc, &self.name, &self.of, &self.note)?;
+        let second = two(alloc, &self.default, &self.id)?;
+        let third = two(alloc, &self.set, &self.save)?;
+        let (name, of, note) = first;
+        let (default, id) = second;
+        let (set, save) = third;
         Ok(ParamDef {
             name,
             of,

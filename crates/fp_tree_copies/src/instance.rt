@@ -5,10 +5,14 @@ use std::alloc::Global;
 
 impl Copied for Instance {
     fn copy(&self, alloc: Global) -> Result<Instance, NoMemory> {
-        let (name, of, base) = three(alloc, &self.name, &self.of, &self.base)?;
-        let (kind, file, note) = three(alloc, &self.kind, &self.file, &self.note)?;
-        let (queue, stack, phases) = three(alloc, &self.queue, &self.stack, &self.phases)?;
-        let (priority, cpu) = two(alloc, &self.priority, &self.cpu)?;
+        let first = three(alloc, &self.name, &self.of, &self.base)?;
+        let second = three(alloc, &self.kind, &self.file, &self.note)?;
+        let third = three(alloc, &self.queue, &self.stack, &self.phases)?;
+        let fourth = two(alloc, &self.priority, &self.cpu)?;
+        let (name, of, base) = first;
+        let (kind, file, note) = second;
+        let (queue, stack, phases) = third;
+        let (priority, cpu) = fourth;
         Ok(Instance {
             name,
             of,

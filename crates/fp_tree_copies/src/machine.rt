@@ -65,8 +65,10 @@ impl Copied for ElementForm {
 
 impl Copied for Choice {
     fn copy(&self, alloc: Global) -> Result<Choice, NoMemory> {
-        let (name, guard) = two(alloc, &self.name, &self.guard)?;
-        let (met, unmet) = two(alloc, &self.met, &self.unmet)?;
+        let first = two(alloc, &self.name, &self.guard)?;
+        let second = two(alloc, &self.met, &self.unmet)?;
+        let (name, guard) = first;
+        let (met, unmet) = second;
         Ok(Choice {
             name,
             guard,

@@ -5,8 +5,10 @@ use std::alloc::Global;
 
 impl Copied for Field {
     fn copy(&self, alloc: Global) -> Result<Field, NoMemory> {
-        let (name, of, note) = three(alloc, &self.name, &self.of, &self.note)?;
-        let (size, format) = two(alloc, &self.size, &self.format)?;
+        let first = three(alloc, &self.name, &self.of, &self.note)?;
+        let second = two(alloc, &self.size, &self.format)?;
+        let (name, of, note) = first;
+        let (size, format) = second;
         Ok(Field {
             name,
             size,

@@ -3,8 +3,8 @@ use Rattle.std.specs.Prelude.{flat_map}
 use Rattle.std.specs.List.{list_any}
 use Rattle.std.proofs.Common.{◌≡◌, ℕ, suc, ◌⊎◌, inl, inr, Bool, true, false, cond, not, ◌&&◌, ◌==◌, List, [], ◌∷◌, ◌++◌, length, slice_get, Some, refl, sym, ◌∙◌, ap, append_assoc, append-nil, arith}
 use Rattle.fp_base.proofs.Bools.{both, join, neither}
-use Rattle.fp_base.specs.declared.format.Piece.{Piece}
-use Rattle.fp_base.specs.declared.format.Piece.TheVariants as piece
+use Rattle.fp_base.specs.declared.format.FormatPiece.{FormatPiece}
+use Rattle.fp_base.specs.declared.format.FormatPiece.TheVariants as piece
 use Rattle.fp_base.specs.declared.value.Value.{Value}
 use Rattle.fp_base.specs.Formats.{is_brace, doubled, spelled, spelling, are_whole, is_empty_text}
 use Rattle.fp_formats.specs.Fits.{fits, is_integer, takes}
@@ -16,16 +16,16 @@ use Rattle.fp_type_formats.proofs.Existing.{same_number}
 no_both : {A : Type 0} {b : Bool} → b ≡ true → b ≡ false → A
 no_both e f = absurd (cc)
 
-form_piece : List ℕ → Piece
+form_piece : List ℕ → FormatPiece
 form_piece [] = piece.Any
 form_piece (b ∷ w) = cond (b == 100) piece.Dec (cond (b == 120) piece.Hex (cond (b == 111) piece.Oct piece.Char))
 
-with_byte : ℕ → List Piece → List Piece
+with_byte : ℕ → List FormatPiece → List FormatPiece
 with_byte b [] = piece.Plain (b ∷ []) ∷ []
 with_byte b (piece.Plain s ∷ ps) = piece.Plain (b ∷ s) ∷ ps
 with_byte b (p ∷ ps) = piece.Plain (b ∷ []) ∷ p ∷ ps
 
-pub pieces_of : List Element → List Piece
+pub pieces_of : List Element → List FormatPiece
 pieces_of [] = []
 pieces_of (plain b ∷ es) = with_byte b (pieces_of es)
 pieces_of (escape b ∷ es) = with_byte b (pieces_of es)
@@ -34,7 +34,7 @@ pieces_of (lone b ∷ es) = pieces_of es
 
 -- ---- one element
 
-spelled_byte : (b : ℕ) (ps : List Piece) → spelling (with_byte b ps) ≡ doubled b ++ spelling ps
+spelled_byte : (b : ℕ) (ps : List FormatPiece) → spelling (with_byte b ps) ≡ doubled b ++ spelling ps
 unfolding with_byte
 spelled_byte b [] = append-nil (doubled b ++ []) ∙ refl
 spelled_byte b (piece.Plain s ∷ ps) = append_assoc (doubled b) (flat_map doubled s) (spelling ps)
@@ -44,7 +44,7 @@ spelled_byte b (piece.Hex ∷ ps) = ap (λ (t : List ℕ). t ++ spelling (piece.
 spelled_byte b (piece.Oct ∷ ps) = ap (λ (t : List ℕ). t ++ spelling (piece.Oct ∷ ps)) (append-nil (doubled b))
 spelled_byte b (piece.Char ∷ ps) = ap (λ (t : List ℕ). t ++ spelling (piece.Char ∷ ps)) (append-nil (doubled b))
 
-whole_byte : (b : ℕ) (ps : List Piece) → are_whole false ps ≡ true → are_whole false (with_byte b ps) ≡ true
+whole_byte : (b : ℕ) (ps : List FormatPiece) → are_whole false ps ≡ true → are_whole false (with_byte b ps) ≡ true
 unfolding with_byte
 whole_byte b [] h = refl
 whole_byte b (piece.Plain s ∷ ps) h = (both (not false && not (is_empty_text s)) (are_whole true ps) h).1
@@ -54,7 +54,7 @@ whole_byte b (piece.Hex ∷ ps) h = h
 whole_byte b (piece.Oct ∷ ps) h = h
 whole_byte b (piece.Char ∷ ps) h = h
 
-fits_byte : (b : ℕ) (ps : List Piece) (vs : List Value) → fits (with_byte b ps) vs ≡ fits ps vs
+fits_byte : (b : ℕ) (ps : List FormatPiece) (vs : List Value) → fits (with_byte b ps) vs ≡ fits ps vs
 unfolding with_byte
 fits_byte b [] vs = refl
 fits_byte b (piece.Plain s ∷ ps) vs = refl
@@ -65,7 +65,7 @@ fits_byte b (piece.Oct ∷ ps) vs = refl
 fits_byte b (piece.Char ∷ ps) vs = refl
 
 -- what is known of one of four pieces is known of the piece of a form
-letter_by : (P : Piece → Type 0) (b : ℕ) → ((b == 100) ≡ true → P piece.Dec) → ((b == 120) ≡ true → P piece.Hex) → ((b == 111) ≡ true → P piece.Oct)
+letter_by : (P : FormatPiece → Type 0) (b : ℕ) → ((b == 100) ≡ true → P piece.Dec) → ((b == 120) ≡ true → P piece.Hex) → ((b == 111) ≡ true → P piece.Oct)
     → ((b == 100) ≡ false → (b == 120) ≡ false → (b == 111) ≡ false → P piece.Char) → P (cond (b == 100) piece.Dec (cond (b == 120) piece.Hex (cond (b == 111) piece.Oct piece.Char)))
 letter_by P b dec hex oct char = go (b == 100) (b == 120) (b == 111) dec hex oct char
   where
@@ -79,7 +79,7 @@ letter_by P b dec hex oct char = go (b == 100) (b == 120) (b == 111) dec hex oct
 last_letter : (b : ℕ) → is_form (b ∷ []) ≡ true → (b == 100) ≡ false → (b == 120) ≡ false → (b == 111) ≡ false → (b == 99) ≡ true
 last_letter b h p q r = rw (p, q, r) at h
 
-letter_text : ℕ → Piece → Type 0
+letter_text : ℕ → FormatPiece → Type 0
 letter_text b p = spelled p ≡ 123 ∷ b ∷ 125 ∷ []
 
 spelled_letter : (b : ℕ) → is_form (b ∷ []) ≡ true → letter_text b (cond (b == 100) piece.Dec (cond (b == 120) piece.Hex (cond (b == 111) piece.Oct piece.Char)))
@@ -97,17 +97,17 @@ spelled_form [] h = refl
 spelled_form (b ∷ []) h = spelled_letter b h
 spelled_form (b ∷ c ∷ w) h = absurd (cc)
 
-whole_form : (w : List ℕ) (ps : List Piece) → are_whole false ps ≡ true → are_whole false (form_piece w ∷ ps) ≡ true
+whole_form : (w : List ℕ) (ps : List FormatPiece) → are_whole false ps ≡ true → are_whole false (form_piece w ∷ ps) ≡ true
 unfolding form_piece
 whole_form [] ps h = h
-whole_form (b ∷ w) ps h = letter_by (λ (p : Piece). are_whole false (p ∷ ps) ≡ true) b (λ e. h) (λ e. h) (λ e. h) (λ p q r. h)
+whole_form (b ∷ w) ps h = letter_by (λ (p : FormatPiece). are_whole false (p ∷ ps) ≡ true) b (λ e. h) (λ e. h) (λ e. h) (λ p q r. h)
 
 -- a field takes an integer, and `{}` takes any value
-form_takes : (w : List ℕ) (v : Value) (ps : List Piece) → (is_empty_text w ≡ true) ⊎ (is_integer v ≡ true) → fits ps [] ≡ true → fits (form_piece w ∷ ps) (v ∷ []) ≡ true
+form_takes : (w : List ℕ) (v : Value) (ps : List FormatPiece) → (is_empty_text w ≡ true) ⊎ (is_integer v ≡ true) → fits ps [] ≡ true → fits (form_piece w ∷ ps) (v ∷ []) ≡ true
 unfolding form_piece
 form_takes [] v ps o h = h
 form_takes (b ∷ w) v ps (inl e) h = absurd (cc)
-form_takes (b ∷ w) v ps (inr e) h = letter_by (λ (p : Piece). fits (p ∷ ps) (v ∷ []) ≡ true) b (λ x. rw e h) (λ x. rw e h) (λ x. rw e h) (λ p q r. rw e h)
+form_takes (b ∷ w) v ps (inr e) h = letter_by (λ (p : FormatPiece). fits (p ∷ ps) (v ∷ []) ≡ true) b (λ x. rw e h) (λ x. rw e h) (λ x. rw e h) (λ p q r. rw e h)
 
 -- ---- all elements
 
@@ -181,7 +181,7 @@ fits_one v (lone b ∷ es) k h o = no_both refl k.1
 -- ---- one value for each field
 
 module _ {A : Type 0} (NoInteger : A → Type 0) where
-  agree_byte : (b : ℕ) (ps : List Piece) (xs : List A) → Agree NoInteger ps xs → Agree NoInteger (with_byte b ps) xs
+  agree_byte : (b : ℕ) (ps : List FormatPiece) (xs : List A) → Agree NoInteger ps xs → Agree NoInteger (with_byte b ps) xs
   unfolding with_byte
   agree_byte b [] xs h = h
   agree_byte b (piece.Plain s ∷ ps) xs h = h
@@ -191,10 +191,10 @@ module _ {A : Type 0} (NoInteger : A → Type 0) where
   agree_byte b (piece.Oct ∷ ps) xs h = h
   agree_byte b (piece.Char ∷ ps) xs h = h
 
-  agree_form : (w : List ℕ) (ps : List Piece) (x : A) (xs : List A) → (is_empty_text w ≡ false → NoInteger x → ⊥) → Agree NoInteger ps xs → Agree NoInteger (form_piece w ∷ ps) (x ∷ xs)
+  agree_form : (w : List ℕ) (ps : List FormatPiece) (x : A) (xs : List A) → (is_empty_text w ≡ false → NoInteger x → ⊥) → Agree NoInteger ps xs → Agree NoInteger (form_piece w ∷ ps) (x ∷ xs)
   unfolding form_piece
   agree_form [] ps x xs o h = (tt, h)
-  agree_form (b ∷ w) ps x xs o h = letter_by (λ (p : Piece). Agree NoInteger (p ∷ ps) (x ∷ xs)) b (λ e. (o refl, h)) (λ e. (o refl, h)) (λ e. (o refl, h)) (λ p q r. (o refl, h))
+  agree_form (b ∷ w) ps x xs o h = letter_by (λ (p : FormatPiece). Agree NoInteger (p ∷ ps) (x ∷ xs)) b (λ e. (o refl, h)) (λ e. (o refl, h)) (λ e. (o refl, h)) (λ p q r. (o refl, h))
 
   number_form : (w : List ℕ) → is_form w ≡ true → is_empty_text w ≡ false → prints_number w ≡ true
   number_form w h e = join (is_form w) (not (is_empty_text w)) h (ap not e)

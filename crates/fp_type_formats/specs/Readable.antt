@@ -1,8 +1,8 @@
 -- What a format is that breaks no rule: it reads as pieces, and these take the values that it is the format of.
 -- FPP Language Specification, "Format Strings".
 use Rattle.std.specs.Prelude.{◌≡◌, ℕ, true, ℤ, List, [], ◌∷◌, slice_get, Option, Some, None}
-use Rattle.fp_base.specs.declared.format.Piece.{Piece}
-use Rattle.fp_base.specs.declared.format.Piece.TheVariants as piece
+use Rattle.fp_base.specs.declared.format.FormatPiece.{FormatPiece}
+use Rattle.fp_base.specs.declared.format.FormatPiece.TheVariants as piece
 use Rattle.fp_base.specs.declared.value.Value.{Value, Int}
 use Rattle.fp_tree.specs.declared.name.Str.{Str}
 use Rattle.fp_tree.specs.declared.definition.Def.{Def}
@@ -23,12 +23,12 @@ use Rattle.fp_formats.specs.Spelling.{IsFormat}
 use Rattle.fp_type_formats.specs.Integers.{NamesNoInteger}
 
 -- a field other than `{}` isn't of what is no integer
-abbrev pub Suits : {A : Type 0} → (A → Type 0) → Piece → A → Type 0
+abbrev pub Suits : {A : Type 0} → (A → Type 0) → FormatPiece → A → Type 0
 Suits NoInteger piece.Any x = Unit {0}
 Suits NoInteger p x = NoInteger x → ⊥
 
 -- there is one field for each, in order
-abbrev pub Agree : {A : Type 0} → (A → Type 0) → List Piece → List A → Type 0
+abbrev pub Agree : {A : Type 0} → (A → Type 0) → List FormatPiece → List A → Type 0
 Agree NoInteger [] [] = Unit {0}
 Agree NoInteger [] (x ∷ xs) = ⊥
 Agree NoInteger (piece.Plain s ∷ ps) xs = Agree NoInteger ps xs
@@ -38,7 +38,7 @@ Agree NoInteger (p ∷ ps) (x ∷ xs) = Suits NoInteger p x × Agree NoInteger p
 module _ (is : List Item) where
   -- any integer, and where the type is no integer type any value
   pub record IsReadable (scope : Path) (t : TypeName) (s : Str) : Type 0 where
-    pub parts : List Piece
+    pub parts : List FormatPiece
     pub format : IsFormat s.text parts
     pub integers : (n : ℤ) → fits parts (Int n ∷ []) ≡ true
     pub others : NamesNoInteger is 256 scope t.form → (v : Value) → fits parts (v ∷ []) ≡ true
@@ -54,7 +54,7 @@ module _ (is : List Item) where
 
   -- there is one field for each parameter, and one that prints a number isn't of a parameter whose type is no integer type
   pub record IsReadableEvent (scope : Path) (e : Event) : Type 0 where
-    pub parts : List Piece
+    pub parts : List FormatPiece
     pub format : IsFormat e.format.text parts
     pub parameters : Agree (λ (x : Formal). NamesNoInteger is 256 scope x.of.form) parts e.formals
 

@@ -1,6 +1,6 @@
 ghost use Rattle.std.specs.Prelude.{◌≡◌, List, Option, IfOk, flat_map, length, true};
 ghost use Rattle.fp_base.specs.Least.{InSome, IsLeast};
-ghost use Rattle.fp_meaning.specs.declared.item.Item.{Item as Part};
+ghost use Rattle.fp_meaning.specs.declared.item.Item.{Item as OneItem};
 ghost use Rattle.fp_meaning.specs.Names.{definitions, definitions_of};
 ghost use Rattle.fp_meaning.specs.Read.{read as borrowed};
 ghost use Rattle.fp_type_formats.specs.Broken.{BrokenByDefinition, BrokenByFields, BrokenByFormat, BrokenByFormats, BrokenByItem, BrokenByMember, BrokenByModelDef, BrokenByText, FormatsBroken};
@@ -68,7 +68,7 @@ fn item_fault(
     names: &Names,
     sorts: &[Sort],
 ) -> Result<Option<Refusal>, NoMemory>
-    ensures { IfOk result (λ one. (is : List Part) → AreFound is names.now sorts.now → IsLeast (BrokenByItem is item.now) one) }
+    ensures { IfOk result (λ one. (is : List OneItem) → AreFound is names.now sorts.now → IsLeast (BrokenByItem is item.now) one) }
 {
     match item {
         Item::Defined(sited) => {
@@ -90,7 +90,7 @@ fn declared_fault(
     names: &Names,
     sorts: &[Sort],
 ) -> Result<Option<Refusal>, NoMemory>
-    ensures { IfOk result (λ one. (is : List Part) → AreFound is names.now sorts.now → IsLeast (BrokenByModelDef is scope.now (borrowed definition.entry)) one) }
+    ensures { IfOk result (λ one. (is : List OneItem) → AreFound is names.now sorts.now → IsLeast (BrokenByModelDef is scope.now (borrowed definition.entry)) one) }
 {
     match definition {
         ModelDef::Machine(_) => Ok(None),
@@ -108,7 +108,7 @@ fn definition_fault(
     names: &Names,
     sorts: &[Sort],
 ) -> Result<Option<Refusal>, NoMemory>
-    ensures { IfOk result (λ one. (is : List Part) → AreFound is names.now sorts.now → IsLeast (BrokenByDefinition is scope.now definition.now) one) }
+    ensures { IfOk result (λ one. (is : List OneItem) → AreFound is names.now sorts.now → IsLeast (BrokenByDefinition is scope.now definition.now) one) }
 {
     match definition {
         Def::Constant(_) => Ok(None),
@@ -133,7 +133,7 @@ fn fields_fault(
     names: &Names,
     sorts: &[Sort],
 ) -> Result<Option<Refusal>, NoMemory>
-    ensures { IfOk result (λ one. (is : List Part) → AreFound is names.now sorts.now → IsLeast (InSome (λ k. BrokenByMember is scope.now) fields.now) one) }
+    ensures { IfOk result (λ one. (is : List OneItem) → AreFound is names.now sorts.now → IsLeast (InSome (λ k. BrokenByMember is scope.now) fields.now) one) }
 {
     let mut first = None;
     for field in fields {
@@ -151,7 +151,7 @@ pub fn format_fault(
     names: &Names,
     sorts: &[Sort],
 ) -> Result<Option<Refusal>, NoMemory>
-    ensures { IfOk result (λ one. (is : List Part) → AreFound is names.now sorts.now → IsLeast (BrokenByFormat is scope.now of.now format.now) one) }
+    ensures { IfOk result (λ one. (is : List OneItem) → AreFound is names.now sorts.now → IsLeast (BrokenByFormat is scope.now of.now format.now) one) }
 {
     match format {
         Some(format) => text_fault(alloc, scope, &of.form, format, names, sorts),
@@ -167,7 +167,7 @@ fn text_fault(
     names: &Names,
     sorts: &[Sort],
 ) -> Result<Option<Refusal>, NoMemory>
-    ensures { IfOk result (λ one. (is : List Part) → AreFound is names.now sorts.now → IsLeast (BrokenByText format.now.text format.now.at.first (NamesNoInteger is 256 scope.now form.now)) one) }
+    ensures { IfOk result (λ one. (is : List OneItem) → AreFound is names.now sorts.now → IsLeast (BrokenByText format.now.text format.now.at.first (NamesNoInteger is 256 scope.now form.now)) one) }
 {
     let unfit = names_no_integer(alloc, scope, form, names, sorts)?;
     Ok(first_broken(format, &[unfit], unfit))

@@ -1,7 +1,7 @@
 ghost use Rattle.std.specs.Prelude.{◌≡◌, ◌++◌, List, Option, IfOk, OnOk, flat_map, map, slice_get};
 ghost use Rattle.fp_meaning.specs.declared.item.Item.{Item as Laid};
 ghost use Rattle.fp_meaning.specs.Sites.{Site};
-ghost use Rattle.fp_tree.specs.declared.name.Name.{Name as Part};
+ghost use Rattle.fp_tree.specs.declared.name.Name.{Name as OneName};
 ghost use Rattle.fp_type_formats.specs.Integers.{sites_of};
 ghost use Rattle.fp_type_formats.specs.Sorted.{AreFound, AreSorts, IsSortOfDefinition, IsSortOfName, IsSortOfUse, IsUnfit, ends_other, sort_if};
 
@@ -119,7 +119,7 @@ fn sort_of_use(
 }
 
 fn texts_of(alloc: Global, names: &[Name]) -> Result<Row<Text>, NoMemory>
-    ensures { IfOk result (λ texts. texts ≡ map (λ (n : Part). n.text) names.now) }
+    ensures { IfOk result (λ texts. texts ≡ map (λ (n : OneName). n.text) names.now) }
 {
     let mut texts = Row::new(alloc);
     for name in names {

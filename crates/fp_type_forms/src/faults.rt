@@ -9,7 +9,7 @@ ghost use Rattle.fp_meaning.specs.Sites.{entry, is_implied};
 ghost use Rattle.fp_meaning.specs.declared.item.Item.TheVariants as item;
 ghost use Rattle.fp_tree.specs.declared.definition.Enum.{Enum as Whole};
 ghost use Rattle.fp_tree.specs.declared.expression.Expr.{Expr as Node};
-ghost use Rattle.fp_tree.specs.declared.part.EnumConst.{EnumConst as Part};
+ghost use Rattle.fp_tree.specs.declared.part.EnumConst.{EnumConst as OneConst};
 ghost use Rattle.fp_tree.specs.declared.part.Formal.{Formal as Parameter};
 ghost use Rattle.fp_tree.specs.declared.source.Source.{Source};
 ghost use Rattle.fp_type_forms.specs.Broken.{BrokenByForm, BrokenByMember, BrokenByName, BrokenByNumber, BrokenByParts, BrokenBySize, ByOptional, IsMixed, is_size, no_number, number_fault, size_fault, value_fault, written_fault};
@@ -313,7 +313,7 @@ fn mixed_fault(kind: &Enum) -> Option<Refusal>
 }
 
 fn has_both(kind: &Enum) -> bool
-    ensures { result ≡ cond (is_implied kind.now) false (list_any (λ (c : Part). is_none c.value) kind.now.constants) }
+    ensures { result ≡ cond (is_implied kind.now) false (list_any (λ (c : OneConst). is_none c.value) kind.now.constants) }
 {
     if none_written(kind) {
         false
@@ -323,7 +323,7 @@ fn has_both(kind: &Enum) -> bool
 }
 
 fn lacks_some(constants: &[EnumConst]) -> bool
-    ensures { result ≡ list_any (λ (c : Part). is_none c.value) constants.now }
+    ensures { result ≡ list_any (λ (c : OneConst). is_none c.value) constants.now }
 {
     constants.iter().any(|constant| constant.value.is_none())
 }

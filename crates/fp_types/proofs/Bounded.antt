@@ -129,7 +129,7 @@ module _ (types : List TypeDef) where
   plain_bounded kind.I64 p w h = integer_bounded _ _ w h
 
   -- what is left of a struct's members
-  parts_first : (f : Field) (fs : List Field) (n : List ℕ) (v : Value) {m : _} (ps : block.Row_of-Part m) → parts_have types (f ∷ fs) (block.more_of-Part n v ps) ≡ true
+  parts_first : (f : Field) (fs : List Field) (n : List ℕ) (v : Value) {m : _} (ps : block.Row_of-MemberValue m) → parts_have types (f ∷ fs) (block.more_of-MemberValue n v ps) ≡ true
       → (has types (member_shape types f) v ≡ true) × (parts_have types fs ps ≡ true)
   parts_first f fs n v ps h =
       let p = both (bytes_eq n f.name && has types (member_shape types f) v) (parts_have types fs ps) h in
@@ -210,11 +210,11 @@ module _ (ws : List WrittenType) (types : List TypeDef) (well : AreWellWritten w
     form_bounded i g (struct m) Opaque h = absurd (cc)
     form_bounded i g (enum {cs = cs} p m) w h = constants_bounded cs w h
 
-    fields_bounded : {fs : List Field} {a b : ℕ} → MeasuresFields ws fs a b → AreSizes fs → {n : _} (ps : block.Row_of-Part n) → parts_have types fs ps ≡ true → (parts_leaves ps ≤ a) × (parts_levels ps ≤ b)
-    fields_bounded no_field s block.end_of-Part h = (omega arith, omega arith)
-    fields_bounded no_field s (block.more_of-Part n v ps) h = absurd (cc)
-    fields_bounded (field m ms) s block.end_of-Part h = absurd (cc)
-    fields_bounded (field {f = f} {fs = fs} m ms) s (block.more_of-Part n v ps) h =
+    fields_bounded : {fs : List Field} {a b : ℕ} → MeasuresFields ws fs a b → AreSizes fs → {n : _} (ps : block.Row_of-MemberValue n) → parts_have types fs ps ≡ true → (parts_leaves ps ≤ a) × (parts_levels ps ≤ b)
+    fields_bounded no_field s block.end_of-MemberValue h = (omega arith, omega arith)
+    fields_bounded no_field s (block.more_of-MemberValue n v ps) h = absurd (cc)
+    fields_bounded (field m ms) s block.end_of-MemberValue h = absurd (cc)
+    fields_bounded (field {f = f} {fs = fs} m ms) s (block.more_of-MemberValue n v ps) h =
         let p = parts_first types f fs n v ps h in
         let q = both (if_some (is_from_1_to 256) f.size) (list_all (λ (x : Field). if_some (is_from_1_to 256) x.size) fs) s in
         let here = member_bounded m (size_if f.size q.0) v (ap (λ (t : Shape). has types t v) (sym (sized_shape types f f.size refl)) ∙ p.0) in

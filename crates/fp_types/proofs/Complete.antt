@@ -5,7 +5,7 @@ use Rattle.std.specs.Str.{bytes_eq}
 use Rattle.std.proofs.lemmas.List.{take_more, take_all}
 use Rattle.fp_base.specs.declared.value.Value.{Value}
 use Rattle.fp_base.specs.declared.value.Value.TheOpen as value
-use Rattle.fp_base.specs.declared.value.Part.{Part}
+use Rattle.fp_base.specs.declared.value.MemberValue.{MemberValue}
 use Rattle.fp_base.proofs.Options.{same_some}
 use Rattle.fp_type_sizes.proofs.Places.{no_some}
 use Rattle.fp_tables.specs.declared.kind.Kind.{Kind}
@@ -113,40 +113,40 @@ module _ (ws : List WrittenType) where
   pub at_rest : (full : Type 0) (r : Rest) (f : Field) (o p : Option Value) → o ≡ p → IsRest ws full r f p → IsRest ws full r f o
   at_rest full r f o p e h = subst (λ (x : Option Value). IsRest ws full r f x) (sym e) h
 
-  left_back : {r : Rest} {given : List Part} {f : Field} {w : Value} → value_named given f.name ≡ None → MemberIs ws r given f w → Rests ws r f w
+  left_back : {r : Rest} {given : List MemberValue} {f : Field} {w : Value} → value_named given f.name ≡ None → MemberIs ws r given f w → Rests ws r f w
   left_back none (complete.given_here e) = no_some (sym none ∙ e)
   left_back none (complete.left_out e h) = h
 
-  pub member_left : (full : Type 0) (r : Rest) (given : List Part) (f : Field) (o : Option Value) → value_named given f.name ≡ None → IsRest ws full r f o → IsMember ws full r given f o
+  pub member_left : (full : Type 0) (r : Rest) (given : List MemberValue) (f : Field) (o : Option Value) → value_named given f.name ≡ None → IsRest ws full r f o → IsMember ws full r given f o
   member_left full r given f (Some w) none h = complete.left_out none h
   member_left full r given f None none h = λ all w m. h all w (left_back none m)
 
-  pub completes_first : (r : Rest) (given made : List Part) → made ≡ [] → Completes ws r given [] made
-  completes_first r given made is = subst (λ (ps : List Part). Completes ws r given [] ps) (sym is) no_field
+  pub completes_first : (r : Rest) (given made : List MemberValue) → made ≡ [] → Completes ws r given [] made
+  completes_first r given made is = subst (λ (ps : List MemberValue). Completes ws r given [] ps) (sym is) no_field
 
-  one_more : (r : Rest) (given : List Part) (f : Field) (w : Value) → MemberIs ws r given f w → Completes ws r given (f ∷ []) (part_for f w ∷ [])
+  one_more : (r : Rest) (given : List MemberValue) (f : Field) (w : Value) → MemberIs ws r given f w → Completes ws r given (f ∷ []) (part_for f w ∷ [])
   one_more r given f w (complete.given_here e) = given_here e no_field
   one_more r given f w (complete.left_out e h) = left_out e h no_field
 
-  add : (r : Rest) (given : List Part) (f : Field) (w : Value) {fs : List Field} {made : List Part} → Completes ws r given fs made → MemberIs ws r given f w
+  add : (r : Rest) (given : List MemberValue) (f : Field) (w : Value) {fs : List Field} {made : List MemberValue} → Completes ws r given fs made → MemberIs ws r given f w
       → Completes ws r given (fs ++ f ∷ []) (made ++ part_for f w ∷ [])
   add r given f w no_field m = one_more r given f w m
   add r given f w (given_here e h) m = given_here e (add r given f w h m)
   add r given f w (left_out e l h) m = left_out e l (add r given f w h m)
 
-  abbrev made_part : List ℕ → Value → Part
+  abbrev made_part : List ℕ → Value → MemberValue
   made_part n v = record { name = n; value = v }
 
-  pub completes_next : (r : Rest) (given : List Part) (fields : List Field) (i : ℕ) (f : Field) (name : List ℕ) (v : Value) (made more : List Part) → i < length fields → f ≡ get_or fields i f
+  pub completes_next : (r : Rest) (given : List MemberValue) (fields : List Field) (i : ℕ) (f : Field) (name : List ℕ) (v : Value) (made more : List MemberValue) → i < length fields → f ≡ get_or fields i f
       → Completes ws r given (take i fields) made → name ≡ f.name → MemberIs ws r given f v → more ≡ made ++ made_part name v ∷ [] → Completes ws r given (take (i + 1) fields) more
   completes_next r given fields i f name v made more lt is h named m e =
       subst (λ (fs : List Field). Completes ws r given fs more) (sym (take_more fields i f lt ∙ ap (λ (y : Field). take i fields ++ y ∷ []) (sym is)))
-      (subst (λ (ps : List Part). Completes ws r given (take i fields ++ f ∷ []) ps) (sym (e ∙ ap (λ (n : List ℕ). made ++ made_part n v ∷ []) named)) (add r given f v h m))
+      (subst (λ (ps : List MemberValue). Completes ws r given (take i fields ++ f ∷ []) ps) (sym (e ∙ ap (λ (n : List ℕ). made ++ made_part n v ∷ []) named)) (add r given f v h m))
 
-  pub completes_last : (r : Rest) (given : List Part) (fields : List Field) (i : ℕ) (made : List Part) → length fields ≤ i → Completes ws r given (take i fields) made → Completes ws r given fields made
+  pub completes_last : (r : Rest) (given : List MemberValue) (fields : List Field) (i : ℕ) (made : List MemberValue) → length fields ≤ i → Completes ws r given (take i fields) made → Completes ws r given fields made
   completes_last r given fields i made all h = subst (λ (fs : List Field). Completes ws r given fs made) (take_all i fields all) h
 
-  member_at : (r : Rest) (given : List Part) {fs : List Field} {made : List Part} (i : ℕ) (f : Field) → Completes ws r given fs made → slice_get fs i ≡ Some f → (w : Value) × MemberIs ws r given f w
+  member_at : (r : Rest) (given : List MemberValue) {fs : List Field} {made : List MemberValue} (i : ℕ) (f : Field) → Completes ws r given fs made → slice_get fs i ≡ Some f → (w : Value) × MemberIs ws r given f w
   member_at r given i f no_field e = no_some e
   member_at r given zero f (given_here {w = w} d h) e = (w, subst (λ (x : Field). MemberIs ws r given x w) (same_some e) (complete.given_here d))
   member_at r given zero f (left_out {w = w} d l h) e = (w, subst (λ (x : Field). MemberIs ws r given x w) (same_some e) (complete.left_out d l))
@@ -158,13 +158,13 @@ module _ (ws : List WrittenType) where
   full_left defaults r (g ∷ gs) zero f e h = subst (λ (x : Field). SufficesForLeft ws defaults r x) (same_some e) h.0
   full_left defaults r (g ∷ gs) (suc i) f e h = full_left defaults r gs i f e h.1
 
-  pub completes_none : (defaults : List (Option Value)) (r : Rest) (given : List Part) (fields : List Field) (i : ℕ) (f : Field) (o : Option Value) → slice_get fields i ≡ Some f → o ≡ None
+  pub completes_none : (defaults : List (Option Value)) (r : Rest) (given : List MemberValue) (fields : List Field) (i : ℕ) (f : Field) (o : Option Value) → slice_get fields i ≡ Some f → o ≡ None
       → IsMember ws (SufficesForLeft ws defaults r f) r given f o → AreCompleted ws (SufficesForLefts ws defaults r fields) r given fields None
   completes_none defaults r given fields i f o is none h = λ full made c.
       let p = member_at r given i f c is in
       subst (λ (x : Option Value). IsMember ws (SufficesForLeft ws defaults r f) r given f x) none h (full_left defaults r fields i f is full) p.0 p.1
 
-  pub member_some : (full : Type 0) (r : Rest) (given : List Part) (f : Field) (o : Option Value) (w : Value) → o ≡ Some w → IsMember ws full r given f o → MemberIs ws r given f w
+  pub member_some : (full : Type 0) (r : Rest) (given : List MemberValue) (f : Field) (o : Option Value) (w : Value) → o ≡ Some w → IsMember ws full r given f o → MemberIs ws r given f w
   member_some full r given f o w e h = subst (λ (x : Option Value). IsMember ws full r given f x) e h
 
   -- ---- structs
@@ -174,34 +174,34 @@ module _ (ws : List WrittenType) where
   lefts defaults n (OfStruct i) (f ∷ fs) rest each = (rest, lefts defaults n (OfStruct i) fs rest each.1)
   lefts defaults n OfMembers (f ∷ fs) rest each = (each.0.knows, lefts defaults n OfMembers fs rest each.1)
 
-  pub finished_some : (defaults : List (Option Value)) (n : ℕ) (r : Rest) (fields : List Field) (parts given : List Part) (m : Option (List Part)) → MembersBecome ws fields parts given
+  pub finished_some : (defaults : List (Option Value)) (n : ℕ) (r : Rest) (fields : List Field) (parts given : List MemberValue) (m : Option (List MemberValue)) → MembersBecome ws fields parts given
       → AreCompleted ws (SufficesForLefts ws defaults r fields) r given fields m
       → IsMade ws (SufficesForStruct ws defaults n r fields) (value.Struct parts) (struct r fields) (option_map structured m)
   finished_some defaults n r fields parts given (Some made) h c = member_by_member h c
   finished_some defaults n r fields parts given None h c = λ full w b.
       let p = struct_back ws r fields b in
-      c (lefts defaults n r fields full.1 full.0) p.1 (subst (λ (ps : List Part). Completes ws r ps fields p.1) (member_results p.2 h) p.3)
+      c (lefts defaults n r fields full.1 full.0) p.1 (subst (λ (ps : List MemberValue). Completes ws r ps fields p.1) (member_results p.2 h) p.3)
 
-  pub finished_none : (defaults : List (Option Value)) (n : ℕ) (r : Rest) (fields : List Field) (parts : List Part)
-      → (SufficesEach ws defaults n fields → (made : List Part) → MembersBecome ws fields parts made → ⊥) → IsMade ws (SufficesForStruct ws defaults n r fields) (value.Struct parts) (struct r fields) None
+  pub finished_none : (defaults : List (Option Value)) (n : ℕ) (r : Rest) (fields : List Field) (parts : List MemberValue)
+      → (SufficesEach ws defaults n fields → (made : List MemberValue) → MembersBecome ws fields parts made → ⊥) → IsMade ws (SufficesForStruct ws defaults n r fields) (value.Struct parts) (struct r fields) None
   finished_none defaults n r fields parts h = λ full w b. let p = struct_back ws r fields b in h full.0 p.0 p.2
 
   pub for_rest : (defaults : List (Option Value)) (r q : Rest) (f : Field) (o : Option Value) → r ≡ q → IsRest ws (SufficesForLeft ws defaults q f) q f o → IsRest ws (SufficesForLeft ws defaults r f) r f o
   for_rest defaults r q f o e h = subst (λ (x : Rest). IsRest ws (SufficesForLeft ws defaults x f) x f o) (sym e) h
 
-  pub is_given : (r : Rest) (given : List Part) (f : Field) (p : Part) (v : Value) → find (λ (q : Part). bytes_eq q.name f.name) given ≡ Some p → v ≡ p.value → MemberIs ws r given f v
+  pub is_given : (r : Rest) (given : List MemberValue) (f : Field) (p : MemberValue) (v : Value) → find (λ (q : MemberValue). bytes_eq q.name f.name) given ≡ Some p → v ≡ p.value → MemberIs ws r given f v
   is_given r given f p v e d =
-      subst (λ (x : Value). MemberIs ws r given f x) (sym d) (complete.given_here (ap (λ (q : Option Part). option_map (λ (y : Part). y.value) q) e))
+      subst (λ (x : Value). MemberIs ws r given f x) (sym d) (complete.given_here (ap (λ (q : Option MemberValue). option_map (λ (y : MemberValue). y.value) q) e))
 
-  pub finished_as : (defaults : List (Option Value)) (n : ℕ) (r : Rest) (fields : List Field) (parts : List Part) (o : Option (List Part)) → o ≡ None
-      → AreMadeOfMembers ws (SufficesEach ws defaults n fields) fields parts o → SufficesEach ws defaults n fields → (made : List Part) → MembersBecome ws fields parts made → ⊥
-  finished_as defaults n r fields parts o e h = subst (λ (x : Option (List Part)). AreMadeOfMembers ws (SufficesEach ws defaults n fields) fields parts x) e h
+  pub finished_as : (defaults : List (Option Value)) (n : ℕ) (r : Rest) (fields : List Field) (parts : List MemberValue) (o : Option (List MemberValue)) → o ≡ None
+      → AreMadeOfMembers ws (SufficesEach ws defaults n fields) fields parts o → SufficesEach ws defaults n fields → (made : List MemberValue) → MembersBecome ws fields parts made → ⊥
+  finished_as defaults n r fields parts o e h = subst (λ (x : Option (List MemberValue)). AreMadeOfMembers ws (SufficesEach ws defaults n fields) fields parts x) e h
 
-  pub finished_of : (defaults : List (Option Value)) (n : ℕ) (r : Rest) (fields : List Field) (parts given gs : List Part) (o : Option (List Part)) (m : Option (List Part)) (v : Option Value)
+  pub finished_of : (defaults : List (Option Value)) (n : ℕ) (r : Rest) (fields : List Field) (parts given gs : List MemberValue) (o : Option (List MemberValue)) (m : Option (List MemberValue)) (v : Option Value)
       → o ≡ Some given → AreMadeOfMembers ws (SufficesEach ws defaults n fields) fields parts o
       → gs ≡ given → AreCompleted ws (SufficesForLefts ws defaults r fields) r gs fields m → v ≡ option_map structured m
       → IsMade ws (SufficesForStruct ws defaults n r fields) (value.Struct parts) (struct r fields) v
   finished_of defaults n r fields parts given gs o m v is h same c e =
       subst (λ (x : Option Value). IsMade ws (SufficesForStruct ws defaults n r fields) (value.Struct parts) (struct r fields) x) (sym e)
-      (finished_some defaults n r fields parts given m (subst (λ (x : Option (List Part)). AreMadeOfMembers ws (SufficesEach ws defaults n fields) fields parts x) is h)
-      (subst (λ (ps : List Part). AreCompleted ws (SufficesForLefts ws defaults r fields) r ps fields m) same c))
+      (finished_some defaults n r fields parts given m (subst (λ (x : Option (List MemberValue)). AreMadeOfMembers ws (SufficesEach ws defaults n fields) fields parts x) is h)
+      (subst (λ (ps : List MemberValue). AreCompleted ws (SufficesForLefts ws defaults r fields) r ps fields m) same c))

@@ -4,7 +4,7 @@ use Rattle.std.specs.Prelude.{ℤ, pos}
 use Rattle.fp_base.specs.declared.value.Value.{Value, Int, Array, Struct, out-Value, out-roll-Value}
 use Rattle.fp_base.specs.declared.value.Value.TheVariants.{rolls-Int, rolls-Array, rolls-Struct}
 use Rattle.fp_base.specs.declared.value.Value.TheOpen as value
-use Rattle.fp_base.specs.declared.value.Part.{Part}
+use Rattle.fp_base.specs.declared.value.MemberValue.{MemberValue}
 use Rattle.fp_base.proofs.Options.{same_some}
 use Rattle.fp_tables.specs.declared.kind.Field.{Field}
 use Rattle.fp_types.proofs.Inverting.{integer_back, struct_back}
@@ -35,7 +35,7 @@ opens_int n = ap out-Value (sym (rolls-Int n)) ∙ out-roll-Value (value.Int n)
 opens_list : (vs : List Value) → opened (Array vs) ≡ value.Array vs
 opens_list vs = ap out-Value (sym (rolls-Array vs)) ∙ out-roll-Value (value.Array vs)
 
-opens_parts : (ps : List Part) → opened (Struct ps) ≡ value.Struct ps
+opens_parts : (ps : List MemberValue) → opened (Struct ps) ≡ value.Struct ps
 opens_parts ps = ap out-Value (sym (rolls-Struct ps)) ∙ out-roll-Value (value.Struct ps)
 
 -- a value by what it is outermost
@@ -66,7 +66,7 @@ from_kind (in_plain p h) = h
 outside : {w : Value} → Becomes example (value.Int (pos 300)) (convert.plain_target kind.U8) w → ⊥
 outside h = let both : false ≡ true = integer_back example (pos 0) (pos 255) h in cc
 
-from_members : {given : List Part} → MembersBecome example (x_field ∷ []) (record { name = 120 ∷ []; value = Int (pos 300) } ∷ []) given → ⊥
+from_members : {given : List MemberValue} → MembersBecome example (x_field ∷ []) (record { name = 120 ∷ []; value = Int (pos 300) } ∷ []) given → ⊥
 from_members (part {w = v} e h hs) =
     outside (from_opened (Int (pos 300)) (value.Int (pos 300)) (opens_int (pos 300)) (from_kind (subst (λ (f : Field). Becomes example (opened (Int (pos 300))) (member f) v) (sym (same_some e)) h)))
 

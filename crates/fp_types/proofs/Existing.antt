@@ -2,7 +2,7 @@
 use Rattle.std.proofs.Common.{◌≡◌, ◌⊎◌, inl, inr, ℕ, suc, ◌<◌, List, [], ◌∷◌, replicate, slice_get, Option, Some, None, refl, subst}
 use Rattle.std.proofs.lemmas.Option.{slice_get_within}
 use Rattle.fp_base.specs.declared.value.Value.{Value, Array, Struct, Opaque}
-use Rattle.fp_base.specs.declared.value.Part.{Part}
+use Rattle.fp_base.specs.declared.value.MemberValue.{MemberValue}
 use Rattle.fp_tables.specs.declared.kind.Kind.{Kind}
 use Rattle.fp_tables.specs.declared.kind.Kind.TheVariants as kind
 use Rattle.fp_tables.specs.declared.kind.Form.{Form}
@@ -23,15 +23,15 @@ use Rattle.fp_types.proofs.Total.{BothIn, BothInForm, Made, Unfits, both, not_un
 
 module _ (ws : List WrittenType) where
   -- members that are left out have the defaults of their types
-  members : (fs : List Field) → ((i : ℕ) (f : Field) → slice_get fs i ≡ Some f → BothIn ws (member f)) → (given : List Part) → (made : List Part) × Completes ws OfMembers given fs made
+  members : (fs : List Field) → ((i : ℕ) (f : Field) → slice_get fs i ≡ Some f → BothIn ws (member f)) → (given : List MemberValue) → (made : List MemberValue) × Completes ws OfMembers given fs made
   members [] parts given = ([], convert.no_field)
   members (f ∷ fs) parts given = go (value_named given f.name) refl (members fs (λ i g e. parts (suc i) g e) given)
     where
-      go : (o : Option Value) → value_named given f.name ≡ o → (made : List Part) × Completes ws OfMembers given fs made → (made : List Part) × Completes ws OfMembers given (f ∷ fs) made
+      go : (o : Option Value) → value_named given f.name ≡ o → (made : List MemberValue) × Completes ws OfMembers given fs made → (made : List MemberValue) × Completes ws OfMembers given (f ∷ fs) made
       go (Some w) e (made, c) = (part_for f w ∷ made, given_here e c)
       go None e (made, c) = let d = (parts 0 f refl).0 in (part_for f d.0 ∷ made, left_out e (in_type d.1) c)
 
-  form_members : (f : Form) → BothInForm ws f → (fields : List Field) → f ≡ form.Struct fields → (given : List Part) → (made : List Part) × Completes ws OfMembers given fields made
+  form_members : (f : Form) → BothInForm ws f → (fields : List Field) → f ≡ form.Struct fields → (given : List MemberValue) → (made : List MemberValue) × Completes ws OfMembers given fields made
   form_members f parts fields is = members fields (subst (λ (x : Form). BothInForm ws x) is parts)
 
   form_default : (f : Form) → ((k : Kind) → f ≡ form.Enum k [] → ⊥) → BothInForm ws f → (w : Value) × Default ws (form_target OfMembers f) w

@@ -12,7 +12,7 @@ use Rattle.fp_base.proofs.Sameness.{nat_same, value_same}
 use Rattle.fp_base.specs.declared.value.Value.{Value, Enumerated, out-Value, roll-Value, roll-out-Value}
 use Rattle.fp_base.specs.declared.value.Value.TheOpen as value
 use Rattle.fp_base.specs.declared.value.Value.TheVariants as rolled
-use Rattle.fp_base.specs.declared.value.Part.{Part}
+use Rattle.fp_base.specs.declared.value.MemberValue.{MemberValue}
 use Rattle.fp_tables.specs.Lists.{all_beside}
 use Rattle.fp_tables.specs.Names.{texts_differ}
 use Rattle.fp_tables.specs.Types as shapes
@@ -112,19 +112,19 @@ module _ (types : List TypeDef) where
   -- ---- values given for members
 
   -- each has the shape of the member that it names
-  pub AreGivenFor : List Field → List Part → Type 0
-  AreGivenFor all given = (name : List ℕ) (q : Part) → find (λ (p : Part). bytes_eq p.name name) given ≡ Some q → (g : Field) × (member_named all name ≡ Some g) × (has types (member_shape types g) q.value ≡ true)
+  pub AreGivenFor : List Field → List MemberValue → Type 0
+  AreGivenFor all given = (name : List ℕ) (q : MemberValue) → find (λ (p : MemberValue). bytes_eq p.name name) given ≡ Some q → (g : Field) × (member_named all name ≡ Some g) × (has types (member_shape types g) q.value ≡ true)
 
-  pub next_given : (all : List Field) (p : Part) (f : Field) (w : Value) (given : List Part) → member_named all p.name ≡ Some f → has types (member_shape types f) w ≡ true → AreGivenFor all given
+  pub next_given : (all : List Field) (p : MemberValue) (f : Field) (w : Value) (given : List MemberValue) → member_named all p.name ≡ Some f → has types (member_shape types f) w ≡ true → AreGivenFor all given
       → AreGivenFor all (record { name = p.name; value = w } ∷ given)
   unfolding AreGivenFor
   next_given all p f w given is h rest name q found = go (bytes_eq p.name name) refl found
     where
-      go : (b : Bool) → bytes_eq p.name name ≡ b → cond b (Some (record { name = p.name; value = w })) (find (λ (x : Part). bytes_eq x.name name) given) ≡ Some q
+      go : (b : Bool) → bytes_eq p.name name ≡ b → cond b (Some (record { name = p.name; value = w })) (find (λ (x : MemberValue). bytes_eq x.name name) given) ≡ Some q
           → (g : Field) × (member_named all name ≡ Some g) × (has types (member_shape types g) q.value ≡ true)
       go true same e =
           let named : p.name ≡ name = (bytes_eq-Decides p.name name).0 same in
-          (f, ap (member_named all) (sym named) ∙ is, ap (λ (x : Part). has types (member_shape types f) x.value) (sym (same_some e)) ∙ h)
+          (f, ap (member_named all) (sym named) ∙ is, ap (λ (x : MemberValue). has types (member_shape types f) x.value) (sym (same_some e)) ∙ h)
       go false same e = rest name q e
 
   pub no_given : (all : List Field) → AreGivenFor all []
@@ -132,12 +132,12 @@ module _ (types : List TypeDef) where
   no_given all name q found = absurd (cc)
 
   -- the value that is given for a member
-  pub given_has : (all : List Field) (f : Field) (w : Value) (given : List Part) → AreGivenFor all given → member_named all f.name ≡ Some f → value_named given f.name ≡ Some w
+  pub given_has : (all : List Field) (f : Field) (w : Value) (given : List MemberValue) → AreGivenFor all given → member_named all f.name ≡ Some f → value_named given f.name ≡ Some w
       → has types (member_shape types f) w ≡ true
   unfolding AreGivenFor
-  given_has all f w given are_given is named = go (find (λ (p : Part). bytes_eq p.name f.name) given) refl named
+  given_has all f w given are_given is named = go (find (λ (p : MemberValue). bytes_eq p.name f.name) given) refl named
     where
-      go : (o : Option Part) → find (λ (p : Part). bytes_eq p.name f.name) given ≡ o → option_map (λ (p : Part). p.value) o ≡ Some w → has types (member_shape types f) w ≡ true
+      go : (o : Option MemberValue) → find (λ (p : MemberValue). bytes_eq p.name f.name) given ≡ o → option_map (λ (p : MemberValue). p.value) o ≡ Some w → has types (member_shape types f) w ≡ true
       go None found e = absurd (cc)
       go (Some q) found e =
           let g = are_given f.name q found in
@@ -145,7 +145,7 @@ module _ (types : List TypeDef) where
           ap (has types (member_shape types f)) (sym (same_some e)) ∙ subst (λ (x : Field). has types (member_shape types x) q.value ≡ true) one g.2
 
   -- the parts of a value of a struct are given for its members
-  beside_given : (fields : List Field) (ps : List Part) → all_beside (part_has types) fields ps ≡ true → AreGivenFor fields ps
+  beside_given : (fields : List Field) (ps : List MemberValue) → all_beside (part_has types) fields ps ≡ true → AreGivenFor fields ps
   unfolding AreGivenFor
   beside_given [] [] h name q found = absurd (cc)
   beside_given [] (p ∷ ps) h name q found = absurd (cc)
@@ -156,12 +156,12 @@ module _ (types : List TypeDef) where
       let same : p.name ≡ f.name = (bytes_eq-Decides p.name f.name).0 here.0 in
       go (bytes_eq p.name name) refl found (ap (λ (n : List ℕ). bytes_eq n name) (sym same)) here.1 (beside_given fs ps halves.1 name q)
     where
-      go : (b : Bool) → bytes_eq p.name name ≡ b → cond b (Some p) (find (λ (x : Part). bytes_eq x.name name) ps) ≡ Some q → bytes_eq f.name name ≡ bytes_eq p.name name
+      go : (b : Bool) → bytes_eq p.name name ≡ b → cond b (Some p) (find (λ (x : MemberValue). bytes_eq x.name name) ps) ≡ Some q → bytes_eq f.name name ≡ bytes_eq p.name name
           → has types (member_shape types f) p.value ≡ true
-          → (find (λ (x : Part). bytes_eq x.name name) ps ≡ Some q → (g : Field) × (member_named fs name ≡ Some g) × (has types (member_shape types g) q.value ≡ true))
+          → (find (λ (x : MemberValue). bytes_eq x.name name) ps ≡ Some q → (g : Field) × (member_named fs name ≡ Some g) × (has types (member_shape types g) q.value ≡ true))
           → (g : Field) × (member_named (f ∷ fs) name ≡ Some g) × (has types (member_shape types g) q.value ≡ true)
       go true is e at has_value rest =
-          (f, ap (λ (b : Bool). cond b (Some f) (member_named fs name)) (at ∙ is), ap (λ (x : Part). has types (member_shape types f) x.value) (sym (same_some e)) ∙ has_value)
+          (f, ap (λ (b : Bool). cond b (Some f) (member_named fs name)) (at ∙ is), ap (λ (x : MemberValue). has types (member_shape types f) x.value) (sym (same_some e)) ∙ has_value)
       go false is e at has_value rest = let r = rest e in (r.0, ap (λ (b : Bool). cond b (Some f) (member_named fs name)) (at ∙ is) ∙ r.1, r.2)
 
   default_parts : (fields : List Field) (d : Value) (o : Opened) → out-Value d ≡ o → has types (shapes.struct fields) (roll-Value o) ≡ true → all_beside (part_has types) fields (parts_in d) ≡ true
@@ -262,16 +262,16 @@ module _ (ws : List WrittenType) (types : List TypeDef) (well : AreWellWritten w
     each_has none = refl
     each_has (more h hs) = join _ _ (has_target tt h) (each_has hs)
 
-    are_given : {fields : List Field} {ps given : List Part} → MembersBecome ws fields ps given → AreGivenFor types fields given
+    are_given : {fields : List Field} {ps given : List MemberValue} → MembersBecome ws fields ps given → AreGivenFor types fields given
     are_given (no_part {fields = fields}) = no_given types fields
     are_given (part {fields = fields} {p = p} {f = f} {w = w} {given = given} is h hs) =
         next_given types fields p f w given is (member_has types f w (has_target (good_sized f.size f.kind) h)) (are_given hs)
 
-    each_member_has : {o : Opened} {fs : List Field} {made : List Part} → BecomesInEach ws o fs made → all_beside (part_has types) fs made ≡ true
+    each_member_has : {o : Opened} {fs : List Field} {made : List MemberValue} → BecomesInEach ws o fs made → all_beside (part_has types) fs made ≡ true
     each_member_has no_member = refl
     each_member_has (in_member {f = f} {w = w} h hs) = join _ _ (part_for_has types f w (member_has types f w (has_target (good_sized f.size f.kind) h))) (each_member_has hs)
 
-    completes_has : (all : List Field) {r : Rest} {given made : List Part} {fs : List Field} → Good (struct r all) → AreMeant all fs → AreGivenFor types all given → Completes ws r given fs made
+    completes_has : (all : List Field) {r : Rest} {given made : List MemberValue} {fs : List Field} → Good (struct r all) → AreMeant all fs → AreGivenFor types all given → Completes ws r given fs made
         → all_beside (part_has types) fs made ≡ true
     completes_has all good meant given no_field = refl
     completes_has all good meant given (given_here {given = gs} {f = f} {w = w} e c) =

@@ -4,7 +4,7 @@ use Rattle.std.specs.List.{list_any}
 use Rattle.fp_base.specs.Same.{same}
 use Rattle.fp_base.specs.declared.value.Value.{Value, Enumerated}
 use Rattle.fp_base.specs.declared.value.Value.TheOpen as value
-use Rattle.fp_base.specs.declared.value.Part.{Part}
+use Rattle.fp_base.specs.declared.value.MemberValue.{MemberValue}
 use Rattle.fp_tables.specs.declared.kind.Kind.{Kind}
 use Rattle.fp_tables.specs.declared.kind.Field.{Field}
 use Rattle.fp_tables.specs.declared.kind.Constant.{Constant}
@@ -85,10 +85,10 @@ module _ (types : List WrittenType) where
   array_back size k {o = o} (in_each_part s h) = single_array size k o _ s h
 
   abbrev pub InStruct : Rest → List Field → Opened → Type 0
-  InStruct rest fields (value.Struct parts) = (given : List Part) × (made : List Part) × MembersBecome types fields parts given × Completes types rest given fields made
-  InStruct rest fields o = IsSingle o × (made : List Part) × BecomesInEach types o fields made
+  InStruct rest fields (value.Struct parts) = (given : List MemberValue) × (made : List MemberValue) × MembersBecome types fields parts given × Completes types rest given fields made
+  InStruct rest fields o = IsSingle o × (made : List MemberValue) × BecomesInEach types o fields made
 
-  single_struct : (rest : Rest) (fields : List Field) (o : Opened) (made : List Part) → IsSingle o → BecomesInEach types o fields made → InStruct rest fields o
+  single_struct : (rest : Rest) (fields : List Field) (o : Opened) (made : List MemberValue) → IsSingle o → BecomesInEach types o fields made → InStruct rest fields o
   single_struct rest fields (value.Array items) w s h = absurd s
   single_struct rest fields (value.Int n) w s h = (s, w, h)
   single_struct rest fields (value.Bool b) w s h = (s, w, h)

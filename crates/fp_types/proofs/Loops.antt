@@ -3,7 +3,7 @@ use Rattle.std.proofs.Common.{◌≡◌, ℕ, zero, suc, ◌+◌, ◌<◌, ◌�
 use Rattle.std.proofs.lemmas.List.{take_more, take_all}
 use Rattle.std.proofs.lemmas.Option.{slice_get_read}
 use Rattle.fp_base.specs.declared.value.Value.{Value}
-use Rattle.fp_base.specs.declared.value.Part.{Part}
+use Rattle.fp_base.specs.declared.value.MemberValue.{MemberValue}
 use Rattle.fp_base.proofs.Options.{same_some}
 use Rattle.fp_tables.specs.declared.kind.Kind.{Kind}
 use Rattle.fp_tables.specs.declared.kind.Field.{Field}
@@ -13,7 +13,7 @@ use Rattle.fp_types.specs.Converting.{Opened, opened, of_kind, member, member_na
 pushed : {A : Type 0} (xs : List A) (i : ℕ) (x : A) → i < length xs → x ≡ get_or xs i x → take (i + 1) xs ≡ take i xs ++ x ∷ []
 pushed xs i x lt is = take_more xs i x lt ∙ ap (λ y. take i xs ++ y ∷ []) (sym is)
 
-abbrev pub made_part : List ℕ → Value → Part
+abbrev pub made_part : List ℕ → Value → MemberValue
 made_part n v = record { name = n; value = v }
 
 module _ (types : List WrittenType) where
@@ -49,64 +49,64 @@ module _ (types : List WrittenType) where
 
   -- ---- members that are named
 
-  members_add : (fields : List Field) (p : Part) (f : Field) (w : Value) {ps given : List Part} → MembersBecome types fields ps given → member_named fields p.name ≡ Some f
+  members_add : (fields : List Field) (p : MemberValue) (f : Field) (w : Value) {ps given : List MemberValue} → MembersBecome types fields ps given → member_named fields p.name ≡ Some f
       → Becomes types (opened p.value) (member f) w → MembersBecome types fields (ps ++ p ∷ []) (given ++ made_part p.name w ∷ [])
   members_add fields p f w no_part e g = part e g no_part
   members_add fields p f w (part d h hs) e g = part d h (members_add fields p f w hs e g)
 
-  pub members_first : (fields : List Field) (given : List Part) → given ≡ [] → MembersBecome types fields [] given
-  members_first fields given is = subst (λ (ps : List Part). MembersBecome types fields [] ps) (sym is) no_part
+  pub members_first : (fields : List Field) (given : List MemberValue) → given ≡ [] → MembersBecome types fields [] given
+  members_first fields given is = subst (λ (ps : List MemberValue). MembersBecome types fields [] ps) (sym is) no_part
 
-  pub members_next : (fields : List Field) (parts : List Part) (i : ℕ) (p : Part) (name : List ℕ) (value : Value) (given more_given : List Part) → i < length parts → p ≡ get_or parts i p
+  pub members_next : (fields : List Field) (parts : List MemberValue) (i : ℕ) (p : MemberValue) (name : List ℕ) (value : Value) (given more_given : List MemberValue) → i < length parts → p ≡ get_or parts i p
       → MembersBecome types fields (take i parts) given → name ≡ p.name → (f : Field) × (member_named fields p.name ≡ Some f) × Becomes types (opened p.value) (member f) value
       → more_given ≡ given ++ made_part name value ∷ []
       → MembersBecome types fields (take (i + 1) parts) more_given
   members_next fields parts i p name v given more_given lt is h named g e =
-      subst (λ (ps : List Part). MembersBecome types fields ps more_given) (sym (pushed parts i p lt is))
-      (subst (λ (qs : List Part). MembersBecome types fields (take i parts ++ p ∷ []) qs) (sym (e ∙ ap (λ (n : List ℕ). given ++ made_part n v ∷ []) named)) (members_add fields p g.0 v h g.1 g.2))
+      subst (λ (ps : List MemberValue). MembersBecome types fields ps more_given) (sym (pushed parts i p lt is))
+      (subst (λ (qs : List MemberValue). MembersBecome types fields (take i parts ++ p ∷ []) qs) (sym (e ∙ ap (λ (n : List ℕ). given ++ made_part n v ∷ []) named)) (members_add fields p g.0 v h g.1 g.2))
 
-  pub members_last : (fields : List Field) (parts : List Part) (i : ℕ) (given : List Part) → length parts ≤ i → MembersBecome types fields (take i parts) given → MembersBecome types fields parts given
-  members_last fields parts i given all h = subst (λ (ps : List Part). MembersBecome types fields ps given) (take_all i parts all) h
+  pub members_last : (fields : List Field) (parts : List MemberValue) (i : ℕ) (given : List MemberValue) → length parts ≤ i → MembersBecome types fields (take i parts) given → MembersBecome types fields parts given
+  members_last fields parts i given all h = subst (λ (ps : List MemberValue). MembersBecome types fields ps given) (take_all i parts all) h
 
-  members_at : (fields : List Field) {ps given : List Part} (i : ℕ) (p : Part) → MembersBecome types fields ps given → slice_get ps i ≡ Some p
+  members_at : (fields : List Field) {ps given : List MemberValue} (i : ℕ) (p : MemberValue) → MembersBecome types fields ps given → slice_get ps i ≡ Some p
       → (f : Field) × (w : Value) × (member_named fields p.name ≡ Some f) × Becomes types (opened p.value) (member f) w
   members_at fields i p no_part e = absurd (cc)
   members_at fields zero p (part {f = f} {w = w} d h hs) e =
-      (f, w, subst (λ (x : Part). member_named fields x.name ≡ Some f) (same_some e) d, subst (λ (x : Part). Becomes types (opened x.value) (member f) w) (same_some e) h)
+      (f, w, subst (λ (x : MemberValue). member_named fields x.name ≡ Some f) (same_some e) d, subst (λ (x : MemberValue). Becomes types (opened x.value) (member f) w) (same_some e) h)
   members_at fields (suc i) p (part d h hs) e = members_at fields i p hs e
 
-  pub members_none : (r : Type 0) (fields : List Field) (parts : List Part) (i : ℕ) (p : Part) → i < length parts → p ≡ get_or parts i p
+  pub members_none : (r : Type 0) (fields : List Field) (parts : List MemberValue) (i : ℕ) (p : MemberValue) → i < length parts → p ≡ get_or parts i p
       → (r → (f : Field) (w : Value) → member_named fields p.name ≡ Some f → Becomes types (opened p.value) (member f) w → ⊥)
-      → r → (given : List Part) → MembersBecome types fields parts given → ⊥
+      → r → (given : List MemberValue) → MembersBecome types fields parts given → ⊥
   members_none r fields parts i p lt is never reached given h =
       let q = members_at fields i p h (slice_get_read parts (length parts) i p refl lt is) in never reached q.0 q.1 q.2 q.3
 
   -- ---- all members
 
-  in_each_add : (o : Opened) (f : Field) (w : Value) {fs : List Field} {made : List Part} → BecomesInEach types o fs made → Becomes types o (member f) w
+  in_each_add : (o : Opened) (f : Field) (w : Value) {fs : List Field} {made : List MemberValue} → BecomesInEach types o fs made → Becomes types o (member f) w
       → BecomesInEach types o (fs ++ f ∷ []) (made ++ made_part f.name w ∷ [])
   in_each_add o f w no_member g = in_member g no_member
   in_each_add o f w (in_member h hs) g = in_member h (in_each_add o f w hs g)
 
-  pub in_each_first : (o : Opened) (made : List Part) → made ≡ [] → BecomesInEach types o [] made
-  in_each_first o made is = subst (λ (ps : List Part). BecomesInEach types o [] ps) (sym is) no_member
+  pub in_each_first : (o : Opened) (made : List MemberValue) → made ≡ [] → BecomesInEach types o [] made
+  in_each_first o made is = subst (λ (ps : List MemberValue). BecomesInEach types o [] ps) (sym is) no_member
 
-  pub in_each_next : (o : Opened) (fields : List Field) (i : ℕ) (f : Field) (name : List ℕ) (value : Value) (made more_made : List Part) → i < length fields → f ≡ get_or fields i f
+  pub in_each_next : (o : Opened) (fields : List Field) (i : ℕ) (f : Field) (name : List ℕ) (value : Value) (made more_made : List MemberValue) → i < length fields → f ≡ get_or fields i f
       → BecomesInEach types o (take i fields) made → name ≡ f.name → Becomes types o (member f) value → more_made ≡ made ++ made_part name value ∷ []
       → BecomesInEach types o (take (i + 1) fields) more_made
   in_each_next o fields i f name v made more_made lt is h named g e =
       subst (λ (fs : List Field). BecomesInEach types o fs more_made) (sym (pushed fields i f lt is))
-      (subst (λ (qs : List Part). BecomesInEach types o (take i fields ++ f ∷ []) qs) (sym (e ∙ ap (λ (n : List ℕ). made ++ made_part n v ∷ []) named)) (in_each_add o f v h g))
+      (subst (λ (qs : List MemberValue). BecomesInEach types o (take i fields ++ f ∷ []) qs) (sym (e ∙ ap (λ (n : List ℕ). made ++ made_part n v ∷ []) named)) (in_each_add o f v h g))
 
-  pub in_each_last : (o : Opened) (fields : List Field) (i : ℕ) (made : List Part) → length fields ≤ i → BecomesInEach types o (take i fields) made → BecomesInEach types o fields made
+  pub in_each_last : (o : Opened) (fields : List Field) (i : ℕ) (made : List MemberValue) → length fields ≤ i → BecomesInEach types o (take i fields) made → BecomesInEach types o fields made
   in_each_last o fields i made all h = subst (λ (fs : List Field). BecomesInEach types o fs made) (take_all i fields all) h
 
-  in_each_at : (o : Opened) {fs : List Field} {made : List Part} (i : ℕ) (f : Field) → BecomesInEach types o fs made → slice_get fs i ≡ Some f → (w : Value) × Becomes types o (member f) w
+  in_each_at : (o : Opened) {fs : List Field} {made : List MemberValue} (i : ℕ) (f : Field) → BecomesInEach types o fs made → slice_get fs i ≡ Some f → (w : Value) × Becomes types o (member f) w
   in_each_at o i f no_member e = absurd (cc)
   in_each_at o zero f (in_member {w = w} h hs) e = (w, subst (λ (x : Field). Becomes types o (member x) w) (same_some e) h)
   in_each_at o (suc i) f (in_member h hs) e = in_each_at o i f hs e
 
   pub in_each_none : (r : Type 0) (o : Opened) (fields : List Field) (i : ℕ) (f : Field) → i < length fields → f ≡ get_or fields i f
-      → (r → (w : Value) → Becomes types o (member f) w → ⊥) → r → (made : List Part) → BecomesInEach types o fields made → ⊥
+      → (r → (w : Value) → Becomes types o (member f) w → ⊥) → r → (made : List MemberValue) → BecomesInEach types o fields made → ⊥
   in_each_none r o fields i f lt is never reached made h =
       let p = in_each_at o i f h (slice_get_read fields (length fields) i f refl lt is) in never reached p.0 p.1

@@ -6,7 +6,7 @@ use Rattle.std.specs.Str.{bytes_eq}
 use Rattle.fp_base.specs.Same.{same}
 use Rattle.fp_base.specs.declared.value.Value.{Value, Int, Enumerated}
 use Rattle.fp_base.specs.declared.value.Value.TheOpen as value
-use Rattle.fp_base.specs.declared.value.Part.{Part}
+use Rattle.fp_base.specs.declared.value.MemberValue.{MemberValue}
 use Rattle.fp_base.proofs.Options.{same_some}
 use Rattle.fp_tables.specs.declared.kind.Kind.{Kind}
 use Rattle.fp_tables.specs.declared.kind.Field.{Field}
@@ -124,7 +124,7 @@ module _ (types : List WrittenType) (r : Type 0) where
   -- ---- structs
 
   single_members : (rest : Rest) (fields : List Field) (o : Opened) → IsSingle o → (w : Value) → Becomes types o (struct rest fields) w
-      → (made : List Part) × BecomesInEach types o fields made
+      → (made : List MemberValue) × BecomesInEach types o fields made
   single_members rest fields (value.Int n) s w h = let p = struct_back types rest fields h in (p.1, p.2)
   single_members rest fields (value.Bool b) s w h = let p = struct_back types rest fields h in (p.1, p.2)
   single_members rest fields (value.Text t) s w h = let p = struct_back types rest fields h in (p.1, p.2)
@@ -133,12 +133,12 @@ module _ (types : List WrittenType) (r : Type 0) where
   single_members rest fields (value.Struct parts) s w h = absurd s
   single_members rest fields value.Opaque s w h = absurd s
 
-  pub in_each_member_made : (rest : Rest) (fields : List Field) (o : Opened) (m : Option (List Part)) → IsSingle o → AreMadeInEach types r o fields m
+  pub in_each_member_made : (rest : Rest) (fields : List Field) (o : Opened) (m : Option (List MemberValue)) → IsSingle o → AreMadeInEach types r o fields m
       → IsMade types r o (struct rest fields) (option_map structured m)
   in_each_member_made rest fields o (Some made) s h = in_each_member s h
   in_each_member_made rest fields o None s h = λ reached w g. let p = single_members rest fields o s w g in h reached p.0 p.1
 
-  pub parts_are : (o : Opened) (parts : List Part) → Some parts ≡ parts_of o → value.Struct parts ≡ o
+  pub parts_are : (o : Opened) (parts : List MemberValue) → Some parts ≡ parts_of o → value.Struct parts ≡ o
   parts_are (value.Struct xs) parts is = cc
   parts_are (value.Int n) parts is = absurd (cc)
   parts_are (value.Bool b) parts is = absurd (cc)
@@ -177,11 +177,11 @@ made_some types r o t m w e h = subst (λ (x : Option Value). IsMade types r o t
 pub made_none : (types : List WrittenType) (r : Type 0) (o : Opened) (t : Target) (m : Option Value) → m ≡ None → IsMade types r o t m → r → (w : Value) → Becomes types o t w → ⊥
 made_none types r o t m e h = subst (λ (x : Option Value). IsMade types r o t x) e h
 
-pub part_some : (types : List WrittenType) (r : Type 0) (fields : List Field) (p : Part) (m : Option Value) (w : Value) → m ≡ Some w → IsMadeOfPart types r fields p m
+pub part_some : (types : List WrittenType) (r : Type 0) (fields : List Field) (p : MemberValue) (m : Option Value) (w : Value) → m ≡ Some w → IsMadeOfPart types r fields p m
     → (f : Field) × (member_named fields p.name ≡ Some f) × Becomes types (opened p.value) (member f) w
 part_some types r fields p m w e h = subst (λ (x : Option Value). IsMadeOfPart types r fields p x) e h
 
-pub part_none : (types : List WrittenType) (r : Type 0) (fields : List Field) (p : Part) (m : Option Value) → m ≡ None → IsMadeOfPart types r fields p m
+pub part_none : (types : List WrittenType) (r : Type 0) (fields : List Field) (p : MemberValue) (m : Option Value) → m ≡ None → IsMadeOfPart types r fields p m
     → r → (f : Field) (w : Value) → member_named fields p.name ≡ Some f → Becomes types (opened p.value) (member f) w → ⊥
 part_none types r fields p m e h = subst (λ (x : Option Value). IsMadeOfPart types r fields p x) e h
 
@@ -201,13 +201,13 @@ full_field n [] i f e h = none_some refl e
 full_field {ws = ws} {defaults = defaults} n (g ∷ gs) zero f e h = subst (λ (x : Field). Suffices ws defaults n x.kind) (same_some e) h.0
 full_field n (g ∷ gs) (suc i) f e h = full_field n gs i f e h.1
 
-pub named_made : (types : List WrittenType) (defaults : List (Option Value)) (n : ℕ) (fields : List Field) (p : Part) (f : Field) (m : Option Value) → Some f ≡ member_named fields p.name
+pub named_made : (types : List WrittenType) (defaults : List (Option Value)) (n : ℕ) (fields : List Field) (p : MemberValue) (f : Field) (m : Option Value) → Some f ≡ member_named fields p.name
     → IsMade types (Suffices types defaults n f.kind) (opened p.value) (member f) m → IsMadeOfPart types (SufficesEach types defaults n fields) fields p m
 named_made types defaults n fields p f (Some w) is h = (f, sym is, h)
 named_made types defaults n fields p f None is h =
     λ reached g w e k. h (full_at n fields p.name f (sym is) reached) w (subst (λ (x : Field). Becomes types (opened p.value) (member x) w) (same_some (sym e ∙ sym is)) k)
 
-pub unnamed_made : (types : List WrittenType) (r : Type 0) (fields : List Field) (p : Part) → None ≡ member_named fields p.name → IsMadeOfPart types r fields p None
+pub unnamed_made : (types : List WrittenType) (r : Type 0) (fields : List Field) (p : MemberValue) → None ≡ member_named fields p.name → IsMadeOfPart types r fields p None
 unnamed_made types r fields p is = λ reached f w e h. none_some is e
 
 pub member_sized : (f : Field) (n : ℕ) → f.size ≡ Some n → member f ≡ array n f.kind

@@ -3,7 +3,7 @@ use Rattle.std.proofs.Common.{◌≡◌, ◌⊎◌, inl, inr, ℕ, zero, suc, �
 use Rattle.std.proofs.lemmas.Option.{slice_get_read, slice_get_within}
 use Rattle.fp_base.specs.declared.value.Value.{Value}
 use Rattle.fp_base.specs.declared.value.Value.TheOpen as value
-use Rattle.fp_base.specs.declared.value.Part.{Part}
+use Rattle.fp_base.specs.declared.value.MemberValue.{MemberValue}
 use Rattle.fp_tables.specs.declared.kind.Kind.{Kind}
 use Rattle.fp_tables.specs.declared.kind.Field.{Field}
 use Rattle.fp_type_sizes.specs.declared.written.WrittenType.{WrittenType}
@@ -190,13 +190,13 @@ module _ (types : List WrittenType) (test : Opened → Target → Bool) where
   pub at_struct : (r : Type 0) (fields : List Field) (o p : Opened) (b : Bool) → o ≡ p → Tells r (MeetsInStruct types test fields o) b → Tells r (MeetsInStruct types test fields p) b
   at_struct r fields o p b e h = subst (λ (x : Opened). Tells r (MeetsInStruct types test fields x) b) e h
 
-  pub named_met : (n : ℕ) (fields : List Field) (p : Part) (f : Field) (b : Bool) → Some f ≡ member_named fields p.name
+  pub named_met : (n : ℕ) (fields : List Field) (p : MemberValue) (f : Field) (b : Bool) → Some f ≡ member_named fields p.name
       → Tells (Enough types n f.kind) (Meets types test (opened p.value) (member f)) b → Tells (EnoughEach types n fields) (MeetsNamed types test fields p) b
   named_met n fields p f b is h =
       told (Enough types n f.kind) (EnoughEach types n fields) _ _ b (enough_named types n fields p.name f (sym is)) (λ m. (f, sym is, m))
       (λ m. subst (λ (x : Field). Meets types test (opened p.value) (member x)) (same_some (sym m.1 ∙ sym is)) m.2) h
 
-  pub unnamed_met : (r : Type 0) (fields : List Field) (p : Part) → None ≡ member_named fields p.name → r → MeetsNamed types test fields p → ⊥
+  pub unnamed_met : (r : Type 0) (fields : List Field) (p : MemberValue) → None ≡ member_named fields p.name → r → MeetsNamed types test fields p → ⊥
   unnamed_met r fields p is reached m = let both : None ≡ Some _ = is ∙ m.1 in cc
 
   pub sized_member : (r : Type 0) (f : Field) (t : Target) (o : Opened) (b : Bool) → member f ≡ t → Tells r (Meets types test o t) b → Tells r (Meets types test o (member f)) b

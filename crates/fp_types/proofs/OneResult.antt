@@ -2,7 +2,7 @@
 use Rattle.std.proofs.Common.{◌≡◌, ℕ, List, ◌∷◌, Option, Some, None, refl, sym, ap, ◌∙◌, subst}
 use Rattle.std.specs.Prelude.{replicate}
 use Rattle.fp_base.specs.declared.value.Value.{Value, Array, Struct}
-use Rattle.fp_base.specs.declared.value.Part.{Part}
+use Rattle.fp_base.specs.declared.value.MemberValue.{MemberValue}
 use Rattle.fp_base.proofs.Options.{same_some}
 use Rattle.fp_tables.specs.declared.kind.Kind.{Kind}
 use Rattle.fp_tables.specs.declared.kind.Form.{Form}
@@ -20,7 +20,7 @@ one_member fields name e h = same_some (sym h ∙ e)
 same_list : {v w : Value} {vs ws : List Value} → v ≡ w → vs ≡ ws → v ∷ vs ≡ w ∷ ws
 same_list e h = cc
 
-same_part : {n : List ℕ} {v w : Value} {ps qs : List Part} → v ≡ w → ps ≡ qs → ◌≡◌ {A = List Part} (record { name = n; value = v } ∷ ps) (record { name = n; value = w } ∷ qs)
+same_part : {n : List ℕ} {v w : Value} {ps qs : List MemberValue} → v ≡ w → ps ≡ qs → ◌≡◌ {A = List MemberValue} (record { name = n; value = v } ∷ ps) (record { name = n; value = w } ∷ qs)
 same_part e h = cc
 
 moved : {ws : List WrittenType} {v : Opened} {f g : Field} {w : Value} → g ≡ f → Becomes ws v (member g) w → Becomes ws v (member f) w
@@ -35,8 +35,8 @@ moved_default {ws = ws} r {w = w} e h = subst (λ (x : Form). Default ws (form_t
 moved_value : {ws : List WrittenType} {t : Target} {u v w : Value} → u ≡ v → Becomes ws (opened u) t w → Becomes ws (opened v) t w
 moved_value {ws = ws} {t = t} {w = w} e h = subst (λ (x : Value). Becomes ws (opened x) t w) e h
 
-moved_given : {ws : List WrittenType} {r : Rest} {gs hs : List Part} {fs : List Field} {made : List Part} → gs ≡ hs → Completes ws r gs fs made → Completes ws r hs fs made
-moved_given {ws = ws} {r = r} {fs = fs} {made = made} e h = subst (λ (x : List Part). Completes ws r x fs made) e h
+moved_given : {ws : List WrittenType} {r : Rest} {gs hs : List MemberValue} {fs : List Field} {made : List MemberValue} → gs ≡ hs → Completes ws r gs fs made → Completes ws r hs fs made
+moved_given {ws = ws} {r = r} {fs = fs} {made = made} e h = subst (λ (x : List MemberValue). Completes ws r x fs made) e h
 
 pub one_own : {ws : List WrittenType} {i : ℕ} {o p : Own} → HasOwn ws i o → HasOwn ws i p → o ≡ p
 one_own {ws = ws} {i = i} h k = sym h.own ∙ ap (λ (x : WrittenType). x.default) (one_written ws i h.here k.here) ∙ k.own
@@ -77,15 +77,15 @@ mutual
   each_result none none = refl
   each_result (more h hs) (more k ks) = same_list (one_result h k) (each_result hs ks)
 
-  pub member_results : {ws : List WrittenType} {fields : List Field} {ps xs ys : List Part} → MembersBecome ws fields ps xs → MembersBecome ws fields ps ys → xs ≡ ys
+  pub member_results : {ws : List WrittenType} {fields : List Field} {ps xs ys : List MemberValue} → MembersBecome ws fields ps xs → MembersBecome ws fields ps ys → xs ≡ ys
   member_results no_part no_part = refl
   member_results (part {fields = fields} {p = p} e h hs) (part d k ks) = same_part (one_result h (moved (one_member fields p.name e d) k)) (member_results hs ks)
 
-  pub results_in_each : {ws : List WrittenType} {v : Opened} {fs : List Field} {xs ys : List Part} → BecomesInEach ws v fs xs → BecomesInEach ws v fs ys → xs ≡ ys
+  pub results_in_each : {ws : List WrittenType} {v : Opened} {fs : List Field} {xs ys : List MemberValue} → BecomesInEach ws v fs xs → BecomesInEach ws v fs ys → xs ≡ ys
   results_in_each no_member no_member = refl
   results_in_each (in_member h hs) (in_member k ks) = same_part (one_result h k) (results_in_each hs ks)
 
-  pub complete_result : {ws : List WrittenType} {r : Rest} {given : List Part} {fs : List Field} {xs ys : List Part} → Completes ws r given fs xs → Completes ws r given fs ys → xs ≡ ys
+  pub complete_result : {ws : List WrittenType} {r : Rest} {given : List MemberValue} {fs : List Field} {xs ys : List MemberValue} → Completes ws r given fs xs → Completes ws r given fs ys → xs ≡ ys
   complete_result no_field no_field = refl
   complete_result (given_here e h) (given_here d k) = same_part (same_some (sym e ∙ d)) (complete_result h k)
   complete_result (given_here e h) (left_out d l k) = none_some d e

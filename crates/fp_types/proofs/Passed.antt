@@ -3,7 +3,7 @@ use Rattle.std.proofs.Common.{◌≡◌, ◌≢◌, ℕ, suc, ◌+◌, ◌<◌, 
 use Rattle.std.specs.Prelude.{option_map}
 use Rattle.std.proofs.lemmas.Option.{slice_get_within}
 use Rattle.fp_base.specs.declared.value.Value.{Value}
-use Rattle.fp_base.specs.declared.value.Part.{Part}
+use Rattle.fp_base.specs.declared.value.MemberValue.{MemberValue}
 use Rattle.fp_base.proofs.Options.{same_some}
 use Rattle.fp_tables.specs.Types.{kinds_in}
 use Rattle.fp_tables.specs.declared.kind.Kind.{Kind}
@@ -222,10 +222,10 @@ module _ (ws : List WrittenType) (table : List (Option Value)) where
   lefts_of [] knows = tt
   lefts_of (f ∷ fs) knows = (knows 0 f.kind refl, lefts_of fs (λ at k e. knows (suc at) k e))
 
-  each_back : {fields : List Field} {x : Value} → Default ws (convert.struct OfMembers fields) x → (made : List Part) × Completes ws OfMembers [] fields made
+  each_back : {fields : List Field} {x : Value} → Default ws (convert.struct OfMembers fields) x → (made : List MemberValue) × Completes ws OfMembers [] fields made
   each_back (of_each h) = (_, h)
 
-  pub each_default : (fields : List Field) (m : Option (List Part)) → AreCompleted ws (SufficesForLefts ws table OfMembers fields) OfMembers [] fields m
+  pub each_default : (fields : List Field) (m : Option (List MemberValue)) → AreCompleted ws (SufficesForLefts ws table OfMembers fields) OfMembers [] fields m
       → IsDefault ws (SufficesForLefts ws table OfMembers fields) (convert.struct OfMembers fields) (option_map structured m)
   each_default fields (Some made) h = of_each h
   each_default fields None h = λ full x d. let p = each_back d in h full p.0 p.1

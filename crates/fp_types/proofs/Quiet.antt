@@ -8,7 +8,7 @@ use Rattle.fp_base.specs.declared.place.Place.{Place}
 use Rattle.fp_base.specs.declared.refusal.Refusal.{Refusal}
 use Rattle.fp_base.specs.declared.value.Value.{Value, Enumerated}
 use Rattle.fp_base.specs.declared.value.Value.TheOpen as value
-use Rattle.fp_base.specs.declared.value.Part.{Part}
+use Rattle.fp_base.specs.declared.value.MemberValue.{MemberValue}
 use Rattle.fp_base.proofs.Options.{same_some}
 use Rattle.fp_type_sizes.proofs.Places.{no_some}
 use Rattle.fp_tables.specs.declared.kind.Kind.{Kind}
@@ -37,7 +37,7 @@ pub record IsSilent (ws : List WrittenType) (test : Opened → Target → Bool) 
   pub of_own : (of name : List ℕ) (n : ℤ) (cs : List Constant) → list_any (λ (x : Constant). same x.value (Enumerated of name n)) cs ≡ true
       → test (value.Enumerated of name n) (constants cs) ≡ false
   pub of_items : (items : List Value) (size : ℕ) (k : Kind) → length items ≡ size → test (value.Array items) (array size k) ≡ false
-  pub of_parts : (parts given : List Part) (rest : Rest) (fields : List Field) → MembersBecome ws fields parts given → test (value.Struct parts) (struct rest fields) ≡ false
+  pub of_parts : (parts given : List MemberValue) (rest : Rest) (fields : List Field) → MembersBecome ws fields parts given → test (value.Struct parts) (struct rest fields) ≡ false
   pub of_single : (v : Opened) (size : ℕ) (k : Kind) → IsSingle v → test v (array size k) ≡ false
   pub of_each : (v : Opened) (rest : Rest) (fields : List Field) → IsSingle v → test v (struct rest fields) ≡ false
   pub of_type : (v : Opened) (k : Kind) → test v (of_kind k) ≡ false
@@ -84,17 +84,17 @@ module _ (ws : List WrittenType) (test : Opened → Target → Bool) where
       quiet_each (more h hs) zero g m = quiet h (at_value (sym (same_some g)) m)
       quiet_each (more h hs) (suc i) g m = quiet_each hs i g m
 
-      quiet_members : {fields : List Field} {ps given : List Part} {p : Part} {f : Field} → MembersBecome ws fields ps given → (i : ℕ) → slice_get ps i ≡ Some p → member_named fields p.name ≡ Some f
+      quiet_members : {fields : List Field} {ps given : List MemberValue} {p : MemberValue} {f : Field} → MembersBecome ws fields ps given → (i : ℕ) → slice_get ps i ≡ Some p → member_named fields p.name ≡ Some f
           → Meets ws test (opened p.value) (member f) → ⊥
       quiet_members no_part i g n m = no_some g
       quiet_members {p = p} {f = f} (part {fields = fields} {p = q} e h hs) zero g n m =
           let same : q ≡ p = same_some g in
-          let named : member_named fields q.name ≡ Some f = subst (λ (x : Part). member_named fields x.name ≡ Some f) (sym same) n in
-          let met : Meets ws test (opened q.value) (member f) = subst (λ (x : Part). Meets ws test (opened x.value) (member f)) (sym same) m in
+          let named : member_named fields q.name ≡ Some f = subst (λ (x : MemberValue). member_named fields x.name ≡ Some f) (sym same) n in
+          let met : Meets ws test (opened q.value) (member f) = subst (λ (x : MemberValue). Meets ws test (opened x.value) (member f)) (sym same) m in
           quiet h (at_member (same_some (sym named ∙ e)) met)
       quiet_members (part e h hs) (suc i) g n m = quiet_members hs i g n m
 
-      quiet_in_each : {v : Opened} {fs : List Field} {made : List Part} {f : Field} → BecomesInEach ws v fs made → (i : ℕ) → slice_get fs i ≡ Some f → Meets ws test v (member f) → ⊥
+      quiet_in_each : {v : Opened} {fs : List Field} {made : List MemberValue} {f : Field} → BecomesInEach ws v fs made → (i : ℕ) → slice_get fs i ≡ Some f → Meets ws test v (member f) → ⊥
       quiet_in_each no_member i g m = no_some g
       quiet_in_each (in_member h hs) zero g m = quiet h (at_member (sym (same_some g)) m)
       quiet_in_each (in_member h hs) (suc i) g m = quiet_in_each hs i g m
@@ -105,7 +105,7 @@ false_of : (b : Bool) → b ≡ true → not b ≡ false
 false_of true e = refl
 false_of false e = absurd (cc)
 
-all_named : {ws : List WrittenType} (fields : List Field) {ps given : List Part} → MembersBecome ws fields ps given → list_any (λ (p : Part). is_none (member_named fields p.name)) ps ≡ false
+all_named : {ws : List WrittenType} (fields : List Field) {ps given : List MemberValue} → MembersBecome ws fields ps given → list_any (λ (p : MemberValue). is_none (member_named fields p.name)) ps ≡ false
 all_named fields no_part = refl
 all_named fields (part e h hs) = rw (e, all_named fields hs) refl
 

@@ -12,7 +12,7 @@ use Rattle.fp_base.specs.declared.refusal.Refusal.{Refusal}
 use Rattle.fp_base.specs.declared.value.Value.{Value, Int, Bool as Truth, Text, Enumerated, Array, Struct, out-Value, out-roll-Value}
 use Rattle.fp_base.specs.declared.value.Value.TheVariants.{rolls-Struct}
 use Rattle.fp_base.specs.declared.value.Value.TheOpen as value
-use Rattle.fp_base.specs.declared.value.Part.{Part}
+use Rattle.fp_base.specs.declared.value.MemberValue.{MemberValue}
 use Rattle.fp_base.proofs.Options.{same_some}
 use Rattle.fp_type_sizes.proofs.Places.{no_some}
 use Rattle.fp_tables.specs.declared.kind.Kind.{Kind}
@@ -44,21 +44,21 @@ not_of b e = ap not e
 
 -- ---- the parts of what is made of a struct
 
-parts_are : (v : Value) (made : List Part) → out-Value v ≡ value.Struct made → parts_in v ≡ made
+parts_are : (v : Value) (made : List MemberValue) → out-Value v ≡ value.Struct made → parts_in v ≡ made
 parts_are v made is = rw is refl
 
-parts_of_struct : (made : List Part) → parts_in (Struct made) ≡ made
+parts_of_struct : (made : List MemberValue) → parts_in (Struct made) ≡ made
 parts_of_struct made = parts_are (Struct made) made (ap out-Value (sym (rolls-Struct made)) ∙ out-roll-Value (value.Struct made))
 
-abbrev Named : List Part → Field → Type 0
+abbrev Named : List MemberValue → Field → Type 0
 Named made f = (w : Value) × (value_named made f.name ≡ Some w)
 
-named_first : (g : Field) (w : Value) (made : List Part) (f : Field) → (bytes_eq g.name f.name ≡ false → Named made f) → Named (part_for g w ∷ made) f
+named_first : (g : Field) (w : Value) (made : List MemberValue) (f : Field) → (bytes_eq g.name f.name ≡ false → Named made f) → Named (part_for g w ∷ made) f
 named_first g w made f later = go (bytes_eq g.name f.name) refl
   where
-    go : (b : Bool) → bytes_eq g.name f.name ≡ b → (x : Value) × (option_map (λ (p : Part). p.value) (cond (bytes_eq g.name f.name) (Some (part_for g w)) (find (λ (p : Part). bytes_eq p.name f.name) made)) ≡ Some x)
-    go true e = (w, ap (λ (b : Bool). option_map (λ (p : Part). p.value) (cond b (Some (part_for g w)) (find (λ (p : Part). bytes_eq p.name f.name) made))) e)
-    go false e = let p = later e in (p.0, ap (λ (b : Bool). option_map (λ (p : Part). p.value) (cond b (Some (part_for g w)) (find (λ (p : Part). bytes_eq p.name f.name) made))) e ∙ p.1)
+    go : (b : Bool) → bytes_eq g.name f.name ≡ b → (x : Value) × (option_map (λ (p : MemberValue). p.value) (cond (bytes_eq g.name f.name) (Some (part_for g w)) (find (λ (p : MemberValue). bytes_eq p.name f.name) made)) ≡ Some x)
+    go true e = (w, ap (λ (b : Bool). option_map (λ (p : MemberValue). p.value) (cond b (Some (part_for g w)) (find (λ (p : MemberValue). bytes_eq p.name f.name) made))) e)
+    go false e = let p = later e in (p.0, ap (λ (b : Bool). option_map (λ (p : MemberValue). p.value) (cond b (Some (part_for g w)) (find (λ (p : MemberValue). bytes_eq p.name f.name) made))) e ∙ p.1)
 
 not_itself : {A : Type 0} (g f : Field) → g ≡ f → bytes_eq g.name f.name ≡ false → A
 not_itself g f e h =
@@ -66,20 +66,20 @@ not_itself g f e h =
     absurd (cc)
 
 module _ (ws : List WrittenType) where
-  named_completes : {r : Rest} {given made : List Part} {fs : List Field} → Completes ws r given fs made → (i : ℕ) (f : Field) → slice_get fs i ≡ Some f → Named made f
+  named_completes : {r : Rest} {given made : List MemberValue} {fs : List Field} → Completes ws r given fs made → (i : ℕ) (f : Field) → slice_get fs i ≡ Some f → Named made f
   named_completes convert.no_field i f e = no_some e
   named_completes (given_here {made = made} {f = g} {w = w} d c) zero f e = named_first g w made f (λ h. not_itself g f (same_some e) h)
   named_completes (given_here {made = made} {f = g} {w = w} d c) (suc i) f e = named_first g w made f (λ h. named_completes c i f e)
   named_completes (left_out {made = made} {f = g} {w = w} d l c) zero f e = named_first g w made f (λ h. not_itself g f (same_some e) h)
   named_completes (left_out {made = made} {f = g} {w = w} d l c) (suc i) f e = named_first g w made f (λ h. named_completes c i f e)
 
-  named_each : {o : Opened} {made : List Part} {fs : List Field} → BecomesInEach ws o fs made → (i : ℕ) (f : Field) → slice_get fs i ≡ Some f → Named made f
+  named_each : {o : Opened} {made : List MemberValue} {fs : List Field} → BecomesInEach ws o fs made → (i : ℕ) (f : Field) → slice_get fs i ≡ Some f → Named made f
   named_each no_member i f e = no_some e
   named_each (in_member {f = g} {w = w} {made = made} h hs) zero f e = named_first g w made f (λ d. not_itself g f (same_some e) d)
   named_each (in_member {f = g} {w = w} {made = made} h hs) (suc i) f e = named_first g w made f (λ d. named_each hs i f e)
 
-  in_parts : (made : List Part) (f : Field) → Named made f → Named (parts_in (Struct made)) f
-  in_parts made f h = subst (λ (ps : List Part). Named ps f) (sym (parts_of_struct made)) h
+  in_parts : (made : List MemberValue) (f : Field) → Named made f → Named (parts_in (Struct made)) f
+  in_parts made f h = subst (λ (ps : List MemberValue). Named ps f) (sym (parts_of_struct made)) h
 
   named_made : {o : Opened} {r : Rest} {fields : List Field} {w : Value} → Becomes ws o (convert.struct r fields) w → (i : ℕ) (f : Field) → slice_get fields i ≡ Some f → Named (parts_in w) f
   named_made (member_by_member {made = made} h c) i f e = in_parts made f (named_completes c i f e)
@@ -229,11 +229,11 @@ module _ (ws : List WrittenType) where
   abbrev UnfitsBy : Opened → List Field → Type 0
   UnfitsBy o fields = (i : ℕ) × (f : Field) × (slice_get fields i ≡ Some f) × Unfits o (member f)
 
-  abbrev UnfitsAt : List Field → List Part → Type 0
-  UnfitsAt fields ps = (i : ℕ) × (p : Part) × (f : Field) × (slice_get ps i ≡ Some p) × (member_named fields p.name ≡ Some f) × Unfits (opened p.value) (member f)
+  abbrev UnfitsAt : List Field → List MemberValue → Type 0
+  UnfitsAt fields ps = (i : ℕ) × (p : MemberValue) × (f : Field) × (slice_get ps i ≡ Some p) × (member_named fields p.name ≡ Some f) × Unfits (opened p.value) (member f)
 
-  abbrev Lacks : List Field → List Part → Type 0
-  Lacks fields ps = list_any (λ (p : Part). is_none (member_named fields p.name)) ps ≡ true
+  abbrev Lacks : List Field → List MemberValue → Type 0
+  Lacks fields ps = list_any (λ (p : MemberValue). is_none (member_named fields p.name)) ps ≡ true
 
   abbrev TotalEach : List Field → Type 0
   TotalEach fields = (i : ℕ) (f : Field) → slice_get fields i ≡ Some f → (o : Opened) → Total o (member f)
@@ -246,16 +246,16 @@ module _ (ws : List WrittenType) where
       go true h rest = (0, h)
       go false h rest = let p = rest h in (suc p.0, p.1)
 
-  total_in_each : (fs : List Field) → TotalEach fs → (o : Opened) → ((made : List Part) × BecomesInEach ws o fs made) ⊎ UnfitsBy o fs
+  total_in_each : (fs : List Field) → TotalEach fs → (o : Opened) → ((made : List MemberValue) × BecomesInEach ws o fs made) ⊎ UnfitsBy o fs
   total_in_each [] each o = inl ([], no_member)
   total_in_each (f ∷ fs) each o = go (each 0 f refl o) (total_in_each fs (λ i g e. each (suc i) g e) o)
     where
-      go : Made o (member f) ⊎ Unfits o (member f) → ((made : List Part) × BecomesInEach ws o fs made) ⊎ UnfitsBy o fs → ((made : List Part) × BecomesInEach ws o (f ∷ fs) made) ⊎ UnfitsBy o (f ∷ fs)
+      go : Made o (member f) ⊎ Unfits o (member f) → ((made : List MemberValue) × BecomesInEach ws o fs made) ⊎ UnfitsBy o fs → ((made : List MemberValue) × BecomesInEach ws o (f ∷ fs) made) ⊎ UnfitsBy o (f ∷ fs)
       go (inr u) rest = inr (0, f, refl, u)
       go (inl (w, h)) (inl (made, hs)) = inl (part_for f w ∷ made, in_member h hs)
       go (inl (w, h)) (inr (i, g, e, u)) = inr (suc i, g, e, u)
 
-  total_parts : (fields : List Field) → TotalEach fields → (ps : List Part) → ((given : List Part) × MembersBecome ws fields ps given) ⊎ (Lacks fields ps ⊎ UnfitsAt fields ps)
+  total_parts : (fields : List Field) → TotalEach fields → (ps : List MemberValue) → ((given : List MemberValue) × MembersBecome ws fields ps given) ⊎ (Lacks fields ps ⊎ UnfitsAt fields ps)
   total_parts fields each [] = inl ([], no_part)
   total_parts fields each (p ∷ ps) = go (member_named fields p.name) refl (total_parts fields each ps)
     where
@@ -264,44 +264,44 @@ module _ (ws : List WrittenType) where
       lacking false c e = e
 
       with_field : (f : Field) → member_named fields p.name ≡ Some f → Made (opened p.value) (member f) ⊎ Unfits (opened p.value) (member f)
-          → ((given : List Part) × MembersBecome ws fields ps given) ⊎ (Lacks fields ps ⊎ UnfitsAt fields ps)
-          → ((given : List Part) × MembersBecome ws fields (p ∷ ps) given) ⊎ (Lacks fields (p ∷ ps) ⊎ UnfitsAt fields (p ∷ ps))
+          → ((given : List MemberValue) × MembersBecome ws fields ps given) ⊎ (Lacks fields ps ⊎ UnfitsAt fields ps)
+          → ((given : List MemberValue) × MembersBecome ws fields (p ∷ ps) given) ⊎ (Lacks fields (p ∷ ps) ⊎ UnfitsAt fields (p ∷ ps))
       with_field f e (inr u) rest = inr (inr (0, p, f, refl, e, u))
       with_field f e (inl (w, h)) (inl (given, hs)) = inl (record { name = p.name; value = w } ∷ given, part e h hs)
       with_field f e (inl (w, h)) (inr (inl l)) = inr (inl (lacking (is_none (member_named fields p.name)) _ l))
       with_field f e (inl (w, h)) (inr (inr (i, q, g, at, d, u))) = inr (inr (suc i, q, g, at, d, u))
 
-      go : (o : Option Field) → member_named fields p.name ≡ o → ((given : List Part) × MembersBecome ws fields ps given) ⊎ (Lacks fields ps ⊎ UnfitsAt fields ps)
-          → ((given : List Part) × MembersBecome ws fields (p ∷ ps) given) ⊎ (Lacks fields (p ∷ ps) ⊎ UnfitsAt fields (p ∷ ps))
+      go : (o : Option Field) → member_named fields p.name ≡ o → ((given : List MemberValue) × MembersBecome ws fields ps given) ⊎ (Lacks fields ps ⊎ UnfitsAt fields ps)
+          → ((given : List MemberValue) × MembersBecome ws fields (p ∷ ps) given) ⊎ (Lacks fields (p ∷ ps) ⊎ UnfitsAt fields (p ∷ ps))
       go None e rest = inr (inl (rw e refl))
       go (Some f) e rest = let at = named_at fields p.name f e in with_field f e (each at.0 f at.1 (opened p.value)) rest
 
   -- the members that are left out, from the default of the struct
-  completed : (j : ℕ) (fields : List Field) (d : Value) → HasForm ws j (form.Struct fields) → DefaultIs ws (kind.Named j) d → (given : List Part) (fs : List Field)
-      → ((i : ℕ) (f : Field) → slice_get fs i ≡ Some f → Named (parts_in d) f) → (made : List Part) × Completes ws (OfStruct j) given fs made
+  completed : (j : ℕ) (fields : List Field) (d : Value) → HasForm ws j (form.Struct fields) → DefaultIs ws (kind.Named j) d → (given : List MemberValue) (fs : List Field)
+      → ((i : ℕ) (f : Field) → slice_get fs i ≡ Some f → Named (parts_in d) f) → (made : List MemberValue) × Completes ws (OfStruct j) given fs made
   completed j fields d h x given [] all = ([], convert.no_field)
   completed j fields d h x given (f ∷ fs) all = go (value_named given f.name) refl (all 0 f refl) (completed j fields d h x given fs (λ i g e. all (suc i) g e))
     where
-      go : (o : Option Value) → value_named given f.name ≡ o → (w : Value) × (value_named (parts_in d) f.name ≡ Some w) → (made : List Part) × Completes ws (OfStruct j) given fs made
-          → (made : List Part) × Completes ws (OfStruct j) given (f ∷ fs) made
+      go : (o : Option Value) → value_named given f.name ≡ o → (w : Value) × (value_named (parts_in d) f.name ≡ Some w) → (made : List MemberValue) × Completes ws (OfStruct j) given fs made
+          → (made : List MemberValue) × Completes ws (OfStruct j) given (f ∷ fs) made
       go (Some w) e left (made, c) = (part_for f w ∷ made, given_here e c)
       go None e (w, l) (made, c) = (part_for f w ∷ made, left_out e (in_struct x l) c)
 
   single_struct : (r : Rest) (fields : List Field) → TotalEach fields → (o : Opened) → IsSingle o → Total o (convert.struct r fields)
   single_struct r fields each o s = go (total_in_each fields each o)
     where
-      go : ((made : List Part) × BecomesInEach ws o fields made) ⊎ UnfitsBy o fields → Made o (convert.struct r fields) ⊎ Unfits o (convert.struct r fields)
+      go : ((made : List MemberValue) × BecomesInEach ws o fields made) ⊎ UnfitsBy o fields → Made o (convert.struct r fields) ⊎ Unfits o (convert.struct r fields)
       go (inl (made, h)) = inl (Struct made, in_each_member s h)
       go (inr (i, f, e, u)) = inr (record { test = u.test; one_of = u.one_of; met = fault.single_in_member i s e u.met })
 
   -- where the rest has all that a struct value leaves out
   abbrev pub AllCompleted : Rest → List Field → Type 0
-  AllCompleted r fields = (given : List Part) → (made : List Part) × Completes ws r given fields made
+  AllCompleted r fields = (given : List MemberValue) → (made : List MemberValue) × Completes ws r given fields made
 
   total_struct : (r : Rest) (fields : List Field) → AllCompleted r fields → TotalEach fields → (o : Opened) → Total o (convert.struct r fields)
   total_struct r fields all each (value.Struct parts) = go (total_parts fields each parts)
     where
-      go : ((given : List Part) × MembersBecome ws fields parts given) ⊎ (Lacks fields parts ⊎ UnfitsAt fields parts)
+      go : ((given : List MemberValue) × MembersBecome ws fields parts given) ⊎ (Lacks fields parts ⊎ UnfitsAt fields parts)
           → Made (value.Struct parts) (convert.struct r fields) ⊎ Unfits (value.Struct parts) (convert.struct r fields)
       go (inl (given, hs)) = let c = all given in inl (Struct c.0, member_by_member hs c.1)
       go (inr (inl l)) = inr (record { test = lacks_member; one_of = of_member; met = fault.here l })

@@ -3,7 +3,7 @@ use Rattle.std.specs.Prelude.{◌≡◌, ℕ, pos, false, List, [], ◌∷◌, O
 use Rattle.fp_base.specs.declared.value.Value.{Value, Int, Bool as Truth, Text}
 use Rattle.fp_tables.specs.declared.kind.Kind.{Kind}
 use Rattle.fp_tables.specs.declared.kind.Kind.TheVariants as kind
-use Rattle.fp_base.specs.declared.value.Part.{Part}
+use Rattle.fp_base.specs.declared.value.MemberValue.{MemberValue}
 use Rattle.fp_tables.specs.declared.kind.Field.{Field}
 use Rattle.fp_type_sizes.specs.declared.written.WrittenType.{WrittenType}
 use Rattle.fp_types.specs.declared.target.Rest.{Rest}
@@ -37,12 +37,12 @@ SufficesForLefts ws defaults rest [] = Unit {0}
 SufficesForLefts ws defaults rest (f ∷ fs) = SufficesForLeft ws defaults rest f × SufficesForLefts ws defaults rest fs
 
 -- the parts of a default
-abbrev pub parts_if : Option Value → List Part
+abbrev pub parts_if : Option Value → List MemberValue
 parts_if None = []
 parts_if (Some d) = parts_in d
 
 -- and of the one from which members that are left out come
-abbrev pub left_parts : List (Option Value) → Rest → List Part
+abbrev pub left_parts : List (Option Value) → Rest → List MemberValue
 left_parts defaults (OfStruct i) = parts_if (default_at defaults i)
 left_parts defaults OfMembers = []
 
@@ -51,7 +51,7 @@ abbrev pub left_part : Field → Option Value → Option Value
 left_part f o = value_named (parts_if o) f.name
 
 -- the value of a member: the one that is given, or that of the rest
-pub data MemberIs (ws : List WrittenType) (rest : Rest) (given : List Part) (f : Field) : Value → Type 0 where
+pub data MemberIs (ws : List WrittenType) (rest : Rest) (given : List MemberValue) (f : Field) : Value → Type 0 where
   given_here : {w : Value} → value_named given f.name ≡ Some w → MemberIs ws rest given f w
   left_out : {w : Value} → value_named given f.name ≡ None → Rests ws rest f w → MemberIs ws rest given f w
 
@@ -60,6 +60,6 @@ module _ (ws : List WrittenType) (full : Type 0) where
   IsRest rest f (Some w) = Rests ws rest f w
   IsRest rest f None = full → (w : Value) → Rests ws rest f w → ⊥
 
-  abbrev pub IsMember : Rest → List Part → Field → Option Value → Type 0
+  abbrev pub IsMember : Rest → List MemberValue → Field → Option Value → Type 0
   IsMember rest given f (Some w) = MemberIs ws rest given f w
   IsMember rest given f None = full → (w : Value) → MemberIs ws rest given f w → ⊥

@@ -5,7 +5,7 @@ use Rattle.std.specs.Str.{bytes_eq}
 use Rattle.fp_base.specs.Same.{same}
 use Rattle.fp_base.specs.declared.value.Value.{Value, out-Value, Int, Bool as Truth, Text, Enumerated, Array, Struct, Opaque}
 use Rattle.fp_base.specs.declared.value.Value.TheOpen as value
-use Rattle.fp_base.specs.declared.value.Part.{Part}
+use Rattle.fp_base.specs.declared.value.MemberValue.{MemberValue}
 use Rattle.fp_tables.specs.Types as types
 use Rattle.fp_tables.specs.declared.kind.Kind.{Kind}
 use Rattle.fp_tables.specs.declared.kind.Kind.TheVariants as kind
@@ -22,7 +22,7 @@ use Rattle.fp_type_sizes.specs.Sizes.{IsPlain, HasForm, IsOfSize}
 
 -- a value by what it is outermost, with the values in it
 abbrev pub Opened : Type 0
-Opened = value.Value-F Value Part
+Opened = value.Value-F Value MemberValue
 
 abbrev pub opened : Value → Opened
 opened v = out-Value v
@@ -83,18 +83,18 @@ member_named fields name = find (λ (f : Field). bytes_eq f.name name) fields
 
 -- ---- values of members
 
-abbrev pub parts_in : Value → List Part
+abbrev pub parts_in : Value → List MemberValue
 parts_in v = parts_of (opened v)
   where
-    parts_of : Opened → List Part
+    parts_of : Opened → List MemberValue
     parts_of (value.Struct parts) = parts
     parts_of _ = []
 
 -- the first value of the name
-abbrev pub value_named : List Part → List ℕ → Option Value
-value_named parts name = option_map (λ (p : Part). p.value) (find (λ (p : Part). bytes_eq p.name name) parts)
+abbrev pub value_named : List MemberValue → List ℕ → Option Value
+value_named parts name = option_map (λ (p : MemberValue). p.value) (find (λ (p : MemberValue). bytes_eq p.name name) parts)
 
-abbrev pub part_for : Field → Value → Part
+abbrev pub part_for : Field → Value → MemberValue
 part_for f w = record { name = f.name; value = w }
 
 -- the type with the number has this written behind `default`
@@ -124,13 +124,13 @@ mutual
     part_by_part : {items made : List Value} {size : ℕ} {k : Kind} → length items ≡ size → EachBecomes ws k items made
         → Becomes ws (value.Array items) (array size k) (Array made)
     -- a struct value, in a struct that has its members; those left out come from the struct's default, if there are any
-    member_by_member : {parts given made : List Part} {rest : Rest} {fields : List Field} → MembersBecome ws fields parts given → Completes ws rest given fields made
+    member_by_member : {parts given made : List MemberValue} {rest : Rest} {fields : List Field} → MembersBecome ws fields parts given → Completes ws rest given fields made
         → Becomes ws (value.Struct parts) (struct rest fields) (Struct made)
     -- a single value, in each part of an array
     in_each_part : {v : Opened} {size : ℕ} {k : Kind} {w : Value} → IsSingle v → Becomes ws v (of_kind k) w
         → Becomes ws v (array size k) (Array (replicate size w))
     -- and in each member of a struct
-    in_each_member : {v : Opened} {rest : Rest} {fields : List Field} {made : List Part} → IsSingle v → BecomesInEach ws v fields made
+    in_each_member : {v : Opened} {rest : Rest} {fields : List Field} {made : List MemberValue} → IsSingle v → BecomesInEach ws v fields made
         → Becomes ws v (struct rest fields) (Struct made)
     in_plain : {v : Opened} {k : Kind} {w : Value} → IsPlain k → Becomes ws v (plain_target k) w → Becomes ws v (of_kind k) w
     -- an alias is its target
@@ -142,22 +142,22 @@ mutual
     more : {k : Kind} {v w : Value} {vs xs : List Value} → Becomes ws (opened v) (of_kind k) w → EachBecomes ws k vs xs → EachBecomes ws k (v ∷ vs) (w ∷ xs)
 
   -- each part is one of the members
-  pub data MembersBecome (ws : List WrittenType) : List Field → List Part → List Part → Type 0 where
+  pub data MembersBecome (ws : List WrittenType) : List Field → List MemberValue → List MemberValue → Type 0 where
     no_part : {fields : List Field} → MembersBecome ws fields [] []
-    part : {fields : List Field} {p : Part} {f : Field} {w : Value} {ps given : List Part} → member_named fields p.name ≡ Some f → Becomes ws (opened p.value) (member f) w
+    part : {fields : List Field} {p : MemberValue} {f : Field} {w : Value} {ps given : List MemberValue} → member_named fields p.name ≡ Some f → Becomes ws (opened p.value) (member f) w
         → MembersBecome ws fields ps given → MembersBecome ws fields (p ∷ ps) (record { name = p.name; value = w } ∷ given)
 
-  pub data BecomesInEach (ws : List WrittenType) : Opened → List Field → List Part → Type 0 where
+  pub data BecomesInEach (ws : List WrittenType) : Opened → List Field → List MemberValue → Type 0 where
     no_member : {v : Opened} → BecomesInEach ws v [] []
-    in_member : {v : Opened} {f : Field} {w : Value} {fs : List Field} {made : List Part} → Becomes ws v (member f) w
+    in_member : {v : Opened} {f : Field} {w : Value} {fs : List Field} {made : List MemberValue} → Becomes ws v (member f) w
         → BecomesInEach ws v fs made → BecomesInEach ws v (f ∷ fs) (part_for f w ∷ made)
 
   -- each member has the value that is given for its name, or, where none is given, that of the rest
-  pub data Completes (ws : List WrittenType) : Rest → List Part → List Field → List Part → Type 0 where
-    no_field : {rest : Rest} {given : List Part} → Completes ws rest given [] []
-    given_here : {rest : Rest} {given made : List Part} {f : Field} {fs : List Field} {w : Value} → value_named given f.name ≡ Some w
+  pub data Completes (ws : List WrittenType) : Rest → List MemberValue → List Field → List MemberValue → Type 0 where
+    no_field : {rest : Rest} {given : List MemberValue} → Completes ws rest given [] []
+    given_here : {rest : Rest} {given made : List MemberValue} {f : Field} {fs : List Field} {w : Value} → value_named given f.name ≡ Some w
         → Completes ws rest given fs made → Completes ws rest given (f ∷ fs) (part_for f w ∷ made)
-    left_out : {rest : Rest} {given made : List Part} {f : Field} {fs : List Field} {w : Value} → value_named given f.name ≡ None → Rests ws rest f w
+    left_out : {rest : Rest} {given made : List MemberValue} {f : Field} {fs : List Field} {w : Value} → value_named given f.name ≡ None → Rests ws rest f w
         → Completes ws rest given fs made → Completes ws rest given (f ∷ fs) (part_for f w ∷ made)
 
   -- the value of a member that is left out
@@ -171,7 +171,7 @@ mutual
     empty : Default ws words (Text [])
     repeated : {size : ℕ} {k : Kind} {w : Value} → Default ws (of_kind k) w → Default ws (array size k) (Array (replicate size w))
     -- a struct value that leaves out all members
-    of_each : {fields : List Field} {made : List Part} → Completes ws OfMembers [] fields made → Default ws (struct OfMembers fields) (Struct made)
+    of_each : {fields : List Field} {made : List MemberValue} → Completes ws OfMembers [] fields made → Default ws (struct OfMembers fields) (Struct made)
     first : {c : Constant} {cs : List Constant} → Default ws (constants (c ∷ cs)) c.value
     the_one : Default ws opaque Opaque
     plainly : {k : Kind} {w : Value} → IsPlain k → Default ws (plain_target k) w → Default ws (of_kind k) w

@@ -7,7 +7,7 @@ use Rattle.fp_base.specs.declared.refusal.Refusal.{Refusal}
 use Rattle.fp_base.specs.declared.rule.Rule.TheVariants.{BadConversion, OutsideType, BadMember}
 use Rattle.fp_base.specs.declared.value.Value.{Value, Enumerated}
 use Rattle.fp_base.specs.declared.value.Value.TheOpen as value
-use Rattle.fp_base.specs.declared.value.Part.{Part}
+use Rattle.fp_base.specs.declared.value.MemberValue.{MemberValue}
 use Rattle.fp_tables.specs.declared.kind.Kind.{Kind}
 use Rattle.fp_tables.specs.declared.kind.Kind.TheVariants as kind
 use Rattle.fp_tables.specs.declared.kind.Form.{Form}
@@ -29,7 +29,7 @@ pub data Meets (ws : List WrittenType) (test : Opened → Target → Bool) : Ope
   here : {v : Opened} {t : Target} → test v t ≡ true → Meets ws test v t
   in_part : {items : List Value} {size : ℕ} {k : Kind} {v : Value} (i : ℕ) → length items ≡ size → slice_get items i ≡ Some v → Meets ws test (opened v) (of_kind k)
       → Meets ws test (value.Array items) (array size k)
-  in_member : {parts : List Part} {rest : Rest} {fields : List Field} {p : Part} {f : Field} (i : ℕ) → slice_get parts i ≡ Some p → member_named fields p.name ≡ Some f
+  in_member : {parts : List MemberValue} {rest : Rest} {fields : List Field} {p : MemberValue} {f : Field} (i : ℕ) → slice_get parts i ≡ Some p → member_named fields p.name ≡ Some f
       → Meets ws test (opened p.value) (member f) → Meets ws test (value.Struct parts) (struct rest fields)
   single_in_part : {v : Opened} {size : ℕ} {k : Kind} → IsSingle v → Meets ws test v (of_kind k) → Meets ws test v (array size k)
   single_in_member : {v : Opened} {rest : Rest} {fields : List Field} {f : Field} (i : ℕ) → IsSingle v → slice_get fields i ≡ Some f → Meets ws test v (member f)
@@ -39,7 +39,7 @@ pub data Meets (ws : List WrittenType) (test : Opened → Target → Bool) : Ope
 
 -- a struct value names a member that the struct lacks
 abbrev pub lacks_member : Opened → Target → Bool
-lacks_member (value.Struct parts) (struct rest fields) = list_any (λ (p : Part). is_none (member_named fields p.name)) parts
+lacks_member (value.Struct parts) (struct rest fields) = list_any (λ (p : MemberValue). is_none (member_named fields p.name)) parts
 lacks_member _ _ = false
 
 -- an integer, or the number of an enumerated constant, isn't in the integer type

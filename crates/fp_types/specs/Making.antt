@@ -5,7 +5,7 @@ use Rattle.std.specs.List.{list_any}
 use Rattle.fp_base.specs.Same.{same}
 use Rattle.fp_base.specs.declared.value.Value.{Value, Int, Bool as Truth, Text, Enumerated, Array, Struct}
 use Rattle.fp_base.specs.declared.value.Value.TheOpen as value
-use Rattle.fp_base.specs.declared.value.Part.{Part}
+use Rattle.fp_base.specs.declared.value.MemberValue.{MemberValue}
 use Rattle.fp_tables.specs.declared.kind.Kind.{Kind}
 use Rattle.fp_tables.specs.declared.kind.Kind.TheVariants as kind
 use Rattle.fp_tables.specs.declared.kind.Constant.{Constant}
@@ -106,14 +106,14 @@ abbrev pub items_of : Opened → Option (List Value)
 items_of (value.Array items) = Some items
 items_of _ = None
 
-abbrev pub parts_of : Opened → Option (List Part)
+abbrev pub parts_of : Opened → Option (List MemberValue)
 parts_of (value.Struct parts) = Some parts
 parts_of _ = None
 
 abbrev pub listed : List Value → Value
 listed vs = Array vs
 
-abbrev pub structured : List Part → Value
+abbrev pub structured : List MemberValue → Value
 structured ps = Struct ps
 
 -- an array of one value so many times
@@ -132,21 +132,21 @@ module _ (types : List WrittenType) (reached : Type 0) where
   IsMadeOfEach k vs None = reached → (ws : List Value) → EachBecomes types k vs ws → ⊥
 
   -- a part of a struct value, in the member that it names
-  abbrev pub IsMadeOfPart : List Field → Part → Option Value → Type 0
+  abbrev pub IsMadeOfPart : List Field → MemberValue → Option Value → Type 0
   IsMadeOfPart fields p (Some w) = (f : Field) × (member_named fields p.name ≡ Some f) × Becomes types (opened p.value) (member f) w
   IsMadeOfPart fields p None = reached → (f : Field) (w : Value) → member_named fields p.name ≡ Some f → Becomes types (opened p.value) (member f) w → ⊥
 
-  abbrev pub AreMadeOfMembers : List Field → List Part → Option (List Part) → Type 0
+  abbrev pub AreMadeOfMembers : List Field → List MemberValue → Option (List MemberValue) → Type 0
   AreMadeOfMembers fields ps (Some made) = MembersBecome types fields ps made
-  AreMadeOfMembers fields ps None = reached → (made : List Part) → MembersBecome types fields ps made → ⊥
+  AreMadeOfMembers fields ps None = reached → (made : List MemberValue) → MembersBecome types fields ps made → ⊥
 
-  abbrev pub AreMadeInEach : Opened → List Field → Option (List Part) → Type 0
+  abbrev pub AreMadeInEach : Opened → List Field → Option (List MemberValue) → Type 0
   AreMadeInEach v fields (Some made) = BecomesInEach types v fields made
-  AreMadeInEach v fields None = reached → (made : List Part) → BecomesInEach types v fields made → ⊥
+  AreMadeInEach v fields None = reached → (made : List MemberValue) → BecomesInEach types v fields made → ⊥
 
-  abbrev pub AreCompleted : Rest → List Part → List Field → Option (List Part) → Type 0
+  abbrev pub AreCompleted : Rest → List MemberValue → List Field → Option (List MemberValue) → Type 0
   AreCompleted rest given fields (Some made) = Completes types rest given fields made
-  AreCompleted rest given fields None = reached → (made : List Part) → Completes types rest given fields made → ⊥
+  AreCompleted rest given fields None = reached → (made : List MemberValue) → Completes types rest given fields made → ⊥
 
   abbrev pub IsDefault : Target → Option Value → Type 0
   IsDefault t (Some w) = Default types t w

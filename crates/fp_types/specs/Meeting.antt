@@ -4,7 +4,7 @@ use Rattle.fp_base.specs.declared.place.Place.{Place}
 use Rattle.fp_base.specs.declared.refusal.Refusal.{Refusal}
 use Rattle.fp_base.specs.declared.value.Value.{Value}
 use Rattle.fp_base.specs.declared.value.Value.TheOpen as value
-use Rattle.fp_base.specs.declared.value.Part.{Part}
+use Rattle.fp_base.specs.declared.value.MemberValue.{MemberValue}
 use Rattle.fp_tables.specs.declared.kind.Kind.{Kind}
 use Rattle.fp_tables.specs.declared.kind.Form.{Form}
 use Rattle.fp_tables.specs.declared.kind.Field.{Field}
@@ -32,11 +32,11 @@ module _ (types : List WrittenType) (test : Opened → Target → Bool) where
   abbrev pub MeetsItem : Kind → List Value → Type 0
   MeetsItem k items = (i : ℕ) × (v : Value) × (slice_get items i ≡ Some v) × Meets types test (opened v) (of_kind k)
 
-  abbrev pub MeetsNamed : List Field → Part → Type 0
+  abbrev pub MeetsNamed : List Field → MemberValue → Type 0
   MeetsNamed fields p = (f : Field) × (member_named fields p.name ≡ Some f) × Meets types test (opened p.value) (member f)
 
-  abbrev pub MeetsPart : List Field → List Part → Type 0
-  MeetsPart fields parts = (i : ℕ) × (p : Part) × (slice_get parts i ≡ Some p) × MeetsNamed fields p
+  abbrev pub MeetsPart : List Field → List MemberValue → Type 0
+  MeetsPart fields parts = (i : ℕ) × (p : MemberValue) × (slice_get parts i ≡ Some p) × MeetsNamed fields p
 
   abbrev pub MeetsInMember : Opened → List Field → Type 0
   MeetsInMember v fields = (i : ℕ) × (f : Field) × (slice_get fields i ≡ Some f) × Meets types test v (member f)

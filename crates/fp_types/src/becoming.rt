@@ -10,7 +10,7 @@ use crate::index::{field_named, places_of_fields};
 use crate::leaves::{as_constant, as_integer, as_truth, as_words, is_single};
 use crate::parts::{items_of, listed, parts_of, repeated, structured};
 use crate::target::{Rest, Target, target_of};
-use fp_base::{NoMemory, Part, Row, Value};
+use fp_base::{MemberValue, NoMemory, Row, Value};
 use fp_tables::{Field, Kind};
 use fp_type_sizes::{TypeExtent, WrittenType};
 use std::alloc::Global;
@@ -180,11 +180,11 @@ fn members(
     types: &[WrittenType],
     extents: &[Option<TypeExtent>],
     defaults: &[Option<Value>],
-    parts: &[Part],
+    parts: &[MemberValue],
     fields: &[Field],
     places: &BTreeMap<String, usize>,
     depth: u32,
-) -> Result<Option<Row<Part>>, NoMemory>
+) -> Result<Option<Row<MemberValue>>, NoMemory>
     requires places { FindsFields fields.now places.now }
     requires known { AreAtHand types.now extents.now defaults.now }
     ensures { IfOk result (λ given. AreMadeOfMembers types.now (SufficesEach types.now defaults.now depth fields.now) fields.now parts.now given) }
@@ -195,7 +195,7 @@ fn members(
         match next {
             Some(value) => {
                 let name = part.name.copy(alloc)?;
-                given.push(Part { name, value })?;
+                given.push(MemberValue { name, value })?;
             }
             None => return Ok(None),
         }
@@ -209,7 +209,7 @@ fn in_named(
     types: &[WrittenType],
     extents: &[Option<TypeExtent>],
     defaults: &[Option<Value>],
-    part: &Part,
+    part: &MemberValue,
     fields: &[Field],
     places: &BTreeMap<String, usize>,
     depth: u32,
@@ -233,7 +233,7 @@ fn in_each_member(
     value: &Value,
     fields: &[Field],
     depth: u32,
-) -> Result<Option<Row<Part>>, NoMemory>
+) -> Result<Option<Row<MemberValue>>, NoMemory>
     requires known { AreAtHand types.now extents.now defaults.now }
     ensures { IfOk result (λ made. AreMadeInEach types.now (SufficesEach types.now defaults.now depth fields.now) (opened value.now) fields.now made) }
 {
@@ -243,7 +243,7 @@ fn in_each_member(
         match next {
             Some(value) => {
                 let name = field.name.copy(alloc)?;
-                made.push(Part { name, value })?;
+                made.push(MemberValue { name, value })?;
             }
             None => return Ok(None),
         }

@@ -1,7 +1,7 @@
 ghost use Rattle.std.specs.Prelude.{◌≡◌, ℕ, List, IfOk, find, option_map};
 ghost use Rattle.std.specs.Option.{option_copied};
 ghost use Rattle.std.specs.Str.{bytes_eq};
-ghost use Rattle.fp_base.specs.declared.value.Part.{Part as GivenPart};
+ghost use Rattle.fp_base.specs.declared.value.MemberValue.{MemberValue as GivenMember};
 ghost use Rattle.fp_base.specs.declared.value.Value.TheOpen as value;
 ghost use Rattle.fp_types.specs.Converting.{of_kind, struct, member_target, parts_in};
 ghost use Rattle.fp_types.specs.Index.{FindsParts};
@@ -12,7 +12,7 @@ ghost use Rattle.fp_type_sizes.specs.declared.written.WrittenType.{WrittenType a
 use crate::index::{part_named, places_of_parts};
 use crate::parts::{parts_in, repeated, structured};
 use crate::target::Rest;
-use fp_base::{NoMemory, Part, Row, Text, Value};
+use fp_base::{MemberValue, NoMemory, Row, Text, Value};
 use fp_tables::{Field, Kind};
 use std::alloc::Global;
 use std::collections::BTreeMap;
@@ -86,7 +86,7 @@ pub fn default_of_member(
 }
 
 /// The parts of the default from which members that are left out come.
-fn left_parts(defaults: &[Option<Value>], rest: Rest) -> &[Part]
+fn left_parts(defaults: &[Option<Value>], rest: Rest) -> &[MemberValue]
     ensures { result.now ≡ left_parts defaults.now rest }
 {
     match rest {
@@ -95,7 +95,7 @@ fn left_parts(defaults: &[Option<Value>], rest: Rest) -> &[Part]
     }
 }
 
-fn parts_if(default: Option<&Value>) -> &[Part]
+fn parts_if(default: Option<&Value>) -> &[MemberValue]
     ensures { result.now ≡ parts_if (option_copied default.entry) }
 {
     match default {
@@ -104,8 +104,8 @@ fn parts_if(default: Option<&Value>) -> &[Part]
     }
 }
 
-fn value_of(alloc: Global, part: Option<&Part>) -> Result<Option<Value>, NoMemory>
-    ensures { IfOk result (λ o. o ≡ option_map (λ (p : GivenPart). p.value) (option_copied part.entry)) }
+fn value_of(alloc: Global, part: Option<&MemberValue>) -> Result<Option<Value>, NoMemory>
+    ensures { IfOk result (λ o. o ≡ option_map (λ (p : GivenMember). p.value) (option_copied part.entry)) }
 {
     match part {
         Some(part) => Ok(Some(part.value.copy(alloc)?)),
@@ -119,7 +119,7 @@ fn rest_of(
     defaults: &[Option<Value>],
     rest: Rest,
     field: &Field,
-    left: &[Part],
+    left: &[MemberValue],
     left_places: &BTreeMap<String, usize>,
 ) -> Result<Option<Value>, NoMemory>
     requires left { left.now ≡ left_parts defaults.now rest }
@@ -137,9 +137,9 @@ fn member_value(
     defaults: &[Option<Value>],
     rest: Rest,
     field: &Field,
-    given: &[Part],
+    given: &[MemberValue],
     places: &BTreeMap<String, usize>,
-    left: &[Part],
+    left: &[MemberValue],
     left_places: &BTreeMap<String, usize>,
 ) -> Result<Option<Value>, NoMemory>
     requires given { FindsParts given.now places.now }
@@ -158,11 +158,11 @@ fn completed_by(
     defaults: &[Option<Value>],
     rest: Rest,
     fields: &[Field],
-    given: &[Part],
+    given: &[MemberValue],
     places: &BTreeMap<String, usize>,
-    left: &[Part],
+    left: &[MemberValue],
     left_places: &BTreeMap<String, usize>,
-) -> Result<Option<Row<Part>>, NoMemory>
+) -> Result<Option<Row<MemberValue>>, NoMemory>
     requires given { FindsParts given.now places.now }
     requires left { left.now ≡ left_parts defaults.now rest }
     requires places { FindsParts left.now left_places.now }
@@ -183,7 +183,7 @@ fn completed_by(
         match next {
             Some(value) => {
                 let name = field.name.copy(alloc)?;
-                row.push(Part { name, value })?;
+                row.push(MemberValue { name, value })?;
             }
             None => return Ok(None),
         }
@@ -197,8 +197,8 @@ pub fn completed(
     defaults: &[Option<Value>],
     rest: Rest,
     fields: &[Field],
-    given: &[Part],
-) -> Result<Option<Row<Part>>, NoMemory>
+    given: &[MemberValue],
+) -> Result<Option<Row<MemberValue>>, NoMemory>
     ensures { IfOk result (λ o. (ws : List TypeWritten) → AreSoundDefaults ws defaults.now → AreCompleted ws (SufficesForLefts ws defaults.now rest fields.now) rest given.now fields.now o) }
 {
     let places = places_of_parts(alloc, given)?;
@@ -222,9 +222,9 @@ pub fn finished(
     defaults: &[Option<Value>],
     rest: Rest,
     fields: &[Field],
-    given: Option<Row<Part>>,
+    given: Option<Row<MemberValue>>,
 ) -> Result<Option<Value>, NoMemory>
-    ensures { IfOk result (λ o. (ws : List TypeWritten) (n : ℕ) (parts : List GivenPart) → AreSoundDefaults ws defaults.now → AreMadeOfMembers ws (SufficesEach ws defaults.now n fields.now) fields.now parts given → IsMade ws (SufficesForStruct ws defaults.now n rest fields.now) (value.Struct parts) (struct rest fields.now) o) }
+    ensures { IfOk result (λ o. (ws : List TypeWritten) (n : ℕ) (parts : List GivenMember) → AreSoundDefaults ws defaults.now → AreMadeOfMembers ws (SufficesEach ws defaults.now n fields.now) fields.now parts given → IsMade ws (SufficesForStruct ws defaults.now n rest fields.now) (value.Struct parts) (struct rest fields.now) o) }
 {
     match given {
         Some(given) => {

@@ -11,7 +11,7 @@ use crate::lacking::{differs, is_outside, lacks_member};
 use crate::leaves::is_single;
 use crate::parts::{items_of, parts_of};
 use crate::target::{Target, member_named, target_of};
-use fp_base::{Part, Value};
+use fp_base::{MemberValue, Value};
 use fp_tables::{Field, Kind};
 use fp_type_sizes::{TypeExtent, WrittenType};
 
@@ -179,7 +179,7 @@ fn in_struct(
 fn in_parts(
     types: &[WrittenType],
     extents: &[Option<TypeExtent>],
-    parts: &[Part],
+    parts: &[MemberValue],
     fields: &[Field],
     sought: Sought,
     depth: u32,
@@ -200,7 +200,7 @@ fn in_parts(
 fn in_named(
     types: &[WrittenType],
     extents: &[Option<TypeExtent>],
-    part: &Part,
+    part: &MemberValue,
     fields: &[Field],
     sought: Sought,
     depth: u32,

@@ -2,11 +2,11 @@ ghost use Rattle.std.specs.Prelude.{◌≡◌, IfOk, find, slice_get};
 ghost use Rattle.std.specs.Option.{option_copied};
 ghost use Rattle.std.specs.Str.{bytes_eq};
 ghost use Rattle.std.specs.BTreeMap.{get_by_text};
-ghost use Rattle.fp_base.specs.declared.value.Part.{Part};
+ghost use Rattle.fp_base.specs.declared.value.MemberValue.{MemberValue};
 ghost use Rattle.fp_types.specs.Converting.{member_named};
 ghost use Rattle.fp_types.specs.Index.{FindsFields, FindsParts};
 
-use fp_base::{NoMemory, Part, Text};
+use fp_base::{MemberValue, NoMemory, Text};
 use fp_tables::Field;
 use std::alloc::Global;
 use std::collections::BTreeMap;
@@ -42,7 +42,10 @@ pub fn field_named<'a>(
 }
 
 /// The place of the first part of each name.
-pub fn places_of_parts(alloc: Global, parts: &[Part]) -> Result<BTreeMap<String, usize>, NoMemory>
+pub fn places_of_parts(
+    alloc: Global,
+    parts: &[MemberValue],
+) -> Result<BTreeMap<String, usize>, NoMemory>
     ensures { IfOk result (λ places. FindsParts parts.now places) }
 {
     let mut places = BTreeMap::new(alloc);
@@ -56,11 +59,11 @@ pub fn places_of_parts(alloc: Global, parts: &[Part]) -> Result<BTreeMap<String,
 
 pub fn part_named<'a>(
     places: &BTreeMap<String, usize>,
-    parts: &'a [Part],
+    parts: &'a [MemberValue],
     name: &Text,
-) -> Option<&'a Part>
+) -> Option<&'a MemberValue>
     requires { FindsParts parts.now places.now }
-    ensures { option_copied result ≡ find (λ (part : Part). bytes_eq part.name name.now) parts.now }
+    ensures { option_copied result ≡ find (λ (part : MemberValue). bytes_eq part.name name.now) parts.now }
 {
     match place_named(places, name) {
         Some(at) => part_at(parts, at),
@@ -81,7 +84,7 @@ fn field_at(fields: &[Field], at: usize) -> Option<&Field>
     Some(field)
 }
 
-fn part_at(parts: &[Part], at: usize) -> Option<&Part>
+fn part_at(parts: &[MemberValue], at: usize) -> Option<&MemberValue>
     ensures { option_copied result ≡ slice_get parts.now at }
 {
     let part = parts.get(at)?;

@@ -1,13 +1,13 @@
 ghost use Rattle.std.specs.Prelude.{◌≡◌, List, is_none, not, ◌&&◌, int_le};
 ghost use Rattle.std.specs.List.{list_any};
-ghost use Rattle.fp_base.specs.declared.value.Part.{Part};
+ghost use Rattle.fp_base.specs.declared.value.MemberValue.{MemberValue};
 ghost use Rattle.fp_types.specs.Converting.{opened, member_named};
 ghost use Rattle.fp_types.specs.Read.{meant};
 ghost use Rattle.fp_types.specs.Faults.{lacks_member, is_outside, differs, suits_array, suits_struct};
 
 use crate::leaves::{is_among_if, is_number, is_truth, is_words};
 use crate::target::{Target, member_named};
-use fp_base::{Part, Value};
+use fp_base::{MemberValue, Value};
 use fp_tables::Field;
 
 /// Whether a struct value names a member that the struct lacks.
@@ -23,13 +23,13 @@ pub fn lacks_member(value: &Value, target: &Target) -> bool
     }
 }
 
-fn are_lacking(parts: &[Part], fields: &[Field]) -> bool
-    ensures { result ≡ list_any (λ (part : Part). is_none (member_named fields.now part.name)) parts.now }
+fn are_lacking(parts: &[MemberValue], fields: &[Field]) -> bool
+    ensures { result ≡ list_any (λ (part : MemberValue). is_none (member_named fields.now part.name)) parts.now }
 {
     parts.iter().any(|part| is_lacking(part, fields))
 }
 
-fn is_lacking(part: &Part, fields: &[Field]) -> bool
+fn is_lacking(part: &MemberValue, fields: &[Field]) -> bool
     ensures { result ≡ is_none (member_named fields.now part.now.name) }
 {
     member_named(fields, &part.name).is_none()

@@ -3,7 +3,7 @@ ghost use Rattle.std.specs.Option.{option_copied};
 ghost use Rattle.fp_types.specs.Converting.{opened, parts_in};
 ghost use Rattle.fp_types.specs.Making.{items_of, parts_of, listed, structured, repeated};
 
-use fp_base::{NoMemory, Part, Row, Value};
+use fp_base::{MemberValue, NoMemory, Row, Value};
 use std::alloc::Global;
 
 pub fn items_of(value: &Value) -> Option<&[Value]>
@@ -15,7 +15,7 @@ pub fn items_of(value: &Value) -> Option<&[Value]>
     }
 }
 
-pub fn parts_of(value: &Value) -> Option<&[Part]>
+pub fn parts_of(value: &Value) -> Option<&[MemberValue]>
     ensures { option_copied result ≡ parts_of (opened value.now) }
 {
     match value {
@@ -24,7 +24,7 @@ pub fn parts_of(value: &Value) -> Option<&[Part]>
     }
 }
 
-pub fn parts_in(value: &Value) -> &[Part]
+pub fn parts_in(value: &Value) -> &[MemberValue]
     ensures { result.now ≡ parts_in value.now }
 {
     match value {
@@ -42,7 +42,7 @@ pub fn listed(items: Option<Row<Value>>) -> Option<Value>
     }
 }
 
-pub fn structured(parts: Option<Row<Part>>) -> Option<Value>
+pub fn structured(parts: Option<Row<MemberValue>>) -> Option<Value>
     ensures { result ≡ option_map structured parts }
 {
     match parts {

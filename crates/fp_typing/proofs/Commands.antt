@@ -5,8 +5,8 @@ use Rattle.fp_tables.specs.Acts.{command_of}
 use Rattle.fp_tables.specs.Lookup.{Described}
 use Rattle.fp_tables.specs.Specials.{component}
 use Rattle.fp_tables.specs.declared.component.Command.{Command}
-use Rattle.fp_tables.specs.declared.component.Part.{Part}
-use Rattle.fp_tables.specs.declared.component.Part.TheVariants as part
+use Rattle.fp_tables.specs.declared.component.CommandPart.{CommandPart}
+use Rattle.fp_tables.specs.declared.component.CommandPart.TheVariants as part
 use Rattle.fp_tables.specs.declared.component.Port.{Port as PortOf}
 use Rattle.fp_tables.specs.declared.component.Running.{Running}
 use Rattle.fp_tables.specs.declared.component.Role.{Role}
@@ -35,12 +35,12 @@ no_internal : (ro : Role) (m : Manner) → IsImplied m → internal_manner ro �
 no_internal (role.Internal way) m h e = no_way way m h (same_some e)
 no_internal _ m h e = cc
 
-pub sets_part : (way : Way) (p : Part) (k : ℕ) → command_manner way p ≡ sets k → p ≡ part.SetParam k
+pub sets_part : (way : Way) (p : CommandPart) (k : ℕ) → command_manner way p ≡ sets k → p ≡ part.SetParam k
 sets_part way part.Plain k h = absurd (cc)
 sets_part way (part.SetParam j) k h = cc
 sets_part way (part.SaveParam j) k h = absurd (cc)
 
-pub saves_part : (way : Way) (p : Part) (k : ℕ) → command_manner way p ≡ saves k → p ≡ part.SaveParam k
+pub saves_part : (way : Way) (p : CommandPart) (k : ℕ) → command_manner way p ≡ saves k → p ≡ part.SaveParam k
 saves_part way part.Plain k h = absurd (cc)
 saves_part way (part.SetParam j) k h = absurd (cc)
 saves_part way (part.SaveParam j) k h = cc

@@ -17,7 +17,7 @@ use Rattle.fp_tables.specs.declared.component.Command.{Command}
 use Rattle.fp_tables.specs.declared.component.Component.{Component}
 use Rattle.fp_tables.specs.declared.component.Event.{Event}
 use Rattle.fp_tables.specs.declared.component.Param.{Param}
-use Rattle.fp_tables.specs.declared.component.Part.TheVariants as part
+use Rattle.fp_tables.specs.declared.component.CommandPart.TheVariants as part
 use Rattle.fp_tables.specs.declared.component.Port.{Port as PortOf}
 use Rattle.fp_tables.specs.declared.component.Role.{Role}
 use Rattle.fp_tables.specs.declared.component.Role.TheVariants as role

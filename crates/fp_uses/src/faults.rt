@@ -1,7 +1,7 @@
 ghost use Rattle.std.specs.Prelude.{◌≡◌, List, flat_map, length, IfOk};
 ghost use Rattle.fp_base.specs.Least.{InSome, IsLeast};
 ghost use Rattle.fp_graph.specs.Chains.{AreFlags, Chain, IsOnCycle};
-ghost use Rattle.fp_meaning.specs.declared.item.Item.{Item as Part};
+ghost use Rattle.fp_meaning.specs.declared.item.Item.{Item as OneItem};
 ghost use Rattle.fp_meaning.specs.Meaning.{AreMeanings};
 ghost use Rattle.fp_meaning.specs.Names.{definitions, definitions_of, mentions};
 ghost use Rattle.fp_meaning.specs.Uses.{BrokenByChains, UsesBroken, Uses as Using};
@@ -36,7 +36,7 @@ pub fn use_faults(alloc: Global, source: &Source, uses: &Uses) -> Result<Option<
 pub fn chain_faults(definitions: &[Definition], chained: &Chained, users: Users) -> Option<Refusal>
     requires cyclic { length chained.now.cyclic.items ≡ length definitions.now }
     requires deep { length chained.now.deep.items ≡ length definitions.now }
-    ensures { (parts : List Part) → definitions.now ≡ flat_map definitions_of parts
+    ensures { (parts : List OneItem) → definitions.now ≡ flat_map definitions_of parts
         → AreFlags (length definitions.now) (IsOnCycle (Using parts)) chained.now.cyclic.items
         → AreFlags (length definitions.now) (λ number. Chain (length definitions.now) (Using parts) number 256) chained.now.deep.items
         → IsLeast (BrokenByChains parts (group_of_users users)) result }

@@ -17,7 +17,7 @@ use Rattle.fp_numbering.specs.Broken.{Breaks}
 use Rattle.fp_numbering.specs.Ends.{matches_of, tips_of}
 use Rattle.fp_wiring.specs.Found.{AreFound, AreFoundFirst, IsFoundWith}
 use Rattle.fp_wiring.specs.Wired.{BrokenIn}
-use Rattle.fp_wiring.specs.declared.wiring.Found.{Found}
+use Rattle.fp_wiring.specs.declared.wiring.WiresFound.{WiresFound}
 
 lesser_none : (a : Option Refusal) → lesser_of a None ≡ a
 lesser_none None = refl
@@ -31,13 +31,13 @@ never_none (Some g) f e = go (no_later g f) e
     go true e = absurd (cc)
     go false e = absurd (cc)
 
-abbrev pub found_with : List (List Wire) → Option Refusal → Found
+abbrev pub found_with : List (List Wire) → Option Refusal → WiresFound
 found_with ws first = record { wires = ws; first = first }
 
 module _ (m : Model) where
-  pub nothing_found : (found : Found) → found ≡ record { wires = []; first = None } → AreFoundFirst m 0 found
+  pub nothing_found : (found : WiresFound) → found ≡ record { wires = []; first = None } → AreFoundFirst m 0 found
   nothing_found found e =
-      subst (λ (f : Found). AreFoundFirst m 0 f) (sym e)
+      subst (λ (f : WiresFound). AreFoundFirst m 0 f) (sym e)
       (record { least = least_first_none (BrokenIn m) m.topologies; each = λ e. refl; numbered = λ e t o w at here. absurd (cc) })
 
   its_links : (t : ℕ) (o : Topology) → slice_get m.topologies t ≡ Some o → links_of m t ≡ o.links
@@ -45,10 +45,10 @@ module _ (m : Model) where
 
   module _ (t : ℕ) (o : Topology) (at : slice_get m.topologies t ≡ Some o) where
     -- a topology that is numbered
-    pub one_numbered : (before after : Found) (row : List Wire) → AreNumbered m (links_of m t) row → after ≡ record { wires = before.wires ++ row ∷ []; first = before.first }
+    pub one_numbered : (before after : WiresFound) (row : List Wire) → AreNumbered m (links_of m t) row → after ≡ record { wires = before.wires ++ row ∷ []; first = before.first }
         → AreFoundFirst m t before → AreFoundFirst m (t + 1) after
     one_numbered before after row is made h =
-        subst (λ (f : Found). AreFoundFirst m (t + 1) f) (sym made)
+        subst (λ (f : WiresFound). AreFoundFirst m (t + 1) f) (sym made)
         (record {
           least = least_along (lesser_none before.first) (least_first_next (BrokenIn m) m.topologies t before.first None h.least (least_in_one (BrokenIn m) m.topologies t o None at (least_none unbroken)));
           each = λ e. length-append before.wires (row ∷ []) ∙ (let n = h.each e in omega arith);
@@ -68,10 +68,10 @@ module _ (m : Model) where
             subst (λ (ws : List Wire). AreNumbered m p.links ws) same (subst (λ (x : Topology). AreNumbered m x.links row) as_it now)
 
     -- one that breaks a rule
-    pub one_broken : (before after : Found) (f : Refusal) → IsLeast (Breaks (matches_of m) (tips_of m (links_of m t))) (Some f)
+    pub one_broken : (before after : WiresFound) (f : Refusal) → IsLeast (Breaks (matches_of m) (tips_of m (links_of m t))) (Some f)
         → after ≡ record { wires = before.wires; first = lesser_of before.first (Some f) } → AreFoundFirst m t before → AreFoundFirst m (t + 1) after
     one_broken before after f is made h =
-        subst (λ (x : Found). AreFoundFirst m (t + 1) x) (sym made)
+        subst (λ (x : WiresFound). AreFoundFirst m (t + 1) x) (sym made)
         (record {
           least = least_first_next (BrokenIn m) m.topologies t before.first (Some f) h.least (least_in_one (BrokenIn m) m.topologies t o (Some f) at here);
           each = λ e. never_none before.first f e;
@@ -81,7 +81,7 @@ module _ (m : Model) where
         here : IsLeast (BrokenIn m t o) (Some f)
         here = subst (λ (ls : List Link). IsLeast (Breaks (matches_of m) (tips_of m ls)) (Some f)) (its_links t o at) is
 
-  pub all_found : (t : ℕ) (found : Found) → t ≡ length m.topologies → AreFoundFirst m t found → AreFound m found
+  pub all_found : (t : ℕ) (found : WiresFound) → t ≡ length m.topologies → AreFoundFirst m t found → AreFound m found
   all_found t found all h =
       record {
         least = least_same (λ f b. (b.0, b.1, b.3, b.4)) (λ f b. (b.0, b.1, (let low = slice_get_within m.topologies b.0 b.1 b.2 in omega arith), b.2, b.3)) h.least;
@@ -90,12 +90,12 @@ module _ (m : Model) where
       }
 
 module _ (m : Model) (t at : ℕ) (same : at ≡ t) (lies : t < length m.topologies) where
-  pub with_numbered : (before after : Found) (row : List Wire) → AreNumbered m (links_of m at) row → after ≡ record { wires = before.wires ++ row ∷ []; first = before.first } → IsFoundWith m t before after
+  pub with_numbered : (before after : WiresFound) (row : List Wire) → AreNumbered m (links_of m at) row → after ≡ record { wires = before.wires ++ row ∷ []; first = before.first } → IsFoundWith m t before after
   with_numbered before after row is made =
       let one = item_below m.topologies t lies in
       one_numbered m t one.0 one.1 before after row (subst (λ (n : ℕ). AreNumbered m (links_of m n) row) same is) made
 
-  pub with_broken : (before after : Found) (f : Refusal) → IsLeast (Breaks (matches_of m) (tips_of m (links_of m at))) (Some f)
+  pub with_broken : (before after : WiresFound) (f : Refusal) → IsLeast (Breaks (matches_of m) (tips_of m (links_of m at))) (Some f)
       → after ≡ record { wires = before.wires; first = lesser_of before.first (Some f) } → IsFoundWith m t before after
   with_broken before after f is made =
       let one = item_below m.topologies t lies in

@@ -7,18 +7,18 @@ use Rattle.fp_tables.specs.declared.topology.Topology.{Topology}
 use Rattle.fp_tables.specs.declared.topology.Wire.{Wire}
 use Rattle.fp_numbering.specs.Answers.{AreNumbered}
 use Rattle.fp_wiring.specs.Wired.{BrokenIn, NumbersBroken}
-use Rattle.fp_wiring.specs.declared.wiring.Found.{Found}
+use Rattle.fp_wiring.specs.declared.wiring.WiresFound.{WiresFound}
 
 -- of the first so many: the least rule, and where none is broken the wires of each
-pub record AreFoundFirst (m : Model) (count : ℕ) (found : Found) : Type 0 where
+pub record AreFoundFirst (m : Model) (count : ℕ) (found : WiresFound) : Type 0 where
   pub least : IsLeast (InFirst count (BrokenIn m) m.topologies) found.first
   pub each : found.first ≡ None → length found.wires ≡ count
   pub numbered : found.first ≡ None → (t : ℕ) (o : Topology) (w : List Wire) → slice_get m.topologies t ≡ Some o → slice_get found.wires t ≡ Some w → AreNumbered m o.links w
 
-abbrev pub IsFoundWith : Model → ℕ → Found → Found → Type 0
+abbrev pub IsFoundWith : Model → ℕ → WiresFound → WiresFound → Type 0
 IsFoundWith m t before after = AreFoundFirst m t before → AreFoundFirst m (t + 1) after
 
-pub record AreFound (m : Model) (found : Found) : Type 0 where
+pub record AreFound (m : Model) (found : WiresFound) : Type 0 where
   pub least : IsLeast (NumbersBroken m) found.first
   pub each : found.first ≡ None → length found.wires ≡ length m.topologies
   pub numbered : found.first ≡ None → (t : ℕ) (o : Topology) (w : List Wire) → slice_get m.topologies t ≡ Some o → slice_get found.wires t ≡ Some w → AreNumbered m o.links w

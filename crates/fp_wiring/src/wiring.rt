@@ -15,7 +15,7 @@ use std::vec::IntoIter;
 
 /// The wires of the topologies that were looked at, and the least rule that one of them breaks.
 #[derive(Drop)]
-pub struct Found {
+pub struct WiresFound {
     pub wires: Row<Row<Wire>>,
     pub first: Option<Refusal>,
 }
@@ -30,14 +30,14 @@ pub fn number_all(alloc: Global, model: Model) -> Result<Model, Stop>
     ensures stop { IfErr result (IsStop (NumbersBroken model)) }
 {
     let found = found_in(alloc, &model)?;
-    let Found { wires, first } = found;
+    let WiresFound { wires, first } = found;
     match first {
         Some(refusal) => Err(Stop::Broken(refusal)),
         None => Ok(with_wires(alloc, model, wires)?),
     }
 }
 
-fn found_in(alloc: Global, model: &Model) -> Result<Found, NoMemory>
+fn found_in(alloc: Global, model: &Model) -> Result<WiresFound, NoMemory>
     requires positions { positions_lie model.now ≡ true }
     requires sizes { matched_ports_have_one_size model.now ≡ true }
     ensures { IfOk result (AreFound model.now) }
@@ -49,10 +49,10 @@ fn found_in(alloc: Global, model: &Model) -> Result<Found, NoMemory>
     Ok(found)
 }
 
-fn nothing(alloc: Global) -> Found
+fn nothing(alloc: Global) -> WiresFound
     ensures { result ≡ record { wires = []; first = None } }
 {
-    Found {
+    WiresFound {
         wires: Row::new(alloc),
         first: None,
     }
@@ -61,24 +61,24 @@ fn nothing(alloc: Global) -> Found
 fn with_topology(
     alloc: Global,
     model: &Model,
-    before: Found,
+    before: WiresFound,
     topology: usize,
-) -> Result<Found, NoMemory>
+) -> Result<WiresFound, NoMemory>
     requires lies { topology < length model.now.topologies }
     requires positions { positions_lie model.now ≡ true }
     requires sizes { matched_ports_have_one_size model.now ≡ true }
     ensures { IfOk result (IsFoundWith model.now topology before) }
 {
-    let Found { mut wires, first } = before;
+    let WiresFound { mut wires, first } = before;
     match u32::try_from(topology) {
         Ok(at) => match number(alloc, model, at) {
             Ok(row) => {
                 wires.push(row)?;
-                Ok(Found { wires, first })
+                Ok(WiresFound { wires, first })
             }
             Err(Stop::Broken(refusal)) => {
                 let first = lesser(first, Some(refusal));
-                Ok(Found { wires, first })
+                Ok(WiresFound { wires, first })
             }
             Err(Stop::NoMemory) => Err(NoMemory),
         },

@@ -1,7 +1,7 @@
 use crate::definitions::{formals, formals_of};
 use crate::plans::{ComponentPlan, LATER, text};
-use fp_base::{Format, NoMemory, Piece, Row, Text, Value};
-use fp_tables::{Channel, Command, Component, Event, Kind, Param, Part, Port, Running};
+use fp_base::{Format, FormatPiece, NoMemory, Row, Text, Value};
+use fp_tables::{Channel, Command, CommandPart, Component, Event, Kind, Param, Port, Running};
 use std::alloc::Global;
 
 fn ports(alloc: Global, plan: &ComponentPlan) -> Result<Row<Port>, NoMemory> {
@@ -19,9 +19,9 @@ fn ports(alloc: Global, plan: &ComponentPlan) -> Result<Row<Port>, NoMemory> {
 }
 
 /// What a command takes.
-fn kinds_of(part: Part) -> &'static [Kind] {
+fn kinds_of(part: CommandPart) -> &'static [Kind] {
     match part {
-        Part::SaveParam(_) => &[],
+        CommandPart::SaveParam(_) => &[],
         _ => &[Kind::U8],
     }
 }
@@ -51,8 +51,11 @@ fn show(alloc: Global, shows: Option<&'static str>, event: &mut Event) -> Result
     event.formals = formals(alloc, &[Kind::U8])?;
     event.format = text(alloc, before)?;
     event.format.push_str("{x}")?;
-    event.fields.parts.push(Piece::Plain(text(alloc, before)?))?;
-    event.fields.parts.push(Piece::Hex)
+    event
+        .fields
+        .parts
+        .push(FormatPiece::Plain(text(alloc, before)?))?;
+    event.fields.parts.push(FormatPiece::Hex)
 }
 
 fn events(alloc: Global, plan: &ComponentPlan) -> Result<Row<Event>, NoMemory> {

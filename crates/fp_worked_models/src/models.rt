@@ -3,7 +3,7 @@ use crate::definitions::{
 };
 use crate::machines::Drawn;
 use crate::plans::{ComponentPlan, EMPTY, EventPlan, LATER, Plan, SILENT};
-use fp_tables::{Full, Part, Queueing, Role, Special, Way};
+use fp_tables::{CommandPart, Full, Queueing, Role, Special, Way};
 
 const RAN: EventPlan = EventPlan {
     name: "Ran",
@@ -95,7 +95,7 @@ const WORKER: ComponentPlan = ComponentPlan {
         ("tlm", Role::Special(Special::Tlm), TLM),
         ("clock", Role::Special(Special::Time), TIME),
     ],
-    commands: &[("RUN", Part::Plain, LATER)],
+    commands: &[("RUN", CommandPart::Plain, LATER)],
     events: &[RAN],
     channels: &["Count"],
     ..EMPTY
@@ -211,8 +211,8 @@ const HAS_A_PARAMETER: ComponentPlan = ComponentPlan {
         ("go", SYNC, GO),
     ],
     commands: &[
-        ("P_PRM_SET", Part::SetParam(0), Way::Sync),
-        ("P_PRM_SAVE", Part::SaveParam(0), Way::Sync),
+        ("P_PRM_SET", CommandPart::SetParam(0), Way::Sync),
+        ("P_PRM_SAVE", CommandPart::SaveParam(0), Way::Sync),
     ],
     events: &[HELD],
     channels: &["t"],

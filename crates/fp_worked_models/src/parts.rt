@@ -5,7 +5,7 @@ ghost use Rattle.fp_logtext.specs.Names.{instance_name, command_at, command_name
 ghost use Rattle.fp_logtext.specs.Named.{port_is_named};
 
 use fp_events::Point;
-use fp_tables::{Command, Machine, Model, Part, Port};
+use fp_tables::{Command, CommandPart, Machine, Model, Port};
 
 pub fn has_instance(model: &Model, instance: u32) -> bool
     ensures { result ≡ is_some (instance_name model.now instance) }
@@ -86,7 +86,7 @@ pub fn has_set(model: &Model, instance: u32, point: Point) -> bool
     };
     match command(model, instance, at) {
         Some(command) => match command.part {
-            Part::SetParam(param) => has_param(model, instance, param),
+            CommandPart::SetParam(param) => has_param(model, instance, param),
             _ => false,
         },
         None => false,
@@ -102,7 +102,7 @@ pub fn has_save(model: &Model, instance: u32, point: Point) -> bool
     };
     match command(model, instance, at) {
         Some(command) => match command.part {
-            Part::SaveParam(param) => has_param(model, instance, param),
+            CommandPart::SaveParam(param) => has_param(model, instance, param),
             _ => false,
         },
         None => false,

@@ -4,7 +4,7 @@ use crate::machines::{Drawn, machines};
 use crate::types::types;
 use fp_base::{NoMemory, Row, Text};
 use fp_tables::{
-    Caller, End, Full, Instance, Model, Part, Program, Queueing, Role, Topology, Way, Wire,
+    Caller, CommandPart, End, Full, Instance, Model, Program, Queueing, Role, Topology, Way, Wire,
 };
 use std::alloc::Global;
 
@@ -30,7 +30,7 @@ pub const SILENT: EventPlan = EventPlan {
 pub struct ComponentPlan {
     pub queueing: Queueing,
     pub ports: &'static [(&'static str, Role, Option<u32>)],
-    pub commands: &'static [(&'static str, Part, Way)],
+    pub commands: &'static [(&'static str, CommandPart, Way)],
     pub events: &'static [EventPlan],
     pub channels: &'static [&'static str],
     pub on_change: bool,

@@ -1,5 +1,5 @@
 use crate::plans::text;
-use fp_base::{NoMemory, Part, Row, Text, Value};
+use fp_base::{MemberValue, NoMemory, Row, Text, Value};
 use fp_tables::{Constant, Field, Form, Kind, TypeDef};
 use std::alloc::Global;
 
@@ -70,11 +70,11 @@ fn field(alloc: Global, name: &str, kind: Kind) -> Result<Field, NoMemory> {
 /// A value of the struct type.
 pub fn mixed(alloc: Global, first: i128, second: i128) -> Result<Value, NoMemory> {
     let mut parts = Row::new(alloc);
-    parts.push(Part {
+    parts.push(MemberValue {
         name: text(alloc, "x")?,
         value: pair(alloc, first, second)?,
     })?;
-    parts.push(Part {
+    parts.push(MemberValue {
         name: text(alloc, "y_2")?,
         value: Value::Opaque,
     })?;

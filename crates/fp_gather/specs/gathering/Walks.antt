@@ -44,13 +44,13 @@ abbrev pub Walk : Type 0 → Type 1
 Walk A = Walked → Outcome A → Type 0
 
 -- one after another; each gives something
-abbrev pub Each : {X A : Type 0} → (X → Walk A) → List X → Walk (List A)
-Each P [] before (Went after gives) = (after ≡ before) × (gives ≡ [])
-Each P [] before (Stops stopped) = ⊥
-Each {A = A} P (x ∷ xs) before (Went after gives) =
-    (between : Walked) × (first : A) × (others : List A) × P x before (Went between first) × Each P xs between (Went after others) × (gives ≡ first ∷ others)
-Each {A = A} P (x ∷ xs) before (Stops stopped) =
-    P x before (Stops stopped) ⊎ ((between : Walked) × (first : A) × P x before (Went between first) × Each P xs between (Stops stopped))
+abbrev pub WalksEach : {X A : Type 0} → (X → Walk A) → List X → Walk (List A)
+WalksEach P [] before (Went after gives) = (after ≡ before) × (gives ≡ [])
+WalksEach P [] before (Stops stopped) = ⊥
+WalksEach {A = A} P (x ∷ xs) before (Went after gives) =
+    (between : Walked) × (first : A) × (others : List A) × P x before (Went between first) × WalksEach P xs between (Went after others) × (gives ≡ first ∷ others)
+WalksEach {A = A} P (x ∷ xs) before (Stops stopped) =
+    P x before (Stops stopped) ⊎ ((between : Walked) × (first : A) × P x before (Went between first) × WalksEach P xs between (Stops stopped))
 
 abbrev pub bytes_of : List Reading → ℕ
 bytes_of readings = sum_by (λ (r : Reading). length r.text) readings
@@ -75,10 +75,10 @@ Reads told round within name before (Stops (ReadFault failed)) = failed ≡ name
 abbrev pub WalksFile : Option (List HeldFile) → (List (List ℕ) → Inclusion → Walk Members) → List (List ℕ) → Inside → List ℕ → Walk Members
 WalksFile told inclusion round within name before (Went after whole) =
     (read : Walked) × (own : Members) × (inserts : List Members) × Reads told round within name before (Went read own)
-    × Each (inclusion (name ∷ round)) (inclusions_in own) read (Went after inserts) × (whole ≡ replaced own inserts)
+    × WalksEach (inclusion (name ∷ round)) (inclusions_in own) read (Went after inserts) × (whole ≡ replaced own inserts)
 WalksFile told inclusion round within name before (Stops stopped) =
     Reads told round within name before (Stops stopped)
-    ⊎ ((read : Walked) × (own : Members) × Reads told round within name before (Went read own) × Each (inclusion (name ∷ round)) (inclusions_in own) read (Stops stopped))
+    ⊎ ((read : Walked) × (own : Members) × Reads told round within name before (Went read own) × WalksEach (inclusion (name ∷ round)) (inclusions_in own) read (Stops stopped))
 
 -- how deep inclusions nest at most
 abbrev pub most_levels : ℕ
@@ -120,4 +120,4 @@ WalksNamed told name before (Stops stopped) = WalksFile told (WalksInclude told 
 
 -- the files of these names, each with the files that it includes; each gives its members
 abbrev pub WalksFiles : Option (List HeldFile) → List (List ℕ) → Walk (List (List Member))
-WalksFiles told names = Each (WalksNamed told) names
+WalksFiles told names = WalksEach (WalksNamed told) names

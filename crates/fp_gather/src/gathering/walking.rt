@@ -2,7 +2,7 @@ ghost use Rattle.std.specs.Prelude.{◌≡◌, map};
 ghost use Rattle.std.specs.String.{string_bytes};
 ghost use Rattle.fp_gather.specs.FilesRun.{files_run};
 ghost use Rattle.fp_gather.specs.gathering.Answers.{Comes, Knows};
-ghost use Rattle.fp_gather.specs.gathering.Walks.{Walked, Each, Reads, WalksFile, WalksInclude, WalksNamed, WalksFiles};
+ghost use Rattle.fp_gather.specs.gathering.Walks.{Walked, WalksEach, Reads, WalksFile, WalksInclude, WalksNamed, WalksFiles};
 
 use super::Halt;
 use super::including::{Inclusion, included, inclusions_of, within};
@@ -70,7 +70,7 @@ fn walk_includes<F: Files>(
     includes: &[Inclusion],
 ) -> Result<Row<Members>, Halt>
     ensures told { F.told files.new ≡ F.told files.old }
-    ensures comes { (before : Walked) → Knows progress.old before → Comes (files_run F.told F.faults F.misses files.old files.new) (λ told. Each (WalksInclude told levels round.now) includes.now) before progress.new result }
+    ensures comes { (before : Walked) → Knows progress.old before → Comes (files_run F.told F.faults F.misses files.old files.new) (λ told. WalksEach (WalksInclude told levels round.now) includes.now) before progress.new result }
 {
     let mut inserts = Row::new(alloc);
     for include in includes {

@@ -9,7 +9,7 @@ use Rattle.fp_parse_pieces.proofs.lists.some_noted.Given as goal
 
 -- what was read are the elements so far and one more, and a separator may follow
 abbrev pub invariant-separators : goal.invariant-separators
-invariant-separators g l = (l.from ≤ l.at) × (FitsThroughout kind (some_noted l.mark g.E.Element.with_note (g.E.Part.Piece.grammar l.depth)) → Reached kind (some_noted l.mark g.E.Element.with_note (g.E.Part.Piece.grammar l.depth)) (alternating (separated_by (separators l.mark)) (annotated (g.E.Part.Piece.grammar l.depth))) (λ rest. gathered (with_noted g.E.Element.with_note) l.row (element l.item l.lines ∷ rest)) l.tokens l.from l.at)
+invariant-separators g l = (l.from ≤ l.at) × (FitsThroughout kind (some_noted l.mark g.E.Element.with_note (g.E.Bare.Piece.grammar l.depth)) → Reached kind (some_noted l.mark g.E.Element.with_note (g.E.Bare.Piece.grammar l.depth)) (alternating (separated_by (separators l.mark)) (annotated (g.E.Bare.Piece.grammar l.depth))) (λ rest. gathered (with_noted g.E.Element.with_note) l.row (element l.item l.lines ∷ rest)) l.tokens l.from l.at)
 
 abbrev pub decreases-separators : goal.decreases-separators
 decreases-separators g l = length (drop l.at l.tokens)

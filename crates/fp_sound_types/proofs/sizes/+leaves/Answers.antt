@@ -1,6 +1,6 @@
 use Rattle.std.proofs.Common.{ap, ◌∙◌, arith}
 use Rattle.std.specs.List.{sum_by}
-use Rattle.fp_base.specs.declared.value.Part.{Part}
+use Rattle.fp_base.specs.declared.value.MemberValue.{MemberValue}
 use Rattle.fp_tables.specs.Types.{leaves}
 use Rattle.fp_sound_types.proofs.Sized.{array_leaves, struct_leaves}
 use Rattle.fp_sound_types.proofs.sizes.+leaves.Goals as goal
@@ -14,5 +14,5 @@ leaves-returns-in-Array t c =
 pub leaves-returns-in-Struct : goal.leaves-returns-in-Struct
 leaves-returns-in-Struct t c =
     let all = ap leaves c.in-Struct.is ∙ struct_leaves c.in-Struct.parts in
-    let same = ap (sum_by (λ (part : Part). leaves part.value)) (c.as_slice-in-Struct).ensures in
+    let same = ap (sum_by (λ (part : MemberValue). leaves part.value)) (c.as_slice-in-Struct).ensures in
     omega (arith, all, same)

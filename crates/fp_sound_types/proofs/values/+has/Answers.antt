@@ -2,7 +2,7 @@ use Rattle.std.proofs.Common.{◌≡◌, ◌∙◌, ◌&&◌, Bool, ℕ, eqb, le
 use Rattle.std.proofs.lemmas.Bool.Decides.{nat_tests}
 use Rattle.std.specs.List.{list_all}
 use Rattle.fp_base.specs.declared.value.Value.{Value}
-use Rattle.fp_base.specs.declared.value.Part.{Part}
+use Rattle.fp_base.specs.declared.value.MemberValue.{MemberValue}
 use Rattle.fp_tables.specs.Types.{Shape, has, shape}
 use Rattle.fp_sound_types.specs.Shapes.{meant}
 use Rattle.fp_tables.specs.Lists.{all_beside}
@@ -42,6 +42,6 @@ pub has_shape-returns-in-Struct-Struct : goal.has_shape-returns-in-Struct-Struct
 has_shape-returns-in-Struct-Struct t c =
     let types = c.args.types.now in
     let a = c.in-Struct-Struct in
-    c.parts_have.ensures ∙ ap (λ (ps : List Part). all_beside (part_has types) a.fields.now ps) (c.as_slice-in-Struct-Struct).ensures
+    c.parts_have.ensures ∙ ap (λ (ps : List MemberValue). all_beside (part_has types) a.fields.now ps) (c.as_slice-in-Struct-Struct).ensures
     ∙ sym (struct_has types a.fields.now a.parts)
     ∙ sym (ap₂ (has_read types) a.is-0 a.is-1)

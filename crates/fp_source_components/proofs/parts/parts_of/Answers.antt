@@ -3,7 +3,7 @@ use Rattle.fp_base.specs.Least.{InSome, IsLeast}
 use Rattle.fp_base.proofs.Calculus.{least_along, none_broken}
 use Rattle.fp_meaning.specs.declared.item.Item.{Item}
 use Rattle.fp_dictdefs.specs.Running.{RunningBroken}
-use Rattle.fp_source_components.specs.Machines.{is_outside, machine_of}
+use Rattle.fp_source_components.specs.Machines.{is_outside, machine_declared}
 use Rattle.fp_source_components.proofs.Building.{written_of}
 use Rattle.fp_source_components.proofs.parts.parts_of.Goals as goal
 
@@ -73,4 +73,4 @@ returns-clause-running c =
     (written_of c.args.source.now c.args.items.now c.args.values.now c.args.measured.now.resolutions c.as_slice-resolutions.result.now c.args.measured.now.written c.args.types.now c.in_ok-written.written
     c.requires.laid c.as_slice-resolutions.ensures c.requires.valued
     (c.unbroken_type_names_stand.ensures c.args.source.now c.args.values.now c.args.measured.now.resolutions c.args.measured.now.written c.args.types.now c.requires.valued) c.in_ok-written.ensures)
-    (subst (λ (is : List Item). IsLeast (InSome (λ (k : ℕ). RunningBroken (map is_outside (flat_map machine_of is))) c.in_ok-written.written.components) c.in_ok-running-in-None.running) c.requires.laid c.in_ok-running-in-None.ensures)
+    (subst (λ (is : List Item). IsLeast (InSome (λ (k : ℕ). RunningBroken (map is_outside (flat_map machine_declared is))) c.in_ok-written.written.components) c.in_ok-running-in-None.running) c.requires.laid c.in_ok-running-in-None.ensures)

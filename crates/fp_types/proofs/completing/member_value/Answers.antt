@@ -1,6 +1,6 @@
 use Rattle.std.proofs.Common.{Option, sym, ap}
 use Rattle.std.specs.Prelude.{option_map}
-use Rattle.fp_base.specs.declared.value.Part.{Part}
+use Rattle.fp_base.specs.declared.value.MemberValue.{MemberValue}
 use Rattle.fp_base.proofs.Options.{if_ok_then}
 use Rattle.fp_types.proofs.Complete.{member_left, is_given}
 use Rattle.fp_types.proofs.completing.member_value.Goals as goal
@@ -12,4 +12,4 @@ pub returns-in-None : goal.returns-in-None
 returns-in-None c =
     let f = c.args.field.now in
     if_ok_then c.rest_of.result _ _
-    (λ o h ws sound. member_left ws _ c.args.rest c.args.given.now f o (ap (λ (q : Option Part). option_map (λ (p : Part). p.value) q) (sym c.in-None.ensures)) (h ws sound)) c.rest_of.ensures
+    (λ o h ws sound. member_left ws _ c.args.rest c.args.given.now f o (ap (λ (q : Option MemberValue). option_map (λ (p : MemberValue). p.value) q) (sym c.in-None.ensures)) (h ws sound)) c.rest_of.ensures

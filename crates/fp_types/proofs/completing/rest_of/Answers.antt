@@ -1,7 +1,7 @@
 use Rattle.std.proofs.Common.{◌≡◌, List, Option, ap, ◌∙◌}
 use Rattle.std.specs.Prelude.{option_map, find}
 use Rattle.std.specs.Str.{bytes_eq}
-use Rattle.fp_base.specs.declared.value.Part.{Part}
+use Rattle.fp_base.specs.declared.value.MemberValue.{MemberValue}
 use Rattle.fp_base.proofs.Options.{if_ok_then}
 use Rattle.fp_types.specs.declared.target.Rest.{Rest}
 use Rattle.fp_types.specs.declared.target.Rest.TheVariants.{OfStruct}
@@ -20,7 +20,7 @@ returns-in-OfStruct c =
     let defaults = c.args.defaults.now in
     let i = c.in-OfStruct.field-0 in
     let left : c.args.left.now ≡ left_parts defaults (OfStruct i) = c.requires.left ∙ ap (λ (r : Rest). left_parts defaults r) c.in-OfStruct.is in
-    let named = c.part_named.ensures ∙ ap (λ (ps : List Part). find (λ (p : Part). bytes_eq p.name f.name) ps) left in
+    let named = c.part_named.ensures ∙ ap (λ (ps : List MemberValue). find (λ (p : MemberValue). bytes_eq p.name f.name) ps) left in
     if_ok_then c.value_of.result _ _
     (λ o e ws sound. for_rest ws defaults _ _ f o c.in-OfStruct.is
-    (at_rest ws _ _ f o _ (e ∙ ap (λ (q : Option Part). option_map (λ (p : Part). p.value) q) named) (left_default ws defaults sound i f))) c.value_of.ensures
+    (at_rest ws _ _ f o _ (e ∙ ap (λ (q : Option MemberValue). option_map (λ (p : MemberValue). p.value) q) named) (left_default ws defaults sound i f))) c.value_of.ensures

@@ -1,6 +1,6 @@
 use Rattle.std.proofs.Common.{◌≡◌, ℕ, ◌+◌, ◌*◌, ◌<◌, slice_get, Some}
 use Rattle.fp_base.specs.declared.value.Value.{Value}
-use Rattle.fp_base.specs.declared.value.Part.{Part}
+use Rattle.fp_base.specs.declared.value.MemberValue.{MemberValue}
 use Rattle.fp_tables.specs.declared.kind.Field.{Field}
 use Rattle.fp_types.specs.Converting.{opened, of_kind, member}
 use Rattle.fp_types.specs.Making.{Enough, EnoughEach}
@@ -45,7 +45,7 @@ abbrev pub invariant-in_each-loop-item : goal.invariant-in_each-loop-item
 invariant-in_each-loop-item l = (j : ℕ) (x : Value) → j < l.item-index → slice_get l.items j ≡ Some x → Enough l.types l.depth l.kind → Meets l.types (test_of l.sought) (opened x) (of_kind l.kind) → ⊥
 
 abbrev pub invariant-in_parts-loop-part : goal.invariant-in_parts-loop-part
-invariant-in_parts-loop-part l = (j : ℕ) (x : Part) → j < l.part-index → slice_get l.parts j ≡ Some x → EnoughEach l.types l.depth l.fields → MeetsNamed l.types (test_of l.sought) l.fields x → ⊥
+invariant-in_parts-loop-part l = (j : ℕ) (x : MemberValue) → j < l.part-index → slice_get l.parts j ≡ Some x → EnoughEach l.types l.depth l.fields → MeetsNamed l.types (test_of l.sought) l.fields x → ⊥
 
 abbrev pub invariant-in_members-loop-field : goal.invariant-in_members-loop-field
 invariant-in_members-loop-field l = (j : ℕ) (x : Field) → j < l.field-index → slice_get l.fields j ≡ Some x → EnoughEach l.types l.depth l.fields → Meets l.types (test_of l.sought) (opened l.value) (member x) → ⊥

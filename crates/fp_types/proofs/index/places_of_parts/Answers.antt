@@ -6,7 +6,7 @@ use Rattle.std.specs.Str.{bytes_eq}
 use Rattle.std.specs.BTreeMap.{get_by_text}
 use Rattle.fp_base.proofs.Options.{none_of}
 use Rattle.fp_tables.proofs.Firsts.{position_at, filled, kept}
-use Rattle.fp_base.specs.declared.value.Part.{Part}
+use Rattle.fp_base.specs.declared.value.MemberValue.{MemberValue}
 use Rattle.fp_types.proofs.index.places_of_parts.Goals as goal
 use Rattle.fp_types.proofs.index.places_of_parts.Goals.{then-not-contains_key+in_ok-from_str+in_ok-insert, else-not-contains_key}
 
@@ -14,7 +14,7 @@ pub loop-at-preserved : goal.loop-at-preserved
 loop-at-preserved c = λ q.
     let x = c.index-parts-at.result in
     let places = c.loop-at.places in
-    let more = position_at (λ (x : Part). bytes_eq x.name q) c.args.parts.now c.loop-at.at x (omega arith) c.index-parts-at.is in
+    let more = position_at (λ (x : MemberValue). bytes_eq x.name q) c.args.parts.now c.loop-at.at x (omega arith) c.index-parts-at.is in
     let same : bytes_eq x.name q ≡ true → x.name ≡ q = (bytes_eq-Decides x.name q).0 in
     elim c.if-not-contains_key.branch [
       | then-not-contains_key+in_ok-from_str+in_ok-insert w ↦

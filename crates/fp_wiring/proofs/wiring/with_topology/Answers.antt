@@ -6,7 +6,7 @@ use Rattle.fp_tables.specs.declared.topology.Wire.{Wire}
 use Rattle.fp_numbering.specs.Answers.{IsStop, links_of}
 use Rattle.fp_numbering.specs.Broken.{Breaks}
 use Rattle.fp_numbering.specs.Ends.{matches_of, tips_of}
-use Rattle.fp_wiring.specs.declared.wiring.Found.{Found}
+use Rattle.fp_wiring.specs.declared.wiring.WiresFound.{WiresFound}
 use Rattle.fp_wiring.proofs.Finding.{found_with, with_broken, with_numbered}
 use Rattle.fp_wiring.proofs.wiring.with_topology.Goals as goal
 

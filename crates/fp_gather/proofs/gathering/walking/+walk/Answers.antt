@@ -1,7 +1,7 @@
 use Rattle.std.proofs.Common.{ℕ, ◌+◌, ◌-◌, List, ◌∷◌, take, drop, refl, inl, ap, ◌∙◌, arith}
 use Rattle.std.proofs.lemmas.Bool.{MatchBool-at_true, MatchBool-at_false}
 use Rattle.fp_gather.specs.FilesRun.{files_run}
-use Rattle.fp_gather.specs.gathering.Walks.{Each, Reads, WalksFile, WalksInclude}
+use Rattle.fp_gather.specs.gathering.Walks.{WalksEach, Reads, WalksFile, WalksInclude}
 use Rattle.fp_gather.proofs.WalkSteps.{comes_as, each_begins, each_ends, each_goes_on, each_stops_on, file_goes, file_stops_later, handed_on, include_at_end, include_bad, include_read, memory_refused, refused_comes, split_there, stops_first, taken_next}
 use Rattle.fp_gather.proofs.gathering.walking.+walk.Goals as goal
 
@@ -59,7 +59,7 @@ walk_includes-returns-in_err-insert-clause-told g t c = c.in_err-insert.ensures.
 
 pub walk_includes-returns-in_err-insert-clause-comes : goal.walk_includes-returns-in_err-insert-clause-comes
 walk_includes-returns-in_err-insert-clause-comes g t c = λ before k.
-    handed_on (files_run g.F.Files.told g.F.Files.faults g.F.Files.misses c.args.files.now c.walk_include.new.files) (λ u. Each (WalksInclude u c.args.levels c.args.round.now) c.args.includes.now) before c.walk_include.new.progress c.from_residual.result c.in_err-insert.field-0.0 c.from_residual.ensures.1
+    handed_on (files_run g.F.Files.told g.F.Files.faults g.F.Files.misses c.args.files.now c.walk_include.new.files) (λ u. WalksEach (WalksInclude u c.args.levels c.args.round.now) c.args.includes.now) before c.walk_include.new.progress c.from_residual.result c.in_err-insert.field-0.0 c.from_residual.ensures.1
     (each_stops_on g.F.Files.told g.F.Files.faults g.F.Files.misses c.args.files.now c.loop-include.files c.walk_include.new.files (λ u. WalksInclude u c.args.levels c.args.round.now) (take c.loop-include.include-index c.args.includes.now) c.args.includes.now c.include-item.result (drop (c.loop-include.include-index + 1) c.args.includes.now) before c.loop-include.progress c.walk_include.new.progress c.walk_include.new.progress c.loop-include.inserts c.in_err-insert.field-0.0
     (split_there c.args.includes.now c.loop-include.include-index c.include-item.result c.loop-include-test.true c.include-item.is) c.loop-include.invariant.0 (c.loop-include.invariant.1 before k) c.in_err-insert.ensures.comes)
 
@@ -68,7 +68,7 @@ walk_includes-returns-in_err-push-clause-told g t c = c.in_ok-insert.ensures.tol
 
 pub walk_includes-returns-in_err-push-clause-comes : goal.walk_includes-returns-in_err-push-clause-comes
 walk_includes-returns-in_err-push-clause-comes g t c = λ before k.
-    memory_refused (files_run g.F.Files.told g.F.Files.faults g.F.Files.misses c.args.files.now c.walk_include.new.files) (λ u. Each (WalksInclude u c.args.levels c.args.round.now) c.args.includes.now) before c.walk_include.new.progress c.from_residual-in_err-push.result c.from_residual-in_err-push.ensures.1
+    memory_refused (files_run g.F.Files.told g.F.Files.faults g.F.Files.misses c.args.files.now c.walk_include.new.files) (λ u. WalksEach (WalksInclude u c.args.levels c.args.round.now) c.args.includes.now) before c.walk_include.new.progress c.from_residual-in_err-push.result c.from_residual-in_err-push.ensures.1
 
 pub walk_includes-loop-include-preserved : goal.walk_includes-loop-include-preserved
 walk_includes-loop-include-preserved g t c = (

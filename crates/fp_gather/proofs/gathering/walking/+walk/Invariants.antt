@@ -2,7 +2,7 @@ use Rattle.std.proofs.Common.{◌≡◌, ◌*◌, ◌+◌, take}
 use Rattle.std.specs.Prelude.{Ok}
 use Rattle.fp_gather.specs.FilesRun.{files_run}
 use Rattle.fp_gather.specs.gathering.Answers.{Comes, Knows}
-use Rattle.fp_gather.specs.gathering.Walks.{Walked, Each, WalksInclude}
+use Rattle.fp_gather.specs.gathering.Walks.{Walked, WalksEach, WalksInclude}
 use Rattle.fp_gather.proofs.gathering.walking.+walk.Given as goal
 
 abbrev pub decreases-walk_include : goal.decreases-walk_include
@@ -19,4 +19,4 @@ abbrev pub invariant-walk_includes-loop-include : goal.invariant-walk_includes-l
 invariant-walk_includes-loop-include g l =
     (g.F.Files.told l.files ≡ g.F.Files.told l.initial.files)
     × ((before : Walked) → Knows l.initial.progress before
-    → Comes (files_run g.F.Files.told g.F.Files.faults g.F.Files.misses l.initial.files l.files) (λ told. Each (WalksInclude told l.levels l.round) (take l.include-index l.includes)) before l.progress (Ok l.inserts))
+    → Comes (files_run g.F.Files.told g.F.Files.faults g.F.Files.misses l.initial.files l.files) (λ told. WalksEach (WalksInclude told l.levels l.round) (take l.include-index l.includes)) before l.progress (Ok l.inserts))
