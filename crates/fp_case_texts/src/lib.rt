@@ -9,5 +9,6 @@ mod repeated;
 mod words;
 
 pub use asking::{Asked, run_cases};
-pub use cases::{Case, Section};
+pub use cases::{Case, Section, cases_of};
+pub use differences::add_differences;
 pub use words::{first_broken, numeral, printed, push_all, push_line, push_span, refused};

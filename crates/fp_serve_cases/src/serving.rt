@@ -1,7 +1,7 @@
 ghost use Rattle.std.specs.Prelude.{◌≢◌};
 
 use fp_base::{NoMemory, Text};
-use fp_case_texts::{Asked, Case, numeral};
+use fp_case_texts::{Case, numeral};
 use fp_main::{Status, serve};
 use fp_outside::{Files, HostFiles, MemFiles, MemSink, OpenGate};
 use std::alloc::Global;
@@ -104,19 +104,17 @@ fn code(alloc: Global, status: Status) -> Result<Text, NoMemory> {
     numeral(alloc, status.code() as u64)
 }
 
-/// `serve` over a runtime, which answers what is asked of it.
-#[derive(Drop)]
-pub struct Serving<'a, R> {
-    pub rt: &'a R,
-}
-
-impl<'a, R: Threads + Wait + Sync + rt::Files> Asked for Serving<'a, R> {
-    fn answer(&self, alloc: Global, case: &Case, question: &str) -> Result<Text, NoMemory> {
-        match question {
-            "out" => written(alloc, &left(self.rt, alloc, case)?.out),
-            "diag" => written(alloc, &left(self.rt, alloc, case)?.diag),
-            "status" => code(alloc, left(self.rt, alloc, case)?.status),
-            _ => Text::from_str(alloc, "no such question"),
-        }
+/// What comes of a question.
+pub fn answer<R: Threads + Wait + Sync + rt::Files>(
+    rt: &R,
+    alloc: Global,
+    case: &Case,
+    question: &str,
+) -> Result<Text, NoMemory> {
+    match question {
+        "out" => written(alloc, &left(rt, alloc, case)?.out),
+        "diag" => written(alloc, &left(rt, alloc, case)?.diag),
+        "status" => code(alloc, left(rt, alloc, case)?.status),
+        _ => Text::from_str(alloc, "no such question"),
     }
 }
