@@ -1,6 +1,6 @@
 ghost use Rattle.std.specs.Prelude.{IfOk, List};
 ghost use Rattle.fp_base.specs.Least.{IsUnbroken};
-ghost use Rattle.fp_tables.specs.declared.component.Component.{Component as OneComponent};
+ghost use Rattle.fp_tables.specs.declared.component.Component.{Component as ModelComponent};
 ghost use Rattle.fp_instances.specs.Broken.{InstancesBroken};
 ghost use Rattle.fp_instances.specs.Numbers.{AreWithin, InstanceIsWithin};
 ghost use Rattle.fp_instances.specs.Resolved.{AreInstances, IsInstance};
