@@ -18,7 +18,7 @@ use Rattle.fp_type_forms.specs.declared.resolving.Resolution.{Resolution}
 use Rattle.fp_type_forms.specs.Resolved.{Takes, UseMeans}
 use Rattle.fp_type_forms.specs.Written.{AllAt, IsOnly, KindIs}
 use Rattle.fp_type_forms.proofs.Taking.{taken_nothing}
-use Rattle.fp_part_forms.specs.Names.{written}
+use Rattle.fp_part_values.specs.Names.{written}
 use Rattle.fp_written_parts.specs.declared.member.WrittenMember.{WrittenMember}
 use Rattle.fp_component_forms.specs.Positions.{RanksAre}
 use Rattle.fp_component_forms.specs.Taken.{MemberWhere, ResultWhere, TypeWhere}

@@ -19,7 +19,7 @@ use Rattle.fp_meaning.specs.Names.{Path}
 use Rattle.fp_type_forms.specs.declared.resolving.Resolution.{Resolution}
 use Rattle.fp_type_forms.specs.Resolved.{AreResolved, parts_of_item}
 use Rattle.fp_type_forms.specs.Written.{AllAt}
-use Rattle.fp_part_forms.specs.Names.{formal_names, part_names}
+use Rattle.fp_part_values.specs.Names.{formal_names, part_names}
 use Rattle.fp_written_parts.specs.declared.port.WrittenPort.{WrittenPort}
 use Rattle.fp_written_parts.specs.declared.port.WrittenPortDef.{WrittenPortDef}
 use Rattle.fp_written_parts.specs.declared.member.WrittenComponent.{WrittenComponent}

@@ -60,7 +60,7 @@ use Rattle.fp_meaning.specs.Names.{Path, definitions, in_optional}
 use Rattle.fp_meaning.specs.Sites.{ModelDef, component, interface}
 use Rattle.fp_meaning.specs.Values.{Val, dotted, names_of, opened}
 use Rattle.fp_type_forms.specs.Written.{AllAt, IsOnly, KindIs, NumberIs, text_in}
-use Rattle.fp_part_forms.specs.Names.{formal_names, part_names, written}
+use Rattle.fp_part_values.specs.Names.{formal_names, part_names, written}
 use Rattle.fp_written_parts.specs.declared.port.Given.{Given}
 use Rattle.fp_written_parts.specs.declared.port.QueueWords.{QueueWords}
 use Rattle.fp_written_parts.specs.declared.port.WrittenFormal.{WrittenFormal}

@@ -8,7 +8,7 @@ use Rattle.fp_written_parts.specs.declared.member.WrittenInterface.{WrittenInter
 use Rattle.fp_written_parts.specs.declared.member.WrittenMember.{WrittenMember}
 use Rattle.fp_written_parts.specs.declared.member.WrittenMember.TheVariants.{Port, Import, Command, Event, Channel, Param, Match, Running}
 use Rattle.fp_written_parts.specs.Giving.{Gives, own, imported, GiveAll, none, port, import_, cyclic, command, event, channel, param, match, running}
-use Rattle.fp_interfaces.proofs.Listed.{in_given}
+use Rattle.fp_component_rules.proofs.Listed.{in_given}
 use Rattle.fp_component_rules.specs.Broken.{GivesAgain}
 
 module _ (Clash : WrittenPort → WrittenPort → Type 0) where

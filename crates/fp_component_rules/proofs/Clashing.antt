@@ -14,11 +14,11 @@ use Rattle.fp_written_parts.specs.declared.port.WrittenRole.TheVariants as role
 use Rattle.fp_written_parts.specs.declared.member.WrittenInterface.{WrittenInterface}
 use Rattle.fp_written_parts.specs.declared.member.WrittenMember.{WrittenMember}
 use Rattle.fp_written_parts.specs.Giving.{Gives, ImportsWithin}
-use Rattle.fp_interfaces.specs.Firsts.{has_kind, has_port}
-use Rattle.fp_interfaces.specs.Gifts.{IsGift}
-use Rattle.fp_interfaces.specs.declared.gift.Gift.{Gift}
-use Rattle.fp_interfaces.specs.declared.kinds.SpecialKinds.{SpecialKinds}
-use Rattle.fp_interfaces.proofs.Laws.{kind_gift, named_gift, one_given}
+use Rattle.fp_component_rules.specs.Firsts.{has_kind, has_port}
+use Rattle.fp_component_rules.specs.Gifts.{IsGift}
+use Rattle.fp_component_rules.specs.declared.gift.Gift.{Gift}
+use Rattle.fp_component_rules.specs.declared.interface_kinds.SpecialKinds.{SpecialKinds}
+use Rattle.fp_component_rules.proofs.GatheringLaws.{kind_gift, named_gift, one_given}
 use Rattle.fp_component_rules.specs.Broken.{AreOfOneKind, GivenBefore, GivesAgain, HaveOneName, RepeatsAt, giver_at}
 use Rattle.fp_component_rules.specs.Tested.{any_seen, clash_fault, have_common}
 use Rattle.fp_component_rules.proofs.Folding.{least_next, least_placed, not_both}

@@ -7,11 +7,11 @@ use Rattle.fp_written_parts.specs.declared.port.WrittenPort.{WrittenPort}
 use Rattle.fp_written_parts.specs.declared.port.WrittenRole.TheVariants as role
 use Rattle.fp_written_parts.specs.declared.member.WrittenInterface.{WrittenInterface}
 use Rattle.fp_written_parts.specs.declared.member.WrittenMember.{WrittenMember}
-use Rattle.fp_interfaces.specs.Firsts.{has_kind}
-use Rattle.fp_interfaces.specs.Gifts.{GivenAmong, IsGift}
-use Rattle.fp_interfaces.specs.declared.gift.Gift.{Gift}
-use Rattle.fp_interfaces.specs.declared.kinds.SpecialKinds.{SpecialKinds}
-use Rattle.fp_interfaces.proofs.Laws.{kind_gift}
+use Rattle.fp_component_rules.specs.Firsts.{has_kind}
+use Rattle.fp_component_rules.specs.Gifts.{GivenAmong, IsGift}
+use Rattle.fp_component_rules.specs.declared.gift.Gift.{Gift}
+use Rattle.fp_component_rules.specs.declared.interface_kinds.SpecialKinds.{SpecialKinds}
+use Rattle.fp_component_rules.proofs.GatheringLaws.{kind_gift}
 use Rattle.fp_component_rules.specs.Broken.{IsMissing, needs}
 use Rattle.fp_component_rules.specs.Tested.{have_common}
 use Rattle.fp_component_rules.proofs.Folding.{not_both}

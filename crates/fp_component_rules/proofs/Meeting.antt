@@ -3,8 +3,8 @@ use Rattle.std.proofs.Common.{◌≡◌, ◌↔◌, ◌∙◌, ℕ, Bool, true, 
 use Rattle.fp_base.proofs.Bools.{both, join}
 use Rattle.fp_tables.specs.declared.component.Special.{Special}
 use Rattle.fp_tables.specs.declared.component.Special.TheVariants.{CmdRecv, CmdReg, CmdResp, Event, TextEvent, Tlm, Time, PrmGet, PrmSet}
-use Rattle.fp_interfaces.specs.Firsts.{has_kind}
-use Rattle.fp_interfaces.specs.declared.kinds.SpecialKinds.{SpecialKinds}
+use Rattle.fp_component_rules.specs.Firsts.{has_kind}
+use Rattle.fp_component_rules.specs.declared.interface_kinds.SpecialKinds.{SpecialKinds}
 use Rattle.fp_component_rules.specs.Tested.{every_kind, have_common}
 use Rattle.fp_component_rules.proofs.Passing.{any_at, at_any}
 

@@ -8,7 +8,7 @@ use Rattle.std.specs.Cmp.Lexicographic.{slice_cmp}
 use denote.Ref.{Bor}
 use Rattle.fp_tables.proofs.Firsts.{mapped}
 use Rattle.fp_written_parts.specs.declared.port.WrittenPort.{WrittenPort}
-use Rattle.fp_interfaces.specs.Firsts.{is_named}
+use Rattle.fp_component_rules.specs.Firsts.{is_named}
 use Rattle.fp_component_rules.specs.declared.matching.End.{End}
 use Rattle.fp_component_rules.specs.Tested.{end_of, find_end}
 use Rattle.fp_component_rules.proofs.Passing.{find_pushed}

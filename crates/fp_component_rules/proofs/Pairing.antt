@@ -14,11 +14,11 @@ use Rattle.fp_written_parts.specs.declared.member.WrittenInterface.{WrittenInter
 use Rattle.fp_written_parts.specs.declared.member.WrittenMatch.{WrittenMatch}
 use Rattle.fp_written_parts.specs.declared.member.WrittenMember.{WrittenMember}
 use Rattle.fp_written_parts.specs.declared.member.WrittenMember.TheVariants.{Port, Import, Command, Event, Channel, Param, Match, Running}
-use Rattle.fp_interfaces.specs.Firsts.{is_named}
-use Rattle.fp_interfaces.specs.Gifts.{IsGift, LeadsAmong}
-use Rattle.fp_interfaces.specs.declared.gift.Gift.{Gift}
-use Rattle.fp_interfaces.proofs.Laws.{first_gift, same_list}
-use Rattle.fp_interfaces.proofs.Named.{bytes_same, same_bytes}
+use Rattle.fp_component_rules.specs.Firsts.{is_named}
+use Rattle.fp_component_rules.specs.Gifts.{IsGift, LeadsAmong}
+use Rattle.fp_component_rules.specs.declared.gift.Gift.{Gift}
+use Rattle.fp_component_rules.proofs.GatheringLaws.{first_gift, same_list}
+use Rattle.fp_component_rules.proofs.Named.{bytes_same, same_bytes}
 use Rattle.fp_component_rules.specs.declared.matching.End.{End}
 use Rattle.fp_component_rules.specs.Broken.{DifferInSize, IsBadMatch, MatchAt, Names, NamesNone, NamesUnlike, is_general, size_of}
 use Rattle.fp_component_rules.specs.Tested.{end_of, fails, match_fault, sizes_differ}

@@ -6,8 +6,8 @@ use Rattle.fp_base.proofs.Bools.{or_cases, or_left, or_right}
 use Rattle.fp_base.proofs.Lists.{take_next}
 use Rattle.fp_base.proofs.Options.{same_some}
 use Rattle.fp_written_parts.specs.declared.port.WrittenPort.{WrittenPort}
-use Rattle.fp_interfaces.specs.Firsts.{has_port, is_named, with_port}
-use Rattle.fp_interfaces.proofs.Named.{bytes_same, same_bytes}
+use Rattle.fp_component_rules.specs.Firsts.{has_port, is_named, with_port}
+use Rattle.fp_component_rules.proofs.Named.{bytes_same, same_bytes}
 use Rattle.fp_component_rules.specs.Tested.{any_seen}
 
 pub or_false : (b : Bool) → (b || false) ≡ b

@@ -18,12 +18,12 @@ use Rattle.fp_written_parts.specs.declared.member.WrittenMatch.{WrittenMatch}
 use Rattle.fp_written_parts.specs.declared.member.WrittenMember.{WrittenMember}
 use Rattle.fp_written_parts.specs.declared.member.WrittenMember.TheVariants.{Port, Import, Command, Event, Channel, Param, Match, Running}
 use Rattle.fp_written_parts.specs.Giving.{Gives, GiveAll, Imports, IsCyclic, LeadsToCycle, at_once, through}
-use Rattle.fp_interfaces.specs.Cycles.{Reaches}
-use Rattle.fp_interfaces.specs.Firsts.{is_named}
-use Rattle.fp_interfaces.specs.Gifts.{LeadsAmong}
-use Rattle.fp_interfaces.specs.Lists.{AreNamedOnce, IsNamedOnce}
-use Rattle.fp_interfaces.proofs.Listed.{GivesBy, gives_by, one_list}
-use Rattle.fp_interfaces.proofs.Named.{same_bytes}
+use Rattle.fp_component_rules.specs.Cycles.{Reaches}
+use Rattle.fp_component_rules.specs.Firsts.{is_named}
+use Rattle.fp_component_rules.specs.Gifts.{LeadsAmong}
+use Rattle.fp_component_rules.specs.Lists.{AreNamedOnce, IsNamedOnce}
+use Rattle.fp_component_rules.proofs.Listed.{GivesBy, gives_by, one_list}
+use Rattle.fp_component_rules.proofs.Named.{same_bytes}
 use Rattle.fp_component_rules.specs.Broken.{AreOfOneKind, ComponentsBroken, DifferInSize, GivesAgain, HaveOneName, IsBadMatch, Names, NamesNone, QueueBroken, RepeatsBroken, Waits, bringer_at, giver_at, is_general, size_of, waits_itself}
 use Rattle.fp_component_rules.specs.Consistent.{AreConsistent, AreOfManyKinds, ArePaired, IsConsistent}
 use Rattle.fp_component_rules.proofs.Apart.{IsGivenOnce, none_clash}

@@ -9,9 +9,9 @@ use Rattle.fp_base.proofs.Bools.{or_cases, or_left, or_right}
 use Rattle.fp_base.proofs.Calculus.{least_along}
 use Rattle.fp_written_parts.specs.declared.member.WrittenInterface.{WrittenInterface}
 use Rattle.fp_written_parts.specs.declared.member.WrittenMember.{WrittenMember}
-use Rattle.fp_interfaces.specs.Gifts.{GivenAmong, IsGift}
-use Rattle.fp_interfaces.specs.declared.gift.Gift.{Gift}
-use Rattle.fp_interfaces.proofs.Laws.{asynchronous_gift, one_given}
+use Rattle.fp_component_rules.specs.Gifts.{GivenAmong, IsGift}
+use Rattle.fp_component_rules.specs.declared.gift.Gift.{Gift}
+use Rattle.fp_component_rules.proofs.GatheringLaws.{asynchronous_gift, one_given}
 use Rattle.fp_component_rules.specs.Broken.{UseAt, Waits, WaitsAmong, bringer_at, waits_itself}
 use Rattle.fp_component_rules.specs.Tested.{fault_at}
 use Rattle.fp_component_rules.proofs.Folding.{least_placed}

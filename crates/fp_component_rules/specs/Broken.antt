@@ -24,9 +24,9 @@ use Rattle.fp_written_parts.specs.declared.member.WrittenMember.TheVariants.{Por
 use Rattle.fp_written_parts.specs.declared.member.WrittenInterface.{WrittenInterface}
 use Rattle.fp_written_parts.specs.declared.member.WrittenComponent.{WrittenComponent}
 use Rattle.fp_written_parts.specs.Giving.{Gives, GiveAll}
-use Rattle.fp_interfaces.specs.Cycles.{IsCycleBroken}
-use Rattle.fp_interfaces.specs.Firsts.{is_asynchronous, is_named}
-use Rattle.fp_interfaces.specs.Gifts.{GivenAmong, LeadsAmong}
+use Rattle.fp_component_rules.specs.Cycles.{IsCycleBroken}
+use Rattle.fp_component_rules.specs.Firsts.{is_asynchronous, is_named}
+use Rattle.fp_component_rules.specs.Gifts.{GivenAmong, LeadsAmong}
 
 -- where a member stands that gives ports
 abbrev pub giver_at : WrittenMember → Option Place

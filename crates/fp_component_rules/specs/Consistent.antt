@@ -8,8 +8,8 @@ use Rattle.fp_written_parts.specs.declared.member.WrittenMember.TheVariants.{Mat
 use Rattle.fp_written_parts.specs.declared.member.WrittenInterface.{WrittenInterface}
 use Rattle.fp_written_parts.specs.declared.member.WrittenComponent.{WrittenComponent}
 use Rattle.fp_written_parts.specs.Giving.{GiveAll, IsCyclic}
-use Rattle.fp_interfaces.specs.Firsts.{is_named}
-use Rattle.fp_interfaces.specs.Lists.{AreNamedOnce}
+use Rattle.fp_component_rules.specs.Firsts.{is_named}
+use Rattle.fp_component_rules.specs.Lists.{AreNamedOnce}
 use Rattle.fp_component_rules.specs.Broken.{AreOfOneKind, Waits, is_general, size_of}
 
 -- a match names two different ports of a list, general ones of one size

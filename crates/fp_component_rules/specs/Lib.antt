@@ -1,3 +1,13 @@
 pub mod Broken
 pub mod Consistent
+pub mod Cycles
+pub mod Firsts
+pub mod Flagged
+pub mod Gathered
+pub mod Gifts
+pub mod Links
+pub mod Lists
+pub mod Noted
+pub mod PortBroken
+pub mod Seen
 pub mod Tested

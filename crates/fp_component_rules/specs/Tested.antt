@@ -16,9 +16,9 @@ use Rattle.fp_tables.specs.declared.component.Special.TheVariants.{CmdRecv, CmdR
 use Rattle.fp_written_parts.specs.declared.port.WrittenPort.{WrittenPort}
 use Rattle.fp_written_parts.specs.declared.member.WrittenMember.{WrittenMember}
 use Rattle.fp_written_parts.specs.declared.member.WrittenMember.TheVariants.{Match}
-use Rattle.fp_interfaces.specs.Firsts.{has_kind, has_port}
-use Rattle.fp_interfaces.specs.declared.gift.Gift.{Gift}
-use Rattle.fp_interfaces.specs.declared.kinds.SpecialKinds.{SpecialKinds}
+use Rattle.fp_component_rules.specs.Firsts.{has_kind, has_port}
+use Rattle.fp_component_rules.specs.declared.gift.Gift.{Gift}
+use Rattle.fp_component_rules.specs.declared.interface_kinds.SpecialKinds.{SpecialKinds}
 use Rattle.fp_component_rules.specs.declared.matching.End.{End}
 use Rattle.fp_component_rules.specs.Broken.{giver_at, is_general, size_of}
 

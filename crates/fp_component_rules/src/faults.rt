@@ -2,8 +2,8 @@ ghost use Rattle.std.specs.Prelude.{List, IfOk};
 ghost use Rattle.fp_base.specs.Least.{InSome, IsLeast};
 ghost use Rattle.fp_written_parts.specs.declared.member.WrittenInterface.{WrittenInterface as Interface};
 ghost use Rattle.fp_written_parts.specs.Giving.{ImportsWithin};
-ghost use Rattle.fp_interfaces.specs.Gifts.{AreGifts, AreWithin};
-ghost use Rattle.fp_interfaces.specs.Lists.{AreImportsWithin};
+ghost use Rattle.fp_component_rules.specs.Gifts.{AreGifts, AreWithin};
+ghost use Rattle.fp_component_rules.specs.Lists.{AreImportsWithin};
 ghost use Rattle.fp_component_rules.specs.Broken.{ComponentBroken, ComponentsBroken, InterfaceBroken};
 
 use crate::matching::matches_fault;
@@ -11,7 +11,7 @@ use crate::needing::special_fault;
 use crate::queueing::queue_fault;
 use crate::repeats::repeat_fault;
 use fp_base::{NoMemory, Refusal, Rule, lesser};
-use fp_interfaces::{Gift, gathered, gift_of, interface_cycle_faults};
+use crate::{Gift, gathered, gift_of, interface_cycle_faults};
 use fp_written_parts::{WrittenComponent, WrittenInterface};
 use std::alloc::Global;
 

@@ -2,10 +2,10 @@ ghost use Rattle.std.specs.Prelude.{◌≡◌, ◌∷◌, [], not};
 ghost use Rattle.std.specs.List.{list_any};
 ghost use Rattle.fp_tables.specs.Components.{same_special};
 ghost use Rattle.fp_tables.specs.declared.component.Special.{Special as Kind};
-ghost use Rattle.fp_interfaces.specs.Firsts.{has_kind};
+ghost use Rattle.fp_component_rules.specs.Firsts.{has_kind};
 ghost use Rattle.fp_component_rules.specs.Tested.{have_common};
 
-use fp_interfaces::SpecialKinds;
+use crate::SpecialKinds;
 use fp_tables::Special;
 
 /// Whether some kind is among both.

@@ -3,13 +3,13 @@ ghost use Rattle.std.specs.Str.{bytes_eq};
 ghost use Rattle.fp_base.specs.Least.{IsLeast, broken_at};
 ghost use Rattle.fp_base.specs.declared.rule.Rule.TheVariants.{BadMatch};
 ghost use Rattle.fp_written_parts.specs.declared.member.WrittenInterface.{WrittenInterface as Interface};
-ghost use Rattle.fp_interfaces.specs.Firsts.{is_named};
-ghost use Rattle.fp_interfaces.specs.Gifts.{IsGift};
+ghost use Rattle.fp_component_rules.specs.Firsts.{is_named};
+ghost use Rattle.fp_component_rules.specs.Gifts.{IsGift};
 ghost use Rattle.fp_component_rules.specs.Broken.{MatchesBroken, is_general, size_of};
 ghost use Rattle.fp_component_rules.specs.Tested.{end_of, fails, find_end, match_fault, sizes_differ};
 
 use fp_base::{NoMemory, Refusal, Rule, Text, lesser, refusal_if};
-use fp_interfaces::Gift;
+use crate::Gift;
 use fp_written_parts::{Given, WrittenMatch, WrittenMember, WrittenPort, WrittenRole};
 use std::alloc::Global;
 use std::collections::BTreeMap;

@@ -5,13 +5,13 @@ ghost use Rattle.fp_tables.specs.Components.{same_special};
 ghost use Rattle.fp_tables.specs.declared.component.Special.{Special as Kind};
 ghost use Rattle.fp_tables.specs.declared.component.Special.TheVariants.{CmdRecv, CmdReg, CmdResp, PrmGet, PrmSet};
 ghost use Rattle.fp_written_parts.specs.declared.member.WrittenInterface.{WrittenInterface as Interface};
-ghost use Rattle.fp_interfaces.specs.Firsts.{has_kind};
-ghost use Rattle.fp_interfaces.specs.Gifts.{IsGift};
+ghost use Rattle.fp_component_rules.specs.Firsts.{has_kind};
+ghost use Rattle.fp_component_rules.specs.Gifts.{IsGift};
 ghost use Rattle.fp_component_rules.specs.Broken.{SpecialBroken, needs};
 
 use crate::kinds::{have_common, left_out, three_kinds, two_kinds};
 use fp_base::{Place, Refusal, Rule, refusal_if};
-use fp_interfaces::{Gift, SpecialKinds};
+use crate::{Gift, SpecialKinds};
 use fp_tables::Special;
 use fp_written_parts::WrittenMember;
 

@@ -3,12 +3,12 @@ ghost use Rattle.std.specs.List.{list_any};
 ghost use Rattle.fp_base.specs.Least.{InSome, IsLeast};
 ghost use Rattle.fp_written_parts.specs.declared.member.WrittenInterface.{WrittenInterface as Interface};
 ghost use Rattle.fp_written_parts.specs.Giving.{ImportsWithin};
-ghost use Rattle.fp_interfaces.specs.Gifts.{AreGifts, IsGift};
+ghost use Rattle.fp_component_rules.specs.Gifts.{AreGifts, IsGift};
 ghost use Rattle.fp_component_rules.specs.Broken.{QueueBroken, UseAt, BrokenUnused, bringer_at, is_async, waits_itself};
 
 use crate::repeats::{fault_at, own_gift};
 use fp_base::{NoMemory, Place, Refusal, Rule, lesser, refusal_if};
-use fp_interfaces::Gift;
+use crate::Gift;
 use fp_tables::Queueing;
 use fp_tree::CommandKind;
 use fp_written_parts::WrittenMember;

@@ -3,14 +3,14 @@ ghost use Rattle.std.specs.List.{list_any};
 ghost use Rattle.fp_base.specs.Least.{IsLeast};
 ghost use Rattle.fp_written_parts.specs.declared.member.WrittenInterface.{WrittenInterface as Interface};
 ghost use Rattle.fp_written_parts.specs.Giving.{ImportsWithin};
-ghost use Rattle.fp_interfaces.specs.Firsts.{has_port};
-ghost use Rattle.fp_interfaces.specs.Gifts.{AreGifts, IsGift};
+ghost use Rattle.fp_component_rules.specs.Firsts.{has_port};
+ghost use Rattle.fp_component_rules.specs.Gifts.{AreGifts, IsGift};
 ghost use Rattle.fp_component_rules.specs.Broken.{RepeatsBroken, giver_at};
 ghost use Rattle.fp_component_rules.specs.Tested.{clash_fault, fault_at};
 
 use crate::kinds::have_common;
 use fp_base::{NoMemory, Place, Refusal, Rule, lesser, refusal_if};
-use fp_interfaces::{FirstPorts, Gift, SpecialKinds, gift_of};
+use crate::{FirstPorts, Gift, SpecialKinds, gift_of};
 use fp_written_parts::{WrittenMember, WrittenPort};
 use std::alloc::Global;
 use std::slice::from_ref;

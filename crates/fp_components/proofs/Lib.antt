@@ -1,7 +1,12 @@
+mod Dictionary
 mod Each
 mod Known
+mod Lists
 mod Matched
 mod Noted
+mod OneComponents
+mod OnePorts
+mod Pieces
 mod Queued
 mod Roles
 mod Valued

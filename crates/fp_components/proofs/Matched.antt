@@ -11,7 +11,7 @@ use Rattle.fp_written_parts.specs.declared.member.WrittenMatch.{WrittenMatch}
 use Rattle.fp_written_parts.specs.declared.member.WrittenMember.{WrittenMember}
 use Rattle.fp_written_parts.specs.declared.member.WrittenMember.TheVariants as member
 use Rattle.fp_written_parts.specs.declared.port.WrittenPort.{WrittenPort}
-use Rattle.fp_interfaces.specs.Firsts.{has_port, is_named}
+use Rattle.fp_component_rules.specs.Firsts.{has_port, is_named}
 use Rattle.fp_components.specs.Listing.{AreWholeMatches}
 use Rattle.fp_components.specs.Resolved.{AreEach, IsMatch, match_in}
 use Rattle.fp_components.specs.Whole.{IsWholeMatch}

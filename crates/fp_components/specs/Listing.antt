@@ -9,7 +9,7 @@ use Rattle.fp_written_parts.specs.declared.port.WrittenPort.{WrittenPort}
 use Rattle.fp_written_parts.specs.declared.member.WrittenMatch.{WrittenMatch}
 use Rattle.fp_written_parts.specs.declared.member.WrittenMember.{WrittenMember}
 use Rattle.fp_written_parts.specs.declared.member.WrittenMember.TheVariants as member
-use Rattle.fp_interfaces.specs.Firsts.{is_named}
+use Rattle.fp_component_rules.specs.Firsts.{is_named}
 use Rattle.fp_dictdefs.specs.declared.listed.Listed.{Listed}
 use Rattle.fp_dictdefs.specs.Ids.{AreIds}
 use Rattle.fp_dictdefs.specs.Listed.{commands_in, events_in, channels_in, params_in}

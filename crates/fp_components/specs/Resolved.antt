@@ -50,7 +50,7 @@ use Rattle.fp_written_parts.specs.declared.member.WrittenMember.TheVariants as m
 use Rattle.fp_written_parts.specs.declared.member.WrittenInterface.{WrittenInterface}
 use Rattle.fp_written_parts.specs.declared.member.WrittenComponent.{WrittenComponent}
 use Rattle.fp_written_parts.specs.Giving.{GiveAll}
-use Rattle.fp_interfaces.specs.Firsts.{is_named}
+use Rattle.fp_component_rules.specs.Firsts.{is_named}
 use Rattle.fp_dictdefs.specs.declared.listed.Listed.{Listed}
 use Rattle.fp_dictdefs.specs.Ids.{IsGivenOr, HasId}
 use Rattle.fp_dictdefs.specs.Listed.{set_name, save_name, commands_in, events_in, channels_in, params_in}

@@ -22,8 +22,8 @@ use Rattle.fp_written_parts.specs.declared.member.WrittenMember.TheVariants as m
 use Rattle.fp_written_parts.specs.declared.member.WrittenInterface.{WrittenInterface}
 use Rattle.fp_written_parts.specs.declared.member.WrittenComponent.{WrittenComponent}
 use Rattle.fp_written_parts.specs.Giving.{GiveAll}
-use Rattle.fp_interfaces.specs.Firsts.{has_port}
-use Rattle.fp_interfaces.specs.Lists.{AreNamedOnce}
+use Rattle.fp_component_rules.specs.Firsts.{has_port}
+use Rattle.fp_component_rules.specs.Lists.{AreNamedOnce}
 use Rattle.fp_dictdefs.specs.declared.listed.Listed.{Listed}
 use Rattle.fp_dictdefs.specs.Broken.{is_within}
 use Rattle.fp_dictdefs.specs.Ids.{HasId}

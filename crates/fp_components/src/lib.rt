@@ -7,6 +7,7 @@ mod components;
 mod events;
 mod formals;
 mod ids;
+mod laws;
 mod lengths;
 mod machines;
 mod matches;
@@ -19,4 +20,5 @@ mod types;
 
 pub use components::components_of;
 pub use formals::port_definitions;
+pub use laws::one_components;
 pub use types::Types;

@@ -2,7 +2,7 @@ ghost use Rattle.std.specs.Prelude.{◌≡◌, ◌++◌, ◌∷◌, [], List, If
 ghost use Rattle.std.specs.BTreeMap.{get_by_text};
 ghost use Rattle.fp_written_parts.specs.declared.member.WrittenMatch.{WrittenMatch as MatchHere};
 ghost use Rattle.fp_written_parts.specs.declared.port.WrittenPort.{WrittenPort as Written};
-ghost use Rattle.fp_interfaces.specs.Firsts.{has_port, is_named};
+ghost use Rattle.fp_component_rules.specs.Firsts.{has_port, is_named};
 ghost use Rattle.fp_components.specs.Listing.{AreWholeMatches, FindsPorts, NotesPort};
 ghost use Rattle.fp_components.specs.Resolved.{AreEach, IsMatch, match_in};
 ghost use Rattle.fp_components.specs.Whole.{IsWholeMatch};

@@ -4,7 +4,7 @@ use Rattle.std.specs.Prelude.{option_to_list}
 use Rattle.std.specs.List.{slice_get}
 use Rattle.fp_tables.specs.declared.kind.TypeDef.{TypeDef}
 use Rattle.serde_json.specs.Written.{comma_if, compact_text}
-use Rattle.fp_dictionary_types.specs.Types.{type_data}
+use Rattle.fp_dictionary.specs.Types.{type_data}
 use Rattle.fp_dictionary.specs.Dictionary.{types_data}
 use Rattle.fp_dictionary.specs.Printed.{items_printed}
 use Rattle.fp_dictionary.proofs.Items.{next_item}

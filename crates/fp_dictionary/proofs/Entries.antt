@@ -1,7 +1,7 @@
 -- Entries that are put one behind another.
 use Rattle.std.proofs.Common.{◌≡◌, List, [], ◌∷◌, ◌++◌, refl, sym, ap, ◌∙◌}
 use Rattle.serde_json.specs.Data.{Members}
-use Rattle.fp_dictionary_types.specs.Objects.{Entry, with_entries}
+use Rattle.fp_dictionary.specs.Objects.{Entry, with_entries}
 
 with_entries-append : (es fs : List Entry) (ms : Members) → with_entries (es ++ fs) ms ≡ with_entries fs (with_entries es ms)
 with_entries-append [] fs ms = refl

@@ -16,9 +16,9 @@ use Rattle.fp_tables.specs.declared.kind.TypeDef.{TypeDef}
 use Rattle.fp_tables.specs.declared.topology.Instance.{Instance}
 use Rattle.serde_json.specs.Data.{string}
 use Rattle.serde_json.specs.Written.{has_float}
-use Rattle.fp_dictionary_types.specs.Objects.{annotation, natural, optional}
-use Rattle.fp_dictionary_types.specs.Values.{value_data}
-use Rattle.fp_dictionary_types.proofs.Floats.{NoFloat, NoFloatAt, annotation_no_float, descriptor_no_float, list_no_float, number_no_float, object_no_float, value_no_float}
+use Rattle.fp_dictionary.specs.Objects.{annotation, natural, optional}
+use Rattle.fp_dictionary.specs.Values.{value_data}
+use Rattle.fp_dictionary.proofs.DescriptorFloats.{NoFloat, NoFloatAt, annotation_no_float, descriptor_no_float, list_no_float, number_no_float, object_no_float, value_no_float}
 use Rattle.fp_dictionary.specs.Members.{channel_data, channel_entries, color_entry, command_data, command_entries, default_entries, event_data, event_entries, formal_data, formal_entries, formals_data, limit_entries, parameter_data, parameter_entries, queue_entries, queue_of, side, side_data, side_entries}
 
 queued : (w : Way) → Each NoFloatAt (queue_entries w)

@@ -1,8 +1,21 @@
+mod Coming
 mod Definitions
+mod DescriptorEntries
+pub mod DescriptorFloats
 mod Entries
+mod ExactValues
+mod Filtering
+mod Flags
 mod Floats
+mod Gathering
+mod Given
 mod Items
+mod Listed
+mod Narrow
 mod Ordering
 mod Pieces
+mod Reading
 mod Sides
+mod Targets
 mod Texts
+mod UsedOrdering

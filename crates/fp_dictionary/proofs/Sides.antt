@@ -3,8 +3,8 @@ use Rattle.std.proofs.Common.{◌≡◌, ℕ, Bool, true, false, true≢false, �
 use Rattle.std.specs.List.{list_any}
 use Rattle.fp_tables.specs.declared.component.Limit.{Limit}
 use Rattle.serde_json.specs.Data.{Members, put}
-use Rattle.fp_dictionary_types.specs.Objects.{with_entries}
-use Rattle.fp_dictionary_types.specs.Values.{value_data}
+use Rattle.fp_dictionary.specs.Objects.{with_entries}
+use Rattle.fp_dictionary.specs.Values.{value_data}
 use Rattle.fp_dictionary.specs.Members.{color, color_entry, on_side, side, side_data, side_entries}
 
 one_more : (key : List ℕ) (l : Limit) (rest : List Limit) (b c : Bool) → (b || c) ≡ true → (c ≡ true → side_entries key rest ≡ (key, side_data rest) ∷ [])

@@ -4,7 +4,7 @@ use Rattle.std.proofs.lemmas.List.{append_assoc}
 use Rattle.serde_json.proofs.OnLiterals.{serde_json_on_literals}
 use Rattle.serde_json.specs.Data.{Data, Members, member, no_members, string}
 use Rattle.serde_json.specs.Written.{comma_if, compact_text, members_text}
-use Rattle.fp_dictionary_types.specs.Objects.{list_of}
+use Rattle.fp_dictionary.specs.Objects.{list_of}
 use Rattle.fp_dictionary.specs.Dictionary.{metadata, root}
 use Rattle.fp_dictionary.specs.Printed.{items_printed, pieces}
 use Rattle.fp_dictionary.proofs.Items.{printed_items}

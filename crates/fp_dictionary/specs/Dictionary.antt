@@ -11,11 +11,11 @@ use Rattle.fp_tables.specs.declared.kind.TypeDef.{TypeDef}
 use Rattle.fp_tables.specs.declared.model.Model.{Model}
 use Rattle.fp_tables.specs.declared.topology.Instance.{Instance}
 use Rattle.fp_tables.specs.declared.topology.Topology.{Topology}
-use Rattle.fp_used_types.specs.Used.{AreUsedTypes}
+use Rattle.fp_dictionary.specs.Used.{AreUsedTypes}
 use Rattle.serde_json.specs.Data.{Data, string}
 use Rattle.serde_json.specs.Written.{compact_text}
-use Rattle.fp_dictionary_types.specs.Objects.{object_of, list_of}
-use Rattle.fp_dictionary_types.specs.Types.{type_data}
+use Rattle.fp_dictionary.specs.Objects.{object_of, list_of}
+use Rattle.fp_dictionary.specs.Types.{type_data}
 use Rattle.fp_dictionary.specs.Members.{command_data, parameter_data, event_data, channel_data}
 
 -- what stands in a list, by opcode or id

@@ -1,4 +1,11 @@
-pub mod Members
 pub mod Dictionary
-pub mod Printed
+pub mod Exact
+pub mod Marks
+pub mod Members
+pub mod Objects
 pub mod Placed
+pub mod Printed
+pub mod Sorting
+pub mod Types
+pub mod Used
+pub mod Values

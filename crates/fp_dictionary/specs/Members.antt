@@ -16,9 +16,9 @@ use Rattle.fp_tables.specs.declared.component.Way.{Way}
 use Rattle.fp_tables.specs.declared.component.Way.TheVariants as way
 use Rattle.fp_tables.specs.declared.topology.Instance.{Instance}
 use Rattle.serde_json.specs.Data.{Data, boolean, string}
-use Rattle.fp_dictionary_types.specs.Objects.{Entry, object_of, list_of, natural, annotation, optional}
-use Rattle.fp_dictionary_types.specs.Values.{number_data, value_data}
-use Rattle.fp_dictionary_types.specs.Types.{descriptor}
+use Rattle.fp_dictionary.specs.Objects.{Entry, object_of, list_of, natural, annotation, optional}
+use Rattle.fp_dictionary.specs.Values.{number_data, value_data}
+use Rattle.fp_dictionary.specs.Types.{descriptor}
 
 -- the instance, a point, and the own name
 abbrev pub name_in : Instance → List ℕ → Data

@@ -2,7 +2,7 @@
 use Rattle.std.specs.Prelude.{◌≡◌, ℕ, Bool, true, false, codes, List, [], ◌∷◌, ◌++◌}
 use Rattle.fp_tables.specs.declared.model.Model.{Model}
 use Rattle.fp_tables.specs.declared.topology.Topology.{Topology}
-use Rattle.fp_used_types.specs.Used.{AreUsedTypes}
+use Rattle.fp_dictionary.specs.Used.{AreUsedTypes}
 use Rattle.serde_json.specs.Data.{Data}
 use Rattle.serde_json.specs.Written.{comma_if, compact_text}
 use Rattle.fp_dictionary.specs.Dictionary.{Numbered, said, types_data}

@@ -4,13 +4,13 @@ ghost use Rattle.fp_tables.specs.declared.component.Limit.{Limit};
 ghost use Rattle.serde_json.specs.Written.{has_float};
 ghost use Rattle.serde_json.specs.Data.{no_members, string};
 ghost use Rattle.serde_json.specs.View.{view};
-ghost use Rattle.fp_dictionary_types.specs.Objects.{held, optional, with_entries};
+ghost use Rattle.fp_dictionary.specs.Objects.{held, optional, with_entries};
 ghost use Rattle.fp_dictionary.specs.Members.{channel_data, channel_head, color, color_entry, limit_entries, on_side, side, side_data, side_entries, update_word};
 
 use crate::formals::put_name;
 use crate::lists::{Listed, number_in};
 use fp_base::{NoMemory, Text};
-use fp_dictionary_types::{Object, descriptor, value_of};
+use crate::{Object, descriptor, value_of};
 use fp_tables::{Channel, Component, Instance, Limit, TypeDef};
 use serde_json::Value;
 use std::alloc::Global;

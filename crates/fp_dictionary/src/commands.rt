@@ -1,13 +1,13 @@
 ghost use Rattle.std.specs.Prelude.{◌≡◌, IfOk, OnOk, false};
 ghost use Rattle.serde_json.specs.Written.{has_float};
 ghost use Rattle.serde_json.specs.View.{view};
-ghost use Rattle.fp_dictionary_types.specs.Objects.{held, with_entries};
+ghost use Rattle.fp_dictionary.specs.Objects.{held, with_entries};
 ghost use Rattle.fp_dictionary.specs.Members.{command_data, command_kind, full_word, queue_of, way_word};
 
 use crate::formals::{formals_value, put_name};
 use crate::lists::{Listed, number_in};
 use fp_base::NoMemory;
-use fp_dictionary_types::{Object, number_value};
+use crate::{Object, number_value};
 use fp_tables::{Command, CommandPart, Component, Full, Instance, TypeDef, Way};
 use serde_json::Value;
 use std::alloc::Global;

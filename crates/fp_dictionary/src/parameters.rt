@@ -1,13 +1,13 @@
 ghost use Rattle.std.specs.Prelude.{◌≡◌, OnOk, false, IfOk};
 ghost use Rattle.serde_json.specs.View.{view};
 ghost use Rattle.serde_json.specs.Written.{has_float};
-ghost use Rattle.fp_dictionary_types.specs.Objects.{held, with_entries};
+ghost use Rattle.fp_dictionary.specs.Objects.{held, with_entries};
 ghost use Rattle.fp_dictionary.specs.Members.{default_entries, parameter_data};
 
 use crate::formals::put_name;
 use crate::lists::{Listed, number_in};
 use fp_base::NoMemory;
-use fp_dictionary_types::{Object, descriptor, value_of};
+use crate::{Object, descriptor, value_of};
 use fp_tables::{Component, Instance, Param, TypeDef};
 use serde_json::Value;
 use std::alloc::Global;

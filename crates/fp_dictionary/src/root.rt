@@ -7,7 +7,7 @@ use crate::lists::push_members;
 use crate::printing::{push_text, push_value};
 use crate::types::push_types;
 use fp_base::{NoMemory, Row};
-use fp_dictionary_types::Object;
+use crate::Object;
 use fp_tables::{Channel, Command, Event, Model, Param, Topology};
 use serde_json::Value;
 use std::alloc::Global;

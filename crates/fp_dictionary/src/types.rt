@@ -1,15 +1,14 @@
 ghost use Rattle.std.specs.Prelude.{◌≡◌, ◌++◌, ◌∷◌, false, slice_get, IfOk, OnOk, List, ℕ};
 ghost use Rattle.std.specs.Option.{option_copied};
 ghost use Rattle.serde_json.specs.Written.{comma_if, compact_text};
-ghost use Rattle.fp_dictionary_types.specs.Types.{type_data};
+ghost use Rattle.fp_dictionary.specs.Types.{type_data};
 ghost use Rattle.fp_dictionary.specs.Dictionary.{types_data};
 ghost use Rattle.fp_dictionary.specs.Printed.{AddsTypes, items_printed};
 
 use crate::printing::push_item;
 use fp_base::{NoMemory, Row};
-use fp_dictionary_types::type_of;
+use crate::{type_of, used_types};
 use fp_tables::{Model, Topology, TypeDef};
-use fp_used_types::used_types;
 use std::alloc::Global;
 
 /// Adds the definitions of the types that a topology's dictionary describes, as the items of a list.

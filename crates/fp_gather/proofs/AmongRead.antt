@@ -29,8 +29,8 @@ use Rattle.fp_parse_parts.specs.declared.parsing.Inside.{Inside}
 use Rattle.fp_parse_parts.specs.declared.parsing.Inside.TheVariants as inside
 use Rattle.fp_parse_parts.specs.declared.parsing.Members.{Members}
 use Rattle.fp_parse_parts.specs.declared.parsing.Members.TheVariants as given
-use Rattle.fp_sites.specs.Includes.{includes_in}
-use Rattle.fp_sites.specs.Sites.{BeginsToken, PartsStandAtTokens, StandAtTokens, TopologyStandsAtTokens, in_parts, in_topology}
+use Rattle.fp_places.specs.Includes.{includes_in}
+use Rattle.fp_places.specs.Sites.{BeginsToken, PartsStandAtTokens, StandAtTokens, TopologyStandsAtTokens, in_parts, in_topology}
 use Rattle.fp_base.proofs.Lists.{each_before, each_behind, each_contained, each_flat, each_of_any, each_weaker, of_contained, of_item}
 use Rattle.fp_gather.proofs.InclusionsStand.{of_members, of_parts, of_topology}
 use Rattle.fp_gather.proofs.ItemsKept.{by_kind, units_items}

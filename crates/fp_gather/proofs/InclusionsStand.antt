@@ -23,7 +23,7 @@ use Rattle.fp_meaning.specs.Sites.{Path, component, declaration}
 use Rattle.fp_meaning.specs.Layout.{component_items, component_scope, in_member, in_members, inner_items, own_items, topology_items}
 use Rattle.fp_meaning.proofs.Throughout.{in_module, member_rolled, members_rolled}
 use Rattle.fp_places.specs.Places.{places_in_part, places_in_topology_member, places_of}
-use Rattle.fp_sites.specs.Includes.{includes_in, includes_of_member, includes_of_module, includes_within}
+use Rattle.fp_places.specs.Includes.{includes_in, includes_of_member, includes_of_module, includes_within}
 use Rattle.fp_gather.specs.declared.gathering.including.Inclusion.{Inclusion}
 use Rattle.fp_gather.specs.gathering.Includes.{inclusions_in_part, inclusions_in_topology_member, inclusions_of_member, inclusions_of_module, inclusions_within}
 

@@ -22,7 +22,7 @@ use Rattle.fp_meaning.specs.declared.item.Item.TheVariants as item
 use Rattle.fp_meaning.specs.Sites.{Naming, Path, Placed as Expressed, component, declaration, topology}
 use Rattle.fp_meaning.specs.Layout.{in_members, items, topology_member_items}
 use Rattle.fp_meaning.proofs.Since.{AllSince, since_each, since_topology}
-use Rattle.fp_sites.specs.Sites.{in_parts, in_topology}
+use Rattle.fp_places.specs.Sites.{in_parts, in_topology}
 use Rattle.fp_gather.proofs.KeptByWalks.{units_kept}
 use Rattle.fp_gather.proofs.PartsHold.{Hold, Parting, held_members, members_hold, nothing_holds, parts_hold, replaced_hold, topology_holds, unparted}
 use Rattle.fp_gather.proofs.PartsKept.{with_members, with_parts}

@@ -48,12 +48,12 @@ use Rattle.fp_meaning.specs.Names.{model_name}
 use Rattle.fp_meaning.specs.Layout.{behavior_items, component_items, component_scope, constant_items, expression_items, field_items, formal_items, in_member, in_members, inner_items, instance_items, interface_items, interface_part_items, items, items_in, machine_items, model_own_items, own_items, topology_items, topology_member_items, type_items}
 use Rattle.fp_meaning.proofs.Since.{AllSince, since_behavior, since_each, since_fields, since_form, since_formals, since_instance, since_interface, since_optional, since_own, since_topology, since_type}
 use Rattle.fp_meaning.proofs.Throughout.{in_module, member_rolled, members_rolled}
-use Rattle.fp_sites.specs.Names.{names_in, names_of_member, names_of_module, names_within}
-use Rattle.fp_sites.specs.Parts.{names_in_constant, names_in_definition, names_in_expression, names_in_field, names_in_formal, names_in_type}
-use Rattle.fp_sites.specs.Machines.{names_in_behavior, names_in_element, names_in_element_form, names_in_machine}
-use Rattle.fp_sites.specs.Components.{names_in_component, names_in_interface, names_in_interface_part, names_in_part}
-use Rattle.fp_sites.specs.Topologies.{names_in_instance, names_in_topology, names_in_topology_member}
-use Rattle.fp_sites.specs.Written.{NamesAreWritten, PartNamesAreWritten, TopologyNamesAreWritten}
+use Rattle.fp_places.specs.Names.{names_in, names_of_member, names_of_module, names_within}
+use Rattle.fp_places.specs.Parts.{names_in_constant, names_in_definition, names_in_expression, names_in_field, names_in_formal, names_in_type}
+use Rattle.fp_places.specs.Machines.{names_in_behavior, names_in_element, names_in_element_form, names_in_machine}
+use Rattle.fp_places.specs.Components.{names_in_component, names_in_interface, names_in_interface_part, names_in_part}
+use Rattle.fp_places.specs.Topologies.{names_in_instance, names_in_topology, names_in_topology_member}
+use Rattle.fp_places.specs.Written.{NamesAreWritten, PartNamesAreWritten, TopologyNamesAreWritten}
 use Rattle.fp_gather.proofs.ItemsKept.{by_kind, file_given}
 use Rattle.fp_gather.proofs.KeptByWalks.{units_kept}
 use Rattle.fp_gather.proofs.PartsHold.{HaveNames, in_each, names_inside, names_opened, names_rolled, replaced_names}

@@ -27,10 +27,10 @@ use Rattle.fp_meaning.specs.Sites.{Path, component, declaration, topology}
 use Rattle.fp_meaning.specs.Layout.{component_items, component_scope, inner_items, member_step, module_step, in_member, in_members, own_items, topology_items, topology_member_items}
 use Rattle.fp_meaning.proofs.Throughout.{in_module, members_rolled}
 use Rattle.fp_meaning.proofs.Walks.{component_gives, module_gives, topology_gives}
-use Rattle.fp_sites.specs.Components.{names_in_component, names_in_part}
-use Rattle.fp_sites.specs.Names.{names_in, names_of_member, names_of_module, names_within}
-use Rattle.fp_sites.specs.Sites.{in_parts, in_topology}
-use Rattle.fp_sites.specs.Topologies.{names_in_topology, names_in_topology_member}
+use Rattle.fp_places.specs.Components.{names_in_component, names_in_part}
+use Rattle.fp_places.specs.Names.{names_in, names_of_member, names_of_module, names_within}
+use Rattle.fp_places.specs.Sites.{in_parts, in_topology}
+use Rattle.fp_places.specs.Topologies.{names_in_topology, names_in_topology_member}
 use Rattle.fp_gather.proofs.PartsKept.{HoldIn, replaced_keep, with_members, with_parts}
 use Rattle.fp_gather.specs.gathering.Includes.{Inserts, replaced}
 use Rattle.fp_gather.specs.gathering.Reading.{nothing_in}

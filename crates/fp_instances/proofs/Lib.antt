@@ -1,5 +1,7 @@
 mod Apart
+mod Bases
 mod Built
+mod Folding
+pub mod Once
 mod Ranged
 mod Sized
-pub mod Once

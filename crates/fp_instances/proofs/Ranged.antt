@@ -3,7 +3,7 @@ use Rattle.std.proofs.Common.{◌≡◌, ℕ, ◌+◌, List, [], ◌∷◌, ◌+
 use Rattle.std.specs.List.{cons_option, filter_map}
 use Rattle.std.proofs.lemmas.List.Elements.{filter_map-append}
 use Rattle.fp_base.proofs.Lists.{take_next}
-use Rattle.fp_instance_rules.specs.declared.facts.InstanceFacts.{InstanceFacts}
+use Rattle.fp_instances.specs.declared.instance_facts.InstanceFacts.{InstanceFacts}
 use Rattle.fp_instances.specs.Ranges.{range_of, ranges}
 use Rattle.fp_instances.specs.declared.ranges.IdRange.{IdRange}
 

@@ -8,9 +8,9 @@ use Rattle.fp_base.specs.declared.rule.Rule.TheVariants.{NumberOutOfRange}
 use Rattle.fp_base.specs.Least.{ByOptional, IsUnbroken, broken_at}
 use Rattle.fp_tables.specs.declared.component.Component.{Component}
 use Rattle.fp_written_parts.specs.declared.port.Given.{Given}
-use Rattle.fp_port_rules.specs.Broken.{IsOutside}
-use Rattle.fp_instance_rules.specs.Broken.{BrokenInstance, BrokenNumber, BrokenNumbers}
-use Rattle.fp_instance_rules.specs.declared.facts.InstanceFacts.{InstanceFacts}
+use Rattle.fp_component_rules.specs.PortBroken.{IsOutside}
+use Rattle.fp_instances.specs.InstanceBroken.{BrokenInstance, BrokenNumber, BrokenNumbers}
+use Rattle.fp_instances.specs.declared.instance_facts.InstanceFacts.{InstanceFacts}
 use Rattle.fp_written_topologies.specs.Given.{HasNumber, HasNumberWhereGiven, InstanceHasNumbers}
 use Rattle.fp_written_topologies.specs.declared.instance.WrittenInstance.{WrittenInstance}
 use Rattle.fp_instances.specs.Broken.{InstancesBroken}

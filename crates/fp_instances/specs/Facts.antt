@@ -4,7 +4,7 @@ use Rattle.fp_tables.specs.Instances.{largest, local_ids}
 use Rattle.fp_tables.specs.declared.component.Component.{Component}
 use Rattle.fp_tables.specs.declared.component.Queueing.{Queueing}
 use Rattle.fp_tables.specs.declared.component.Queueing.TheVariants.{Passive}
-use Rattle.fp_instance_rules.specs.declared.facts.InstanceFacts.{InstanceFacts}
+use Rattle.fp_instances.specs.declared.instance_facts.InstanceFacts.{InstanceFacts}
 use Rattle.fp_written_topologies.specs.declared.instance.WrittenInstance.{WrittenInstance}
 
 module _ (cs : List Component) where

@@ -1,6 +1,7 @@
-pub mod Facts
-pub mod Ranges
 pub mod Ascending
 pub mod Broken
-pub mod Resolved
+pub mod Facts
+pub mod InstanceBroken
 pub mod Numbers
+pub mod Ranges
+pub mod Resolved

@@ -5,7 +5,7 @@ use Rattle.std.specs.Prelude.{◌≡◌, ℕ, Bool, not, ◌&&◌, ℤ, pos, ◌
 use Rattle.fp_base.specs.declared.refusal.Refusal.{Refusal}
 use Rattle.fp_base.specs.declared.rule.Rule.TheVariants.{RangesOverlap}
 use Rattle.fp_base.specs.Least.{InSome}
-use Rattle.fp_instance_rules.specs.declared.facts.InstanceFacts.{InstanceFacts}
+use Rattle.fp_instances.specs.declared.instance_facts.InstanceFacts.{InstanceFacts}
 use Rattle.fp_instances.specs.declared.ranges.IdRange.{IdRange}
 
 abbrev pub range_with : InstanceFacts → Option ℤ → Option ℕ → Option IdRange

@@ -4,7 +4,7 @@ ghost use Rattle.fp_instances.specs.Facts.{all_facts, facts_of, queueing_at, top
 
 use crate::tops::tops_of;
 use fp_base::{NoMemory, Row};
-use fp_instance_rules::InstanceFacts;
+use crate::InstanceFacts;
 use fp_tables::{Component, Queueing};
 use fp_written_topologies::WrittenInstance;
 use std::alloc::Global;

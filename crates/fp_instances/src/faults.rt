@@ -6,7 +6,7 @@ use crate::facts::all_facts;
 use crate::overlaps::range_faults;
 use crate::ranges::ranges_of;
 use fp_base::{NoMemory, Refusal, lesser};
-use fp_instance_rules::instance_faults;
+use crate::instance_faults;
 use fp_tables::Component;
 use fp_written_topologies::WrittenInstance;
 use std::alloc::Global;

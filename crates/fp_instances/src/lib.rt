@@ -4,6 +4,9 @@
 mod building;
 mod facts;
 mod faults;
+mod instance_facts;
+mod instance_faults;
+mod instance_numbers;
 mod laws;
 mod numbers;
 mod overlaps;
@@ -12,4 +15,6 @@ mod tops;
 
 pub use building::instances_of;
 pub use faults::instances_fault;
+pub use instance_facts::InstanceFacts;
+pub use instance_faults::instance_faults;
 pub use laws::unbroken_are_within;

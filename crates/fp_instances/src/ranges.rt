@@ -3,7 +3,7 @@ ghost use Rattle.std.specs.List.{cons_option};
 ghost use Rattle.fp_instances.specs.Ranges.{ends_before, overlap, range_of, ranges};
 
 use fp_base::{NoMemory, Place, Row};
-use fp_instance_rules::InstanceFacts;
+use crate::InstanceFacts;
 use std::alloc::Global;
 
 /// The ids and opcodes that an instance takes: from its base id to that with the greatest one of its component.

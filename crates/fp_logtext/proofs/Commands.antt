@@ -19,8 +19,8 @@ use Rattle.fp_events.specs.declared.event.Point.{Point}
 use Rattle.fp_events.specs.declared.event.Arrival.{Arrival}
 use Rattle.fp_events.specs.declared.event.What.TheVariants as what
 use Rattle.fp_logtext.specs.Names.{param_name, set_name, saved_name}
-use Rattle.fp_typing.proofs.Parts.{commands_lie_at}
-use Rattle.fp_typing.proofs.Commands.{implied, of_set, of_save, sets_part, saves_part}
+use Rattle.fp_run_laws.proofs.Parts.{commands_lie_at}
+use Rattle.fp_run_laws.proofs.Commands.{implied, of_set, of_save, sets_part, saves_part}
 
 -- ---- what an entry with an arrival answers
 

@@ -31,7 +31,7 @@ use Rattle.fp_events.specs.declared.event.Entry.{Entry}
 use Rattle.fp_events.specs.declared.event.What.{What}
 use Rattle.fp_events.specs.declared.event.What.TheVariants as what
 use Rattle.fp_events.proofs.StepLaws.{given, core_laws}
-use Rattle.fp_typing.proofs.Lists.{all_of_each}
+use Rattle.fp_run_laws.proofs.Lists.{all_of_each}
 use Rattle.fp_logtext.specs.Fitting.{is_of_64_bits, number_in, numbers_fit}
 
 abbrev AreNumbered : ℕ → List Pending → Type 0

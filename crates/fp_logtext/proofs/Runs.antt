@@ -42,12 +42,12 @@ use Rattle.fp_events.proofs.StepLaws.{taken, core_laws, answered_arrival}
 use Rattle.fp_logtext.specs.Names.{instance_name}
 use Rattle.fp_logtext.specs.Named.{what_is_named, entry_is_named, sets_or_saves}
 use Rattle.fp_logtext.specs.Fitting.{is_empty, notes_fit, saves_alone, suit_point, values_fit}
-use Rattle.fp_typing.specs.Notes.{note_fits}
-use Rattle.fp_typing.specs.Suits.{AllSuit, results_by, results_from, returns_fit}
-use Rattle.fp_typing.proofs.Lists.{all_of_each, some_mapped}
-use Rattle.fp_typing.proofs.Parts.{command_in, values_taken_at, member_at}
-use Rattle.fp_typing.proofs.Commands.{implied, of_save, saves_part}
-use Rattle.fp_typing.proofs.Told.{opening_suits, step_keeps, step_returns, noted}
+use Rattle.fp_run_laws.specs.Notes.{note_fits}
+use Rattle.fp_run_laws.specs.Suits.{AllSuit, results_by, results_from, returns_fit}
+use Rattle.fp_run_laws.proofs.Lists.{all_of_each, some_mapped}
+use Rattle.fp_run_laws.proofs.Parts.{command_in, values_taken_at, member_at}
+use Rattle.fp_run_laws.proofs.Commands.{implied, of_save, saves_part}
+use Rattle.fp_run_laws.proofs.Told.{opening_suits, step_keeps, step_returns, noted}
 use Rattle.fp_logtext.proofs.Commands.{set_manner, save_manner, set_is_named, save_is_named}
 use Rattle.fp_logtext.proofs.Naming.{fit_named, fit_values}
 use Rattle.fp_tables.proofs.Optional.{some_and_of}

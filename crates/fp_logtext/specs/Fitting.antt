@@ -21,8 +21,8 @@ use Rattle.fp_events.specs.declared.event.Arrival.{Arrival}
 use Rattle.fp_events.specs.declared.event.What.{What}
 use Rattle.fp_events.specs.declared.event.What.TheVariants as what
 use Rattle.fp_events.specs.declared.event.Entry.{Entry}
-use Rattle.fp_typing.specs.Notes.{note_fits}
-use Rattle.fp_typing.specs.Suits.{results_from, returns_fit}
+use Rattle.fp_run_laws.specs.Notes.{note_fits}
+use Rattle.fp_run_laws.specs.Suits.{results_from, returns_fit}
 use Rattle.fp_logtext.specs.Named.{are_named, set_and_save_commands}
 
 -- ---- notes

@@ -7,11 +7,11 @@ use Rattle.fp_machine_rules.specs.declared.item.Item.{Item}
 use Rattle.fp_machine_rules.specs.declared.item.LaidMachine.{LaidMachine}
 use Rattle.fp_machine_rules.specs.Forms.{IsLaid}
 use Rattle.fp_machine_rules.proofs.Deciding.{told_true}
-use Rattle.fp_machine_layout.specs.Layout.{laid}
-use Rattle.fp_machine_layout.specs.Outline.{outline, outline_of}
-use Rattle.fp_machine_layout.specs.Steps.{laid_item}
-use Rattle.fp_machine_layout.proofs.Laid.{laid_alike}
-use Rattle.fp_machine_layout.proofs.Whole.{alike_back, laid_over}
+use Rattle.fp_machines.specs.Layout.{laid}
+use Rattle.fp_machines.specs.Outline.{outline, outline_of}
+use Rattle.fp_machines.specs.Steps.{laid_item}
+use Rattle.fp_machines.proofs.Laid.{laid_alike}
+use Rattle.fp_machines.proofs.Whole.{alike_back, laid_over}
 
 -- each element stands in a state before it
 pub elements_stand : (place : Place) (es : List BehaviorElement) (types : List (Option ℕ)) (m : LaidMachine) (items : List Item) (b : Bool) → m ≡ laid place es types → items ≡ m.items → MatchBool b (IsLaid items) (IsLaid items → ⊥) → b ≡ true → IsLaid (outline es)

@@ -1,6 +1,12 @@
+pub mod Behind
 pub mod Counted
+pub mod Found
 pub mod Gathered
+pub mod Layout
 pub mod Made
 pub mod Named
 pub mod Numbers
 pub mod Ordered
+pub mod Outline
+pub mod Scopes
+pub mod Steps

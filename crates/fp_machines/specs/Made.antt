@@ -27,8 +27,8 @@ use Rattle.fp_tables.specs.declared.machine.On.{On}
 use Rattle.fp_tables.specs.declared.machine.Step.{Step}
 use Rattle.fp_tables.specs.declared.machine.Vertex.{Vertex}
 use Rattle.fp_machine_rules.specs.Members.{same_place}
-use Rattle.fp_machine_layout.specs.Outline.{outline}
-use Rattle.fp_machine_layout.specs.Scopes.{action_named, guard_named, signal_named, vertex_meant}
+use Rattle.fp_machines.specs.Outline.{outline}
+use Rattle.fp_machines.specs.Scopes.{action_named, guard_named, signal_named, vertex_meant}
 
 -- ---- kinds of elements
 

@@ -1,8 +1,8 @@
 -- What is known of the names of a machine.
 use Rattle.std.specs.Prelude.{◌≡◌, List}
 use Rattle.fp_tree.specs.declared.machine.BehaviorElement.{BehaviorElement}
-use Rattle.fp_machine_layout.specs.Found.{AreScopes}
-use Rattle.fp_machine_layout.specs.Outline.{outline}
+use Rattle.fp_machines.specs.Found.{AreScopes}
+use Rattle.fp_machines.specs.Outline.{outline}
 use Rattle.fp_machines.specs.declared.naming.Names.{Names}
 use Rattle.fp_machines.specs.Counted.{AreCounted}
 

@@ -5,7 +5,7 @@ use Rattle.fp_tree.specs.declared.machine.BehaviorElement.{BehaviorElement}
 use Rattle.fp_tree.specs.declared.machine.ElementForm.{ElementForm}
 use Rattle.fp_machine_rules.specs.declared.item.Item.{Item}
 use Rattle.fp_machine_rules.specs.Forms.{Inside, IsState, StandsIn}
-use Rattle.fp_machine_layout.specs.Outline.{outline}
+use Rattle.fp_machines.specs.Outline.{outline}
 use Rattle.fp_machines.specs.Made.{is_action, is_guard, is_signal}
 
 -- an item, by its position, in a state

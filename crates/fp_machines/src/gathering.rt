@@ -7,7 +7,7 @@ ghost use Rattle.fp_machines.specs.Named.{AreNames};
 use crate::naming::Names;
 use crate::stepping::{actions_of, push_on, step_of};
 use fp_base::{NoMemory, Row};
-use fp_machine_layout::position_if;
+use crate::position_if;
 use fp_tables::{On, Step};
 use fp_tree::{BehaviorElement, Do, ElementForm, Goto};
 use std::alloc::Global;

@@ -1,13 +1,13 @@
 ghost use Rattle.std.specs.Prelude.{◌≡◌, ◌<◌, ◌^◌, List, IfOk, length, option_map};
 ghost use Rattle.fp_tree.specs.declared.machine.BehaviorElement.{BehaviorElement as Element};
-ghost use Rattle.fp_machine_layout.specs.Outline.{outline};
-ghost use Rattle.fp_machine_layout.specs.Scopes.{action_named};
+ghost use Rattle.fp_machines.specs.Outline.{outline};
+ghost use Rattle.fp_machines.specs.Scopes.{action_named};
 ghost use Rattle.fp_machines.specs.Made.{action_number, guard_meant, signal_meant, target_meant, vertex_number};
 ghost use Rattle.fp_machines.specs.Named.{AreNames};
 
 use crate::counting::{CountTable, count_table};
 use fp_base::{NoMemory, Row};
-use fp_machine_layout::{
+use crate::{
     Scopes, action_declared, guard_declared, outline, scopes_of, signal_declared, spellings_of,
     vertex_meant,
 };

@@ -8,7 +8,7 @@ use crate::gathering::Parts;
 use crate::naming::Names;
 use crate::stepping::step_of;
 use fp_base::{NoMemory, Row};
-use fp_machine_layout::position_if;
+use crate::position_if;
 use fp_tables::{Node, Vertex};
 use fp_tree::{BehaviorElement, Choice, ElementForm, Name};
 use std::alloc::Global;

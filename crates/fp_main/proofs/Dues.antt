@@ -10,12 +10,12 @@ use Rattle.fp_base.proofs.Calculus.{least_none, none_broken}
 use Rattle.fp_tree.specs.declared.member.Member.{Member}
 use Rattle.fp_tree.specs.declared.source.Source.{Source}
 use Rattle.fp_tables.specs.declared.model.Model.{Model}
-use Rattle.fp_source_components.specs.Broken.{PartsBroken}
-use Rattle.fp_source_topologies.specs.Broken.{SourceInstancesBroken, SourceNumbersBroken, SourceTopologiesBroken}
+use Rattle.fp_source_parts.specs.Broken.{PartsBroken}
+use Rattle.fp_source_parts.specs.TopologyBroken.{SourceInstancesBroken, SourceNumbersBroken, SourceTopologiesBroken}
 use Rattle.fp_model.specs.Broken.{ModelBroken, StatesBroken, ValuesBroken, phases}
 use Rattle.fp_model.specs.Defined.{Defined}
 use Rattle.fp_model.specs.Phases.{InPhases}
-use Rattle.fp_fault_places.specs.Standing.{IsPlaceOf}
+use Rattle.fp_source_laws.specs.Standing.{IsPlaceOf}
 use Rattle.fp_gather.proofs.AmongRead.{InFilesRead, PlacesInFiles}
 use Rattle.fp_gather.specs.FilesRun.{FilesRun, NoFault, NoMiss, files_run}
 use Rattle.fp_gather.specs.gathering.Gathered.{AreRead, FilesBroken, Gathers, StandsAmong, name_of, names_read, source_of}

@@ -14,7 +14,7 @@ use Rattle.fp_meaning.specs.declared.names.Definition.{Definition}
 use Rattle.fp_meaning.specs.Layout.{items}
 use Rattle.fp_meaning.specs.Names.{definitions, definitions_of}
 use Rattle.fp_names.specs.Named.{HasNamedFormals, PartsAreNamed, PartsOfItemAreNamed}
-use Rattle.fp_source_machines.specs.Ordered.{IsOrdered, MachinesAreOrdered}
+use Rattle.fp_source_parts.specs.Ordered.{IsOrdered, MachinesAreOrdered}
 use Rattle.fp_source_types.specs.Listed.{EnumsHaveConstants, IsListed}
 use Rattle.fp_source_types.specs.Named.{DefinitionsAreNamed, FieldsAreNamed, has_field_names}
 use Rattle.fp_type_forms.specs.Written.{TypeHere, types, types_of}

@@ -1,7 +1,7 @@
 ghost use Rattle.std.specs.Prelude.{◌≡◌, [], map, true, List, ℕ, Some, IfOk, slice_get};
 ghost use Rattle.std.specs.String.{string_bytes};
 ghost use Rattle.fp_names.specs.Named.{PartsAreNamed};
-ghost use Rattle.fp_source_machines.specs.Ordered.{MachinesAreOrdered};
+ghost use Rattle.fp_source_parts.specs.Ordered.{MachinesAreOrdered};
 ghost use Rattle.fp_source_types.specs.Listed.{EnumsHaveConstants};
 ghost use Rattle.fp_source_types.specs.Named.{DefinitionsAreNamed, FieldsAreNamed};
 ghost use Rattle.fp_gather.specs.FilesRun.{files_run};
@@ -23,14 +23,9 @@ use crate::topologies::topology_named;
 use crate::words::{Command, TopologyText, Wanted, read_words};
 use fp_base::{NoMemory, Refusal, Row, Stop};
 use fp_dictionary::dictionary;
-use fp_enum_sites::{enumerations_have_constants, part_enumerations_have_constants};
-use fp_fault_places::{
-    instances_break_at_places, numbers_break_at_places, parts_break_at_places,
-    states_break_at_places, topologies_break_at_places, values_break_at_places,
-};
+use fp_source_laws::{enumerations_have_constants, instances_break_at_places, machines_are_ordered, numbers_break_at_places, part_enumerations_have_constants, part_machines_are_ordered, parts_break_at_places, states_break_at_places, topologies_break_at_places, values_break_at_places};
 use fp_gather::{Halt, gather, in_files_read, name_of, names_are_names, places_in_files};
 use fp_listing::{listing, port_lines};
-use fp_machine_sites::{machines_are_ordered, part_machines_are_ordered};
 use fp_model::resolve;
 use fp_outside::{Files, Gate};
 use fp_source_types::listed_items_have_constants;

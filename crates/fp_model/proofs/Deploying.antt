@@ -17,13 +17,13 @@ use Rattle.fp_written_topologies.specs.declared.topology.WrittenDeployment.{Writ
 use Rattle.fp_written_topologies.specs.declared.topology.WrittenTopology.{WrittenTopology}
 use Rattle.fp_instances.specs.Broken.{InstancesBroken}
 use Rattle.fp_instances.specs.Resolved.{AreInstances}
-use Rattle.fp_source_components.specs.declared.parts.Parts.{Parts}
-use Rattle.fp_source_topologies.specs.Built.{IsDeployment}
+use Rattle.fp_source_parts.specs.declared.parts.Parts.{Parts}
+use Rattle.fp_source_parts.specs.TopologyBuilt.{IsDeployment}
 use Rattle.fp_topology_forms.specs.Written.{InstanceIs, IsWrittenDeployment, TopologyIs, instance_of, instances, topologies, topology_of}
-use Rattle.fp_topology_imports.specs.Laws.{UnbrokenAreClosed}
-use Rattle.fp_topology_links.specs.Laws.{HaveClosures}
-use Rattle.fp_topology_links.specs.Resolved.{AreTopologies}
-use Rattle.fp_topology_rules.specs.Broken.{TopologiesBroken}
+use Rattle.fp_topologies.specs.ImportLaws.{UnbrokenAreClosed}
+use Rattle.fp_topologies.specs.Laws.{HaveClosures}
+use Rattle.fp_topologies.specs.Resolved.{AreTopologies}
+use Rattle.fp_topologies.specs.Broken.{TopologiesBroken}
 use Rattle.fp_model.specs.Defined.{Defined}
 use Rattle.fp_model.specs.Joined.{Joined, TopologiesHold}
 use Rattle.fp_model.proofs.Lengths.{as_long, components_long}

@@ -25,11 +25,11 @@ use Rattle.fp_source_types.specs.Broken.{TypesBroken}
 use Rattle.fp_source_types.specs.Resolved.{EachIsGiven}
 use Rattle.fp_source_types.specs.Typed.{AreTypesOf}
 use Rattle.fp_source_types.proofs.Resolved.{given_types}
-use Rattle.fp_part_forms.specs.Broken.{PartFormsBroken}
-use Rattle.fp_part_forms.specs.Standing.{AreValued}
+use Rattle.fp_part_values.specs.FormBroken.{PartFormsBroken}
+use Rattle.fp_part_values.specs.FormStanding.{AreValued}
 use Rattle.fp_part_values.specs.Broken.{PartValuesBroken}
 use Rattle.fp_phases.specs.Broken.{PhasesBroken}
-use Rattle.fp_source_components.specs.Valued.{IsValued}
+use Rattle.fp_source_parts.specs.Valued.{IsValued}
 use Rattle.fp_model.specs.Broken.{ConversionsBroken, ValuesBroken}
 
 module _ (source : Source) (is : List Item) (laid : is ≡ items source) where

@@ -19,8 +19,8 @@ use Rattle.fp_meaning.specs.Origins.{expressions, expressions_of}
 use Rattle.fp_type_sizes.specs.declared.written.WrittenType.{WrittenType}
 use Rattle.fp_type_forms.specs.Written.{AreWritten}
 use Rattle.fp_source_types.specs.Typed.{AreTypesOf}
-use Rattle.fp_source_components.specs.Built.{ArePartsOf}
-use Rattle.fp_source_machines.specs.Built.{AreMachinesOf}
+use Rattle.fp_source_parts.specs.Built.{ArePartsOf}
+use Rattle.fp_source_parts.specs.MachineBuilt.{AreMachinesOf}
 use Rattle.fp_model.specs.Defined.{AreConstants, model_with}
 use Rattle.fp_model.specs.Definitions.{constants_of, order_behind}
 use Rattle.fp_model.specs.Given.{StandFrom}

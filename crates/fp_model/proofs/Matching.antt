@@ -23,7 +23,7 @@ use Rattle.fp_written_parts.specs.declared.member.WrittenMember.TheVariants as m
 use Rattle.fp_written_parts.specs.declared.port.Given.{Given}
 use Rattle.fp_written_parts.specs.declared.port.WrittenPort.{WrittenPort}
 use Rattle.fp_written_parts.specs.declared.port.WrittenPortDef.{WrittenPortDef}
-use Rattle.fp_interfaces.specs.Firsts.{is_named}
+use Rattle.fp_component_rules.specs.Firsts.{is_named}
 use Rattle.fp_component_rules.specs.Broken.{ComponentsBroken, size_of}
 use Rattle.fp_component_rules.specs.Consistent.{AreConsistent, IsConsistent}
 use Rattle.fp_components.specs.Resolved.{IsComponent, IsNumber, match_in}

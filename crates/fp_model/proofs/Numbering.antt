@@ -16,7 +16,7 @@ use Rattle.fp_meaning.specs.declared.item.Item.TheVariants as item
 use Rattle.fp_meaning.specs.Sites.{ModelDef, Path, component, declaration, instance, interface, machine, site, topology}
 use Rattle.fp_type_forms.specs.Written.{types_in, types_of}
 use Rattle.fp_component_forms.specs.Written.{component_in, component_of, port_in, port_of}
-use Rattle.fp_source_components.specs.Machines.{machine_in, machine_declared}
+use Rattle.fp_source_parts.specs.Machines.{machine_in, machine_declared}
 use Rattle.fp_topology_forms.specs.Written.{instance_in, instance_of, topology_in, topology_of}
 use Rattle.fp_model.specs.declared.ordering.Counts.{Counts}
 use Rattle.fp_model.specs.Counted.{counted, counted_model, counted_with, none_before, order_by, order_by_model, order_from, order_with}

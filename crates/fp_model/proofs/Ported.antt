@@ -8,7 +8,7 @@ use Rattle.std.proofs.lemmas.Slice.Eq.{bytes_eq-Decides}
 use Rattle.fp_base.proofs.Bools.{both}
 use Rattle.fp_base.proofs.Options.{mapped_some, same_some}
 use Rattle.fp_base.specs.Least.{IsUnbroken}
-use Rattle.fp_part_forms.proofs.Standing.{each_given}
+use Rattle.fp_part_values.proofs.Standing.{each_given}
 use Rattle.fp_tree.specs.declared.source.Source.{Source}
 use Rattle.fp_tree.specs.declared.definition.Def.{Def}
 use Rattle.fp_tree.specs.declared.definition.Def.TheVariants as def
@@ -28,8 +28,8 @@ use Rattle.fp_component_forms.specs.Written.{PortDefIs, Scoped, port_in, port_of
 use Rattle.fp_components.specs.Resolved.{port_def_of}
 use Rattle.fp_source_types.specs.Named.{DefinitionsAreNamed}
 use Rattle.fp_written_parts.specs.declared.port.WrittenPortDef.{WrittenPortDef}
-use Rattle.fp_deployment_names.proofs.Texts.{HasNames, source_once, texts_in, written_apart}
-use Rattle.fp_sound_deployments.specs.Premises.{DefinitionsDiffer}
+use Rattle.fp_topology_forms.proofs.Texts.{HasNames, source_once, texts_in, written_apart}
+use Rattle.fp_sound_parts.specs.Premises.{DefinitionsDiffer}
 use Rattle.fp_model.specs.Defined.{HasParts}
 
 of_ports : (h : Group) → same_group group.Port h ≡ true → h ≡ group.Port

@@ -12,8 +12,8 @@ use Rattle.fp_tables.specs.Names.{is_qualified, texts_differ}
 use Rattle.fp_written_topologies.specs.declared.instance.WrittenInstance.{WrittenInstance}
 use Rattle.fp_written_topologies.specs.declared.topology.WrittenTopology.{WrittenTopology}
 use Rattle.fp_instances.specs.Resolved.{AreInstances}
-use Rattle.fp_topology_links.specs.Laws.{HaveClosures}
-use Rattle.fp_topology_links.specs.Resolved.{AreTopologies}
+use Rattle.fp_topologies.specs.Laws.{HaveClosures}
+use Rattle.fp_topologies.specs.Resolved.{AreTopologies}
 
 module _ {A B : Type 0} (f : A → List ℕ) (g : B → List ℕ) where
   abbrev pub Named : List A → List B → Type 0

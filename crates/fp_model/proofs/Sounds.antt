@@ -19,8 +19,8 @@ use Rattle.fp_tables.specs.declared.model.Model.{Model}
 use Rattle.fp_tables.specs.declared.topology.Instance.{Instance}
 use Rattle.fp_tables.specs.declared.topology.Topology.{Topology}
 use Rattle.fp_types.specs.WellWritten.{AreSoundTypes}
-use Rattle.fp_sound_components.specs.Sound.{AreSound, HaveSoundLists}
-use Rattle.fp_sound_behaviors.specs.Sound.{HasSoundBody, HasSoundOutline}
+use Rattle.fp_sound_parts.specs.ComponentSound.{AreSound, HaveSoundLists}
+use Rattle.fp_sound_parts.specs.Sound.{HasSoundBody, HasSoundOutline}
 use Rattle.fp_sound_parts.specs.Machines.{AreSoundMachines, IsSoundMachine}
 use Rattle.fp_model.proofs.Lying.{all_by_place}
 

@@ -11,12 +11,12 @@ use Rattle.fp_names.specs.Answers as names
 use Rattle.fp_tree.specs.declared.source.Source.{Source}
 use Rattle.fp_tables.specs.declared.model.Model.{Model}
 use Rattle.fp_numbering.specs.Answers as numbering
-use Rattle.fp_wiring.specs.Wired.{NumbersBroken}
+use Rattle.fp_numbering.specs.Wired.{NumbersBroken}
 use Rattle.fp_meaning.specs.Broken.{BrokenByDefinitions, BrokenByUses, NamesBroken}
-use Rattle.fp_source_components.specs.Broken.{PartsBroken}
-use Rattle.fp_source_components.specs.Machines.{InstancesBroken}
-use Rattle.fp_source_machines.specs.Broken.{MachinesBroken}
-use Rattle.fp_source_topologies.specs.Broken.{SourceInstancesBroken, SourceNumbersBroken, SourceTopologiesBroken, deployed}
+use Rattle.fp_source_parts.specs.Broken.{PartsBroken}
+use Rattle.fp_source_parts.specs.Machines.{InstancesBroken}
+use Rattle.fp_source_parts.specs.MachineBroken.{MachinesBroken}
+use Rattle.fp_source_parts.specs.TopologyBroken.{SourceInstancesBroken, SourceNumbersBroken, SourceTopologiesBroken, deployed}
 use Rattle.fp_model.specs.Broken.{ModelBroken, StatesBroken, ValuesBroken}
 use Rattle.fp_model.specs.Joined.{StatesHold, TopologiesHold}
 use Rattle.fp_model.specs.Phases.{InPhases}

@@ -10,14 +10,14 @@ use Rattle.fp_tables.specs.declared.model.Model.{Model}
 use Rattle.fp_tables.specs.declared.topology.Instance.{Instance}
 use Rattle.fp_tables.specs.declared.topology.Topology.{Topology}
 use Rattle.fp_numbering.specs.Answers.{AreNumbered}
-use Rattle.fp_wiring.specs.Wired.{AreAllNumbered, IsNumbered}
+use Rattle.fp_numbering.specs.Wired.{AreAllNumbered, IsNumbered}
 use Rattle.fp_instances.specs.Resolved.{AreInstances}
 use Rattle.fp_written_topologies.specs.Lying.{DeploymentLies, TopologyLies}
 use Rattle.fp_written_topologies.specs.declared.topology.WrittenDeployment.{WrittenDeployment}
 use Rattle.fp_written_topologies.specs.declared.topology.WrittenTopology.{WrittenTopology}
-use Rattle.fp_topology_links.specs.Joined.{imported_links}
-use Rattle.fp_topology_links.specs.Ordered.{AreInOrder, link_cmp}
-use Rattle.fp_topology_links.specs.Resolved.{AreTopologies, HaveNoWires}
+use Rattle.fp_topologies.specs.Joined.{imported_links}
+use Rattle.fp_topologies.specs.Ordered.{AreInOrder, link_cmp}
+use Rattle.fp_topologies.specs.Resolved.{AreTopologies, HaveNoWires}
 use Rattle.fp_model.specs.Defined.{AreWired}
 
 bare : Topology → Topology

@@ -20,9 +20,9 @@ use Rattle.fp_meaning.specs.Names.{Path}
 use Rattle.fp_meaning.specs.Values.{Opened, Val}
 use Rattle.fp_type_forms.specs.Written.{AllAt, types}
 use Rattle.fp_types.specs.WellWritten.{AreSoundTypes}
-use Rattle.fp_source_components.specs.Machines.{machine_declared, machines}
-use Rattle.fp_source_machines.specs.Built.{IsMachine}
-use Rattle.fp_sound_components.specs.Sound.{AreSound}
+use Rattle.fp_source_parts.specs.Machines.{machine_declared, machines}
+use Rattle.fp_source_parts.specs.MachineBuilt.{IsMachine}
+use Rattle.fp_sound_parts.specs.ComponentSound.{AreSound}
 use Rattle.fp_sound_parts.specs.Machines.{AreSoundMachines}
 use Rattle.fp_source_types.specs.Named.{DefinitionsAreNamed}
 use Rattle.fp_model.specs.Defined.{IsConstant}

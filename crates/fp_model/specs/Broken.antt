@@ -12,12 +12,12 @@ use Rattle.fp_type_sizes.specs.declared.written.WrittenType.{WrittenType}
 use Rattle.fp_type_forms.specs.Written.{AreWritten}
 use Rattle.fp_source_types.specs.Broken.{TypesBroken}
 use Rattle.fp_type_formats.specs.Broken.{FormatsBroken}
-use Rattle.fp_part_forms.specs.Broken.{PartFormsBroken}
+use Rattle.fp_part_values.specs.FormBroken.{PartFormsBroken}
 use Rattle.fp_part_values.specs.Broken.{PartValuesBroken}
-use Rattle.fp_source_components.specs.Broken.{PartsBroken}
-use Rattle.fp_source_components.specs.Machines.{InstancesBroken}
-use Rattle.fp_source_machines.specs.Broken.{MachinesBroken}
-use Rattle.fp_source_topologies.specs.Broken.{SourceInstancesBroken, SourceNumbersBroken, SourceTopologiesBroken}
+use Rattle.fp_source_parts.specs.Broken.{PartsBroken}
+use Rattle.fp_source_parts.specs.Machines.{InstancesBroken}
+use Rattle.fp_source_parts.specs.MachineBroken.{MachinesBroken}
+use Rattle.fp_source_parts.specs.TopologyBroken.{SourceInstancesBroken, SourceNumbersBroken, SourceTopologiesBroken}
 use Rattle.fp_model.specs.Phases.{InPhases}
 
 -- what is written of the types is one list

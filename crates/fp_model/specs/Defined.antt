@@ -14,9 +14,9 @@ use Rattle.fp_meaning.specs.Values.{opened, Val}
 use Rattle.fp_type_sizes.specs.declared.written.WrittenType.{WrittenType}
 use Rattle.fp_type_forms.specs.Written.{AllAt, AreWritten}
 use Rattle.fp_source_types.specs.Typed.{AreTypesOf}
-use Rattle.fp_source_components.specs.Built.{ArePartsOf}
-use Rattle.fp_source_machines.specs.Built.{AreMachinesOf}
-use Rattle.fp_source_topologies.specs.Built.{AreInstancesOf, AreTopologiesOf}
+use Rattle.fp_source_parts.specs.Built.{ArePartsOf}
+use Rattle.fp_source_parts.specs.MachineBuilt.{AreMachinesOf}
+use Rattle.fp_source_parts.specs.TopologyBuilt.{AreInstancesOf, AreTopologiesOf}
 use Rattle.fp_numbering.specs.Answers.{AreNumbered}
 use Rattle.fp_model.specs.Definitions as written
 use Rattle.fp_model.specs.Definitions.{ConstantHere, qualified}

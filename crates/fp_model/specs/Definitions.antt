@@ -17,7 +17,7 @@ use Rattle.fp_meaning.specs.Sites.{ModelDef, component, instance, machine, topol
 use Rattle.fp_meaning.specs.Values.{dotted}
 use Rattle.fp_type_forms.specs.Written.{types_of}
 use Rattle.fp_component_forms.specs.Written.{component_of, port_of}
-use Rattle.fp_source_components.specs.Machines.{machine_declared}
+use Rattle.fp_source_parts.specs.Machines.{machine_declared}
 use Rattle.fp_topology_forms.specs.Written.{instance_of, topology_of}
 
 -- the name behind those of the modules round it, with a dot between each two

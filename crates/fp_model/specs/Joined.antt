@@ -9,14 +9,14 @@ use Rattle.fp_meaning.specs.Origins.{expressions}
 use Rattle.fp_type_sizes.specs.declared.written.WrittenType.{WrittenType}
 use Rattle.fp_type_forms.specs.Written.{AreWritten}
 use Rattle.fp_source_types.specs.Typed.{AreTypesOf}
-use Rattle.fp_source_components.specs.Broken.{PartsBroken}
-use Rattle.fp_source_components.specs.Built.{ArePartsOf}
-use Rattle.fp_source_components.specs.Valued.{IsValued}
-use Rattle.fp_source_components.specs.declared.parts.Parts.{Parts}
-use Rattle.fp_source_machines.specs.Built.{AreMachinesOf}
-use Rattle.fp_source_topologies.specs.Broken.{SourceInstancesBroken, SourceTopologiesBroken}
-use Rattle.fp_source_topologies.specs.Built.{AreInstancesOf, AreTopologiesOf}
-use Rattle.fp_topology_links.specs.Resolved.{HaveNoWires}
+use Rattle.fp_source_parts.specs.Broken.{PartsBroken}
+use Rattle.fp_source_parts.specs.Built.{ArePartsOf}
+use Rattle.fp_source_parts.specs.Valued.{IsValued}
+use Rattle.fp_source_parts.specs.declared.parts.Parts.{Parts}
+use Rattle.fp_source_parts.specs.MachineBuilt.{AreMachinesOf}
+use Rattle.fp_source_parts.specs.TopologyBroken.{SourceInstancesBroken, SourceTopologiesBroken}
+use Rattle.fp_source_parts.specs.TopologyBuilt.{AreInstancesOf, AreTopologiesOf}
+use Rattle.fp_topologies.specs.Resolved.{HaveNoWires}
 use Rattle.fp_model.specs.declared.joining.Deployed.{Deployed}
 use Rattle.fp_model.specs.declared.settling.Settled.{Settled}
 use Rattle.fp_model.specs.Broken.{StatesBroken, ValuesBroken}

@@ -3,26 +3,25 @@ ghost use Rattle.fp_base.specs.Least.{IsUnbroken};
 ghost use Rattle.fp_consts.specs.Answered.{IsStop};
 ghost use Rattle.fp_meaning.specs.Layout as layout;
 ghost use Rattle.fp_numbering.specs.Labels.{matched_ports_have_one_size};
-ghost use Rattle.fp_part_forms.specs.Standing.{AreValued};
-ghost use Rattle.fp_source_topologies.specs.Broken.{SourceNumbersBroken};
+ghost use Rattle.fp_part_values.specs.FormStanding.{AreValued};
+ghost use Rattle.fp_source_parts.specs.TopologyBroken.{SourceNumbersBroken};
 ghost use Rattle.fp_tables.specs.Positions.{positions_lie};
 ghost use Rattle.fp_type_forms.specs.Resolved.{AreResolved};
-ghost use Rattle.fp_wiring.specs.Wired.{IsWired};
+ghost use Rattle.fp_numbering.specs.Wired.{IsWired};
 ghost use Rattle.fp_model.specs.Broken.{ModelBroken};
 ghost use Rattle.fp_model.specs.Joined.{AreParts, IsDeployed, Joined, StatesHold, TopologiesHold};
 
 use fp_base::{Row, Stop, Value};
 use fp_meaning::Item;
-use fp_source_components::Parts;
-use fp_source_topologies::{numbers_are_least, source_instances, source_topologies};
+use fp_source_parts::{Parts, numbers_are_least, source_instances, source_topologies};
 use fp_tables::{Instance, Model, Topology};
 use fp_topology_forms::{
     deployment_written, deployments_have_numbers, one_deployment, written_deployments_lie,
 };
-use fp_topology_imports::unbroken_imports_are_closed;
+use fp_topologies::unbroken_imports_are_closed;
 use fp_tree::Source;
 use fp_type_forms::Resolution;
-use fp_wiring::number_all;
+use fp_numbering::number_all;
 use std::alloc::Global;
 
 /// The instances of components and the topologies of a source.

@@ -4,14 +4,14 @@ ghost use Rattle.fp_base.specs.declared.value.Value.{Value};
 ghost use Rattle.fp_meaning.specs.Layout.{items};
 ghost use Rattle.fp_names.specs.Named.{PartsAreNamed};
 ghost use Rattle.fp_numbering.specs.Labels.{matched_ports_have_one_size};
-ghost use Rattle.fp_part_forms.specs.Standing.{AreValued};
-ghost use Rattle.fp_source_machines.specs.Ordered.{MachinesAreOrdered};
+ghost use Rattle.fp_part_values.specs.FormStanding.{AreValued};
+ghost use Rattle.fp_source_parts.specs.Ordered.{MachinesAreOrdered};
 ghost use Rattle.fp_source_types.specs.Named.{DefinitionsAreNamed, FieldsAreNamed};
 ghost use Rattle.fp_tables.specs.Positions.{lists_are_short, positions_lie};
 ghost use Rattle.fp_tables.specs.Sound.{IsSound, IsSoundWith};
 ghost use Rattle.fp_tables.specs.declared.model.Model.{Model};
 ghost use Rattle.fp_tables.specs.declared.topology.Topology.{Topology};
-ghost use Rattle.fp_topology_links.specs.Resolved.{HaveNoWires};
+ghost use Rattle.fp_topologies.specs.Resolved.{HaveNoWires};
 ghost use Rattle.fp_tree.specs.declared.source.Source.{Source};
 ghost use Rattle.fp_type_forms.specs.Resolved.{AreResolved};
 ghost use Rattle.fp_type_forms.specs.declared.resolving.Resolution.{Resolution};
@@ -20,18 +20,13 @@ ghost use Rattle.fp_model.specs.Defined.{Defined};
 ghost use Rattle.fp_model.specs.Joined.{Joined, TopologiesHold};
 
 use fp_component_rules::unbroken_are_consistent;
-use fp_deployment_names::{deployment_names_are_qualified, deployment_names_differ};
-use fp_sound_deployments::{
-    instances_are_sound, instances_lie, numbered_topologies_lie, topologies_are_sound,
-};
-use fp_sound_parts::{machines_are_sound, parts_are_sound};
+use fp_topology_forms::{deployment_names_are_qualified, deployment_names_differ, one_deployment, written_deployments_lie};
+use fp_sound_parts::{instances_are_sound, instances_lie, machines_are_sound, numbered_topologies_lie, parts_are_sound, topologies_are_sound};
 use fp_source_types::{
     names_in_types_are_names, type_names_are_qualified, type_names_differ,
     unbroken_chains_are_short, unbroken_types_are_sound, values_are_of_size,
 };
-use fp_topology_forms::{one_deployment, written_deployments_lie};
-use fp_topology_imports::unbroken_imports_are_closed;
-use fp_topology_links::topologies_lie;
+use fp_topologies::{topologies_lie, unbroken_imports_are_closed};
 use fp_types::default_has_form;
 
 /// The positions in the model that a source defines lie, and matched ports have one size, where no phase before that of numbering is broken, each use

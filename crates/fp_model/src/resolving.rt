@@ -2,7 +2,7 @@ ghost use Rattle.std.specs.Prelude.{◌≡◌, ℕ, IfErr, IfOk, OnOk, Some, sli
 ghost use Rattle.fp_base.specs.Least.{IsUnbroken};
 ghost use Rattle.fp_consts.specs.Answered.{IsStop};
 ghost use Rattle.fp_names.specs.Named.{PartsAreNamed};
-ghost use Rattle.fp_source_machines.specs.Ordered.{MachinesAreOrdered};
+ghost use Rattle.fp_source_parts.specs.Ordered.{MachinesAreOrdered};
 ghost use Rattle.fp_source_types.specs.Listed.{EnumsHaveConstants};
 ghost use Rattle.fp_source_types.specs.Named.{DefinitionsAreNamed, FieldsAreNamed};
 ghost use Rattle.fp_tables.specs.Sound.{IsSound, IsSoundWith};
@@ -16,7 +16,7 @@ use crate::laws::{defined_is_sound, joined_lies};
 use crate::settling::{Settled, settled_in};
 use fp_base::Stop;
 use fp_layout::lay_out;
-use fp_sound_deployments::numbering_keeps_topologies;
+use fp_sound_parts::numbering_keeps_topologies;
 use fp_tables::Model;
 use fp_tree::Source;
 use std::alloc::Global;

@@ -5,7 +5,7 @@ ghost use Rattle.fp_tables.specs.SoundPrograms.{IsSoundProgram};
 
 use crate::runs::add_log;
 use fp_base::{NoMemory, PathStop, Text};
-use fp_conclude::run_alone;
+use fp_running::run_alone;
 use fp_scenario::{Scenario, ScenarioStop, read_scenario};
 use fp_scenario_check::check_scenario;
 use fp_sound_model::SoundModel;

@@ -1,24 +1,32 @@
+pub mod Apart
 pub mod Beginning
+pub mod Below
 pub mod Breaking
+pub mod Carried
 pub mod Checked
 pub mod Classing
 pub mod Ending
 pub mod Faulting
 pub mod Filling
+mod Finding
 pub mod Giving
 pub mod Having
 pub mod Joining
 pub mod Keying
-pub mod Lacking
 pub mod Labelling
+pub mod Lacking
+pub mod Listed
 pub mod Noting
 pub mod Partnering
+pub mod Placing
 pub mod Plain
+mod Rows
 pub mod Setwise
 pub mod Sized
 pub mod Sourcing
 pub mod Suiting
 pub mod Unique
 pub mod Varying
-pub mod Walkings
 pub mod Walking
+pub mod Walkings
+pub mod Wholly

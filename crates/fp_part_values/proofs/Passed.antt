@@ -17,7 +17,7 @@ use Rattle.fp_type_forms.specs.Resolved.{AreResolved, Moves, Takes}
 use Rattle.fp_type_forms.proofs.Breaking.{either_taken}
 use Rattle.fp_type_forms.proofs.Taking.{items_from, items_next, taken_as, taken_nothing, taken_then}
 use Rattle.fp_part_values.specs.Broken.{BrokenByDeclared, BrokenByPart}
-use Rattle.fp_part_forms.specs.Passed.{Passes}
+use Rattle.fp_part_values.specs.Passed.{Passes}
 
 module _ (source : Source) (marks : List (Option Value)) (rs : List Resolution) where
   pub passed_one : (i : Item) (a b : ℕ) → Moves rs a b → Passes source marks rs (i ∷ []) a b

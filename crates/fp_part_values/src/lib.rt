@@ -1,14 +1,25 @@
-//! Which rules the values in parts of components break that convert to types: the defaults of parameters and the limits of channels.
+//! The first rule that type names, numbers and values in components, interfaces, machines, instances and topologies break, each by itself.
 #![tactic(auto)]
 
 mod channels;
 mod checking;
+mod components;
+mod form_checking;
+mod form_laws;
+mod form_passing;
+mod instances;
 mod integers;
 mod laws;
+mod machines;
 mod misfitting;
 mod params;
 mod parts;
 mod passing;
+mod reading;
+mod topologies;
 
 pub use checking::part_value_faults;
+pub use form_checking::part_form_faults;
+pub use form_laws::{unbroken_part_names_stand, unbroken_part_numbers_stand};
+pub use form_passing::{pass_name, pass_one, pass_value};
 pub use laws::{unbroken_defaults_convert, unbroken_limits_convert};

@@ -4,10 +4,10 @@ ghost use Rattle.fp_meaning.specs.Layout.{command_items, event_items, formal_ite
 ghost use Rattle.fp_meaning.specs.Names.{Path};
 ghost use Rattle.fp_tree.specs.declared.source.Source.{Source};
 ghost use Rattle.fp_type_forms.specs.Resolved.{Moves};
-ghost use Rattle.fp_part_forms.specs.Passed.{Passes};
+ghost use Rattle.fp_part_values.specs.Passed.{Passes};
 
 use fp_base::{Refusal, Row, Value};
-use fp_part_forms::{pass_name, pass_one, pass_value};
+use crate::{pass_name, pass_one, pass_value};
 use fp_tree::{Command, Event, Formal, General, Internal, Running};
 use fp_type_forms::{Resolution, kind_taken};
 

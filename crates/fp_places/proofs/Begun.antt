@@ -10,10 +10,10 @@ use Rattle.fp_meaning.specs.Layout.{expression_items, type_items, items_in}
 use Rattle.fp_meaning.specs.Sites.{ModelDef, machine, component, interface, instance, topology}
 use Rattle.fp_parse_defs.specs.Definitions.{noted_definition}
 use Rattle.fp_base.proofs.Lists.{each_of_any}
-use Rattle.fp_sites.specs.Parts.{names_in_expression, names_in_type, names_in_definition}
-use Rattle.fp_sites.proofs.Preserving.{gives_anything, gives_less}
-use Rattle.fp_sites.proofs.Held.{Held}
-use Rattle.fp_sites.proofs.Known.{Known, Belonging}
+use Rattle.fp_places.specs.Parts.{names_in_expression, names_in_type, names_in_definition}
+use Rattle.fp_places.proofs.Preserving.{gives_anything, gives_less}
+use Rattle.fp_places.proofs.Held.{Held}
+use Rattle.fp_places.proofs.Known.{Known, Belonging}
 use Rattle.fp_places.specs.Places.{places_of_model}
 use Rattle.fp_places.proofs.Tokens.{Begins, name_yields}
 use Rattle.fp_places.proofs.Expressions.{StandIn, expression_yields}

@@ -52,8 +52,8 @@ use Rattle.fp_parse_components.specs.Noted.{noted_part, noted_parts, bare_part, 
 use Rattle.fp_parse_components.specs.Parts.{made_definition, machine_or_running, stated_goes_on, made_general_part, made_special_part, made_import_part, made_include_part, port_part, other_part, part_body, part_begins, part_goes_on, part_of, parts, made_inner_general, made_inner_special, made_inner_import, interface_part, interface_parts}
 use Rattle.fp_parse_components.specs.Components.{made_component, component, made_interface, interface}
 use Rattle.fp_base.proofs.Lists.{InOption, each_append, each_flat, each_mapped, each_push, each_weaker}
-use Rattle.fp_sites.proofs.Preserving.{gives_anything, gives_less, gives_map, gives_seq, gives_alt, gives_optional, gives_seal, gives_after, gives_before}
-use Rattle.fp_sites.proofs.Lists.{each_or_none, gives_any_noted, gives_some_of}
+use Rattle.fp_places.proofs.Preserving.{gives_anything, gives_less, gives_map, gives_seq, gives_alt, gives_optional, gives_seal, gives_after, gives_before}
+use Rattle.fp_places.proofs.Lists.{each_or_none, gives_any_noted, gives_some_of}
 use Rattle.fp_places.specs.Places.{places_in_expression, places_in_format, places_in_formal, places_in_formals, places_in_general, places_in_interface_part, places_in_limit, places_in_limits, places_in_part, places_in_special, places_in_type, places_in_value, places_of_model, places_of_word}
 use Rattle.fp_places.proofs.Tokens.{Yields, one_of_yields, at_yields, name_yields, string_yields, optional_stands}
 use Rattle.fp_places.proofs.Expressions.{StandIn, expression_yields}

@@ -26,8 +26,8 @@ use Rattle.fp_parse_pieces.specs.Kinds.{k_open, k_close, k_open_bracket, k_close
 use Rattle.fp_parse_pieces.specs.Lists.{commas, or_none}
 use Rattle.fp_parse_defs.specs.Definitions.{k_arrow, k_colon, k_array, k_constant, k_default, k_enum, k_format, k_port, k_size, k_string_word, k_struct, k_type, unsigned_form, signed_form, other_form, plain, type_begins, expr_goes_on, made_string, string_type, made_use, used_type, type_body, type_name, default_part, format_part, sized, made_constant, constant, made_type, abstract_or_alias, made_array, array, made_field, field, with_field, fields, made_struct, structure, made_enum_const, enum_const, with_enum_const, enum_consts, made_enum, enumeration, made_formal, formal, with_formal, formal_list, formals_part, made_port, port, definition, noted_definition}
 use Rattle.fp_base.proofs.Lists.{InOption, each_append, each_before, each_behind, each_flat, each_push}
-use Rattle.fp_sites.proofs.Preserving.{gives_anything, gives_map, gives_seq, gives_alt, gives_optional, gives_seal, gives_after, gives_before}
-use Rattle.fp_sites.proofs.Lists.{each_or_none, gives_some_of}
+use Rattle.fp_places.proofs.Preserving.{gives_anything, gives_map, gives_seq, gives_alt, gives_optional, gives_seal, gives_after, gives_before}
+use Rattle.fp_places.proofs.Lists.{each_or_none, gives_some_of}
 use Rattle.fp_places.specs.Places.{places_in_expression, places_in_type_form, places_in_type, places_in_format, places_in_field, places_in_constant, places_in_formal, places_in_definition, places_of}
 use Rattle.fp_places.proofs.Tokens.{Yields, one_of_yields, at_yields, name_yields, string_yields, qual_yields, optional_stands}
 use Rattle.fp_places.proofs.Expressions.{StandIn, expression_yields}

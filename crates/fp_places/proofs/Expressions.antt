@@ -21,8 +21,8 @@ use Rattle.fp_parse_defs.specs.Words.{bare, leaf, literal, literal_form, named}
 use Rattle.fp_parse_pieces.specs.Lists.{joined, commas}
 use Rattle.fp_parse_defs.specs.Language.{Level, level, begins, combined, lower, factor_body, factor_of, term_body, term_of, expr_body, expr_of, made_minus, negated_of, made_group, group_of, with_item, no_items, items_of, made_array, array_of, made_setting, setting_of, with_member, no_members, or_no_members, members_of, made_struct, struct_of, inside_of, expression}
 use Rattle.fp_base.proofs.Lists.{InOption, each_append, each_push, each_flat}
-use Rattle.fp_sites.proofs.Preserving.{LanguageGives, gives_anything, gives_map, gives_seq, gives_alt, gives_optional, gives_chain, gives_ref, gives_seal}
-use Rattle.fp_sites.proofs.Lists.{gives_some_of}
+use Rattle.fp_places.proofs.Preserving.{LanguageGives, gives_anything, gives_map, gives_seq, gives_alt, gives_optional, gives_chain, gives_ref, gives_seal}
+use Rattle.fp_places.proofs.Lists.{gives_some_of}
 use Rattle.fp_places.specs.Places.{places_in_expression, places_in_form, places_in_assignment}
 use Rattle.fp_places.proofs.Tokens.{Begins, Yields, one_of_yields, at_yields, name_yields, qual_yields}
 use Rattle.fp_places.proofs.Walks.{whole_places, assigned_places, number_places, float_places, text_places, truth_places, use_places, minus_places, parentheses_places, binary_places, array_places, struct_places}

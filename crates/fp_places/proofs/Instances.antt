@@ -15,8 +15,8 @@ use Rattle.fp_parse_pieces.specs.Kinds.{k_open_brace}
 use Rattle.fp_parse_defs.specs.Definitions.{k_colon}
 use Rattle.fp_parse_topologies.specs.Instances.{k_base, k_id, made_phase, phase_with_note, phases, phases_part, phases_behind, Settings, settings, made_instance, component_instance}
 use Rattle.fp_base.proofs.Lists.{InOption, each_flat}
-use Rattle.fp_sites.proofs.Preserving.{gives_anything, gives_map, gives_seq, gives_optional, gives_after}
-use Rattle.fp_sites.proofs.Lists.{gives_any_noted}
+use Rattle.fp_places.proofs.Preserving.{gives_anything, gives_map, gives_seq, gives_optional, gives_after}
+use Rattle.fp_places.proofs.Lists.{gives_any_noted}
 use Rattle.fp_places.specs.Places.{places_in_phase, places_of_model}
 use Rattle.fp_places.proofs.Tokens.{Yields}
 use Rattle.fp_places.proofs.Expressions.{StandIn, expression_yields}

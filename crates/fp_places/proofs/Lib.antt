@@ -1,10 +1,29 @@
 mod Begun
 mod Components
-mod Machines
-mod Instances
-mod Topologies
 pub mod Definitions
+mod Depths
 pub mod Expressions
+pub mod Held
+mod Instances
+pub mod Known
+pub mod Lists
+mod Machines
 pub mod Members
+mod ModelWalks
+pub mod Models
+mod Nesting
+pub mod Preserving
+pub mod SiteComponents
+mod SiteDefinitions
+mod SiteExpressions
+mod SiteMachines
+mod SiteMembers
+pub mod SiteTopologies
+mod SiteWalks
+mod Standing
+mod Telling
 pub mod Tokens
+mod Topologies
 pub mod Walks
+mod Words
+mod Writing

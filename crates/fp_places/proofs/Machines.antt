@@ -25,8 +25,8 @@ use Rattle.fp_parse_states.specs.Elements.{k_else, k_entry, k_exit, k_if, k_init
 use Rattle.fp_parse_states.specs.Nested.{NestedElements, Lines, SpellsBehind, SpellsElements, SpellsRest, elements_of, size, body, k_machine, made_machine, machine}
 use Rattle.fp_parse_states.specs.Nested.NestedElements.{none, without_body, with_body}
 use Rattle.fp_base.proofs.Lists.{InOption, each_append, each_before, each_behind, each_flat, each_mapped}
-use Rattle.fp_sites.proofs.Preserving.{LanguageGives, gives_anything, gives_less, gives_map, gives_seq, gives_alt, gives_optional, gives_ref, gives_seal, gives_after}
-use Rattle.fp_sites.proofs.Lists.{gives_any_noted}
+use Rattle.fp_places.proofs.Preserving.{LanguageGives, gives_anything, gives_less, gives_map, gives_seq, gives_alt, gives_optional, gives_ref, gives_seal, gives_after}
+use Rattle.fp_places.proofs.Lists.{gives_any_noted}
 use Rattle.fp_places.specs.Places.{places_in_behavior, places_in_do, places_in_element, places_in_element_form, places_in_goto, places_in_transition, places_in_type, places_of_model}
 use Rattle.fp_places.proofs.Tokens.{Begins, Yields, at_yields, name_yields, optional_stands, qual_yields}
 use Rattle.fp_places.proofs.Definitions.{type_yields}

@@ -28,12 +28,12 @@ use Rattle.fp_parse_parts.specs.Members.{semicolons, definition_begins, definiti
 use Rattle.fp_parse_parts.specs.Files.{SpellsFile}
 use Rattle.fp_parse_parts.specs.Units.{SpellsUnit, component_parts, topology_members}
 use Rattle.fp_base.proofs.Lists.{each_contained, each_flat, each_push, each_weaker, of_contained}
-use Rattle.fp_sites.specs.Sites.{BeginsToken, in_parts, in_topology}
-use Rattle.fp_sites.proofs.Components.{parts_given}
-use Rattle.fp_sites.proofs.Topologies.{members_given}
-use Rattle.fp_sites.proofs.Preserving.{LanguageGives, gives_anything, gives_map, gives_seq, gives_alt, gives_optional, gives_ref, gives_seal, gives_after}
-use Rattle.fp_sites.proofs.Lists.{each_or_none, gives_some_of}
-use Rattle.fp_sites.proofs.Models.{ModelSaid, models_yield}
+use Rattle.fp_places.specs.Sites.{BeginsToken, in_parts, in_topology}
+use Rattle.fp_places.proofs.SiteComponents.{parts_given}
+use Rattle.fp_places.proofs.SiteTopologies.{members_given}
+use Rattle.fp_places.proofs.Preserving.{LanguageGives, gives_anything, gives_map, gives_seq, gives_alt, gives_optional, gives_ref, gives_seal, gives_after}
+use Rattle.fp_places.proofs.Lists.{each_or_none, gives_some_of}
+use Rattle.fp_places.proofs.Models.{ModelSaid, models_yield}
 use Rattle.fp_places.specs.Places.{places_in_part, places_in_topology_member, places_of}
 use Rattle.fp_places.proofs.Components.{parts_yield}
 use Rattle.fp_places.proofs.Topologies.{members_yield as topology_yield}

@@ -9,7 +9,7 @@ use Rattle.fp_grammar.specs.Grammar.Grammar.{one_of}
 use Rattle.fp_meaning.specs.Sites.{in_optional}
 use Rattle.fp_parse_pieces.specs.Kinds.{kind, k_name, k_dot, k_string}
 use Rattle.fp_parse_pieces.specs.Words.{at, name, name_text, one_name, longer, qual, literal_string, string_text}
-use Rattle.fp_sites.proofs.Preserving.{Gives, gives_token, gives_map, gives_chain, gives_after}
+use Rattle.fp_places.proofs.Preserving.{Gives, gives_token, gives_map, gives_chain, gives_after}
 
 module _ (G : Place → Type 0) where
   abbrev pub Begins : Token → Type 0

@@ -22,8 +22,8 @@ use Rattle.fp_parse_topologies.specs.Instances.{k_instance}
 use Rattle.fp_parse_topologies.specs.Connections.{k_connections, k_text, k_unmatched, made_port_use, port_use, made_connection, connection, connection_with_note, made_connections, connections, reporting, serving, made_text_event, text_event, pattern_words, made_target, target_with_note, targets, made_pattern, pattern_connections}
 use Rattle.fp_parse_topologies.specs.Topologies.{k_private, made_instance_use, instance_use, member, member_with_note, members, made_topology, topology}
 use Rattle.fp_base.proofs.Lists.{InOption, each_flat, each_mapped}
-use Rattle.fp_sites.proofs.Preserving.{gives_anything, gives_map, gives_seq, gives_alt, gives_optional, gives_after}
-use Rattle.fp_sites.proofs.Lists.{gives_any_noted}
+use Rattle.fp_places.proofs.Preserving.{gives_anything, gives_map, gives_seq, gives_alt, gives_optional, gives_after}
+use Rattle.fp_places.proofs.Lists.{gives_any_noted}
 use Rattle.fp_places.specs.Places.{places_in_connection, places_in_topology_member, places_of_model}
 use Rattle.fp_places.proofs.Tokens.{Yields, one_of_yields, at_yields, qual_yields}
 use Rattle.fp_places.proofs.Components.{import_yields, include_yields}

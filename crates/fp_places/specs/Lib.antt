@@ -1,1 +1,11 @@
+pub mod Components
+pub mod Depths
+pub mod Includes
+pub mod Machines
+pub mod Names
+pub mod Nesting
+pub mod Parts
 pub mod Places
+pub mod Sites
+pub mod Topologies
+pub mod Written

@@ -9,7 +9,7 @@ ghost use Rattle.fp_meaning.specs.Sites.{Path};
 ghost use Rattle.fp_meaning.specs.declared.item.Item.{Item};
 ghost use Rattle.fp_parse_parts.specs.Files.{SpellsFile};
 ghost use Rattle.fp_parse_parts.specs.Units.{SpellsUnit, component_parts, topology_members};
-ghost use Rattle.fp_sites.specs.Sites.{BeginsToken, in_parts, in_topology};
+ghost use Rattle.fp_places.specs.Sites.{BeginsToken, in_parts, in_topology};
 ghost use Rattle.fp_places.specs.Places.{places_in_part, places_in_topology_member, places_of};
 
 /// Where the tokens of a file spell members, each place in these of a name that is defined, of a type, of an expression and of what it is

@@ -15,8 +15,7 @@ use crate::rows::{deal, empty_rows};
 use fp_base::{NoMemory, Row};
 use fp_events::Entry;
 use fp_gate::{Booked, Pass, TicketLock};
-use fp_merge::Kept;
-use fp_run_laws::seen_records;
+use fp_run_laws::{Kept, seen_records};
 use std::alloc::Global;
 
 /// Takes a hand apart: its trace, and its passes, dealt out to the columns.

@@ -12,7 +12,7 @@ use fp_events::Why;
 use fp_gate::TicketLock;
 use fp_outside::Gate;
 use fp_tables::{Program, Tables};
-use fp_typing::due_asks;
+use fp_run_laws::due_asks;
 use std::alloc::Global;
 use std::marker::Model;
 use std::sync::Wait;

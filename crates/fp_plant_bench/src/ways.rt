@@ -7,7 +7,7 @@ ghost use Rattle.fp_plant.specs.Planted.{AreAll};
 
 use fp_base::{NoMemory, Row};
 use fp_events::Entry;
-use fp_merge::Kept;
+use fp_run_laws::Kept;
 use fp_outside::OpenGate;
 use fp_plant::{Hand, Plant};
 use fp_rounds::run;

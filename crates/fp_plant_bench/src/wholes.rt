@@ -6,7 +6,7 @@ ghost use Rattle.fp_events.specs.Run.{IsRun};
 
 use crate::ways::kept_of;
 use fp_base::{NoMemory, Row};
-use fp_conclude::{conclude, run_alone};
+use fp_running::{conclude, run_alone};
 use fp_events::{Entry, Finish};
 use fp_outside::OpenGate;
 use fp_scenario_run::{log_of, run_on_threads};

@@ -5,7 +5,7 @@ ghost use Rattle.fp_events.specs.Run.{AreRecords};
 
 use fp_base::NoMemory;
 use fp_events::projections;
-use fp_merge::{Kept, merge};
+use fp_run_laws::{Kept, merge};
 use fp_running::Running;
 use fp_tables::{Program, Tables};
 use std::alloc::{AllocError, Global};

@@ -3,8 +3,7 @@ ghost use Rattle.fp_tables.specs.Sound.{IsSoundFor};
 ghost use Rattle.fp_tables.specs.SoundPrograms.{IsSoundProgram};
 
 use fp_base::NoMemory;
-use fp_conclude::run_alone;
-use fp_running::Running;
+use fp_running::{Running, run_alone};
 use fp_tables::{Program, Tables};
 use std::alloc::Global;
 

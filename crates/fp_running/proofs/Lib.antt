@@ -1,13 +1,16 @@
-mod Walks
+pub mod Anew
+mod Asking
+mod Closed
+mod Left
+mod Nothing
 mod Noting
 mod Numbering
-mod Placing
-mod Stepping
-mod Asking
 mod OneTurn
+pub mod OnlyGoing
 mod Opened
+pub mod Parts
+mod Placing
 mod Replaying
+mod Stepping
 mod Steps
-mod Left
-mod Closed
-mod Nothing
+mod Walks

@@ -1,5 +1,5 @@
-pub mod Turns
+pub mod Closing
+pub mod Meeting
 pub mod Progress
 pub mod Standing
-pub mod Meeting
-pub mod Closing
+pub mod Turns

@@ -7,7 +7,7 @@ use crate::agenda::{Agenda, Trial};
 use crate::running::Running;
 use fp_base::NoMemory;
 use fp_events::{Entry, ends, fitting_entries, outcomes, prefixes, steps};
-use fp_typing::due_asks;
+use fp_run_laws::due_asks;
 use std::alloc::Global;
 
 impl<'a> Running<'a> {

@@ -3,6 +3,7 @@
 
 mod agenda;
 mod closing;
+mod concluding;
 mod done;
 mod ending;
 mod going;
@@ -13,5 +14,6 @@ mod running;
 mod turn;
 mod turning;
 
+pub use concluding::{conclude, run_alone};
 pub use running::Running;
 pub use turn::Turn;

@@ -16,9 +16,8 @@ use fp_actor::{Actor, Next};
 use fp_base::NoMemory;
 use fp_cell::Cell;
 use fp_events::{Ask, steps};
-use fp_run_laws::waiting;
+use fp_run_laws::{due_asks, waiting};
 use fp_tables::{Program, Tables};
-use fp_typing::due_asks;
 use std::alloc::Global;
 
 /// The place of an instance in the topology.

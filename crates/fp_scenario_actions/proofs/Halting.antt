@@ -3,7 +3,7 @@ use Rattle.std.proofs.Common.{◌≡◌, ℕ, Bool, true, false, ◌&&◌, List,
 use Rattle.std.specs.Prelude.{Result, Ok, Err, IfOk, IfErr, slice_get, option_and_then, option_to_list, is_some}
 use Rattle.std.specs.List.{list_all}
 use Rattle.serde_json.specs.View.{view}
-use Rattle.fp_scenario_values.specs.Arguments.{AreArguments}
+use Rattle.fp_scenario_actions.specs.Arguments.{AreArguments}
 use Rattle.fp_base.specs.declared.rule.Rule.{Rule}
 use Rattle.fp_base.specs.declared.rule.Rule.TheVariants.{UnknownName, BadArgument}
 use Rattle.fp_tables.specs.Lookup.{Described, component_of}

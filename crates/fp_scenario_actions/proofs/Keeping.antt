@@ -19,8 +19,8 @@ use Rattle.fp_tables.specs.declared.program.Arg.{Arg}
 use Rattle.fp_tables.specs.declared.program.Spot.{Spot}
 use Rattle.fp_scenario.specs.declared.scenario.ActText.{ActText}
 use Rattle.fp_scenario.specs.declared.first_key.FirstKey.{FirstKey}
-use Rattle.fp_scenario_values.specs.Arguments.{is_bound, IsArgument, bound, value, AreArguments}
-use Rattle.fp_scenario_values.proofs.Making.{not_both}
+use Rattle.fp_scenario_actions.specs.Arguments.{is_bound, IsArgument, bound, value, AreArguments}
+use Rattle.fp_scenario_actions.proofs.Making.{not_both}
 use Rattle.fp_scenario_actions.specs.Acting.{names_are_bound, is_known, scope_after, Breaks, Plans}
 use Rattle.fp_scenario_actions.specs.Listing.{is_end, ActsPlan, BreaksAt}
 

@@ -1,3 +1,4 @@
+pub mod Arguing
 pub mod Called
 pub mod CallsListed
 pub mod Dotted
@@ -7,9 +8,12 @@ pub mod Identifiers
 pub mod Keeping
 pub mod KeepingCalls
 pub mod Listed
+pub mod Making
+pub mod MeantKinds
 pub mod Narrow
 pub mod Once
 pub mod Parting
 pub mod Suits
 pub mod SuitsCalls
+pub mod ValueOnce
 pub mod Wired

@@ -13,8 +13,8 @@ use Rattle.fp_tables.specs.declared.program.Spot.{Spot}
 use Rattle.fp_tables.specs.declared.program.Verb.{Verb}
 use Rattle.fp_scenario.specs.declared.scenario.ActText.{ActText}
 use Rattle.fp_scenario.specs.declared.first_key.FirstKey.{FirstKey}
-use Rattle.fp_scenario_values.specs.Arguments.{AreArguments}
-use Rattle.fp_scenario_values.proofs.Once.{one_row}
+use Rattle.fp_scenario_actions.specs.Arguments.{AreArguments}
+use Rattle.fp_scenario_actions.proofs.ValueOnce.{one_row}
 use Rattle.fp_scenario_actions.specs.Acting as acting
 use Rattle.fp_scenario_actions.specs.Calling as calling
 use Rattle.fp_scenario_actions.specs.Listing as listing

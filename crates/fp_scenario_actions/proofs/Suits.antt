@@ -40,7 +40,7 @@ use Rattle.fp_scenario.specs.Same.{IsNamed}
 use Rattle.fp_scenario.specs.declared.scenario.ActText.{ActText}
 use Rattle.fp_scenario.specs.declared.first_key.FirstKey.{FirstKey}
 use Rattle.fp_scenario.specs.declared.first_key.FirstKey.TheVariants as key
-use Rattle.fp_scenario_values.proofs.MeantKinds.{arguments_kinds}
+use Rattle.fp_scenario_actions.proofs.MeantKinds.{arguments_kinds}
 use Rattle.fp_scenario_actions.specs.Acting.{verb_of, end_at, wire_at, is_for_commands, is_recv, command_at, takes_at, machine_in, subject_of, wire_of, kinds_in, Plans, answered, scope_after}
 use Rattle.fp_scenario_actions.specs.Listing.{is_end, is_return, ActsPlan, lacks_return}
 use Rattle.fp_scenario_actions.specs.Named.{port_where, running_named, name_of}

@@ -24,7 +24,7 @@ use Rattle.fp_tables.proofs.Firsts.{position_cons}
 use Rattle.fp_scenario.specs.declared.scenario.ActText.{ActText}
 use Rattle.fp_scenario.specs.declared.first_key.FirstKey.{FirstKey}
 use Rattle.fp_scenario.specs.declared.first_key.FirstKey.TheVariants as key
-use Rattle.fp_scenario_values.proofs.MeantKinds.{arguments_kinds}
+use Rattle.fp_scenario_actions.proofs.MeantKinds.{arguments_kinds}
 use Rattle.fp_scenario_actions.specs.Acting.{end_at, command_at, takes_at}
 use Rattle.fp_scenario_actions.specs.Calling.{input_at, input_of_parts, input_named, input_port, last_parted, Plans, scope_after, ActsPlan}
 use Rattle.fp_scenario_actions.specs.Named.{port_where, placed_named}

@@ -20,7 +20,7 @@ use Rattle.fp_tables.specs.declared.topology.Topology.{Topology}
 use Rattle.fp_tables.specs.declared.topology.Wire.{Wire}
 use Rattle.fp_tables.proofs.Firsts.{position_cons}
 use Rattle.fp_tables.proofs.Optional.{some_and_of}
-use Rattle.fp_scenario_values.proofs.MeantKinds.{found_passes}
+use Rattle.fp_scenario_actions.proofs.MeantKinds.{found_passes}
 use Rattle.fp_scenario_actions.specs.Acting.{end_at, is_recv, small, wire_at}
 use Rattle.fp_scenario_actions.specs.Named.{port_named, port_where}
 

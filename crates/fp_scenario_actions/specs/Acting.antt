@@ -33,7 +33,7 @@ use Rattle.fp_tables.specs.declared.program.Spot.{Spot}
 use Rattle.fp_scenario.specs.declared.scenario.ActText.{ActText}
 use Rattle.fp_scenario.specs.declared.first_key.FirstKey.{FirstKey}
 use Rattle.fp_scenario.specs.declared.first_key.FirstKey.TheVariants as key
-use Rattle.fp_scenario_values.specs.Arguments.{AreArguments, is_bound}
+use Rattle.fp_scenario_actions.specs.Arguments.{AreArguments, is_bound}
 use Rattle.fp_scenario_actions.specs.Named.{port_where, command_named, event_named, channel_named, param_named, running_named, name_of}
 
 abbrev pub verb_of : FirstKey → Verb

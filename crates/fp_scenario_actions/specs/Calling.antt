@@ -17,7 +17,7 @@ use Rattle.fp_tables.specs.declared.program.Act.{Act}
 use Rattle.fp_scenario.specs.declared.scenario.ActText.{ActText}
 use Rattle.fp_scenario.specs.declared.first_key.FirstKey.{FirstKey}
 use Rattle.fp_scenario.specs.declared.first_key.FirstKey.TheVariants as key
-use Rattle.fp_scenario_values.specs.Arguments.{AreArguments}
+use Rattle.fp_scenario_actions.specs.Arguments.{AreArguments}
 use Rattle.fp_scenario_actions.specs.declared.listing.ListHalt.{ListHalt}
 use Rattle.fp_scenario_actions.specs.declared.listing.ListHalt.TheVariants.{Broken, NoMemory}
 use Rattle.fp_scenario_actions.specs.Named.{placed_named, port_where}

@@ -1,6 +1,10 @@
 pub mod Acting
+pub mod Arguments
 pub mod Calling
 pub mod Halts
 pub mod Listing
+pub mod Made
 pub mod Named
+pub mod Read
 pub mod Spots
+pub mod Wanted

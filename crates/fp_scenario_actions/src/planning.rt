@@ -2,14 +2,14 @@ ghost use Rattle.std.specs.Prelude.{◌≡◌, IfOk, IfErr, map};
 ghost use Rattle.serde_json.specs.View.{view};
 ghost use Rattle.fp_tables.specs.Arguments.{kinds_of};
 ghost use Rattle.fp_tables.specs.Bound.{scope_of};
-ghost use Rattle.fp_scenario_values.specs.Arguments.{AreArguments};
+ghost use Rattle.fp_scenario_actions.specs.Arguments.{AreArguments};
 ghost use Rattle.fp_scenario_actions.specs.Halts.{IsHalt};
 ghost use Rattle.fp_scenario_actions.specs.Acting.{ArgumentsBreak, IsUnsuited, PlansWith};
 
 use crate::halt::Halt;
 use fp_base::{Row, Rule, Text};
 use fp_scenario::ActText;
-use fp_scenario_values::{are_bound, arguments_of, kinds_of};
+use crate::{are_bound, arguments_of, kinds_of};
 use fp_tables::{Act, Arg, Bound, End, Formal, Kind, TypeDef, Verb};
 use std::alloc::Global;
 

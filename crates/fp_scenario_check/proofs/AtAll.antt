@@ -10,7 +10,7 @@ use Rattle.fp_scenario.specs.Checked.{StopsBelow}
 use Rattle.fp_scenario.specs.declared.scenario.Scenario.{Scenario}
 use Rattle.fp_scenario.specs.declared.scenario.HandlerText.{HandlerText}
 use Rattle.fp_scenario.specs.declared.scenario.ScenarioStop.{ScenarioStop}
-use Rattle.fp_scenario_plan.specs.Planned.{Pairwise, PlansHandler, at_each, stands_for}
+use Rattle.fp_scenario_check.specs.Planned.{Pairwise, PlansHandler, at_each, stands_for}
 use Rattle.fp_scenario_check.specs.Faults.{IsStop, InItem, TextFault, IdleFault, FaultAtOne}
 use Rattle.fp_scenario_check.specs.Keys.{Owned, AreOwned}
 use Rattle.fp_scenario_check.proofs.AtEach.{at_one}

@@ -9,8 +9,8 @@ use Rattle.fp_tables.specs.Lookup.{Described}
 use Rattle.fp_tables.specs.declared.program.Handler.{Handler}
 use Rattle.fp_scenario.specs.declared.scenario.Scenario.{Scenario}
 use Rattle.fp_scenario.specs.declared.scenario.HandlerText.{HandlerText}
-use Rattle.fp_scenario_plan.specs.Planned.{Pairwise, PlansHandler, at_each, stands_for}
-use Rattle.fp_scenario_plan.proofs.Beside.{as_many}
+use Rattle.fp_scenario_check.specs.Planned.{Pairwise, PlansHandler, at_each, stands_for}
+use Rattle.fp_scenario_check.proofs.Beside.{as_many}
 use Rattle.fp_scenario_check.specs.Faults.{IdleFault, counts}
 use Rattle.fp_scenario_check.specs.Keys.{Owned, AreOwned}
 use Rattle.fp_scenario_check.proofs.Pairing.{beside_flat, beside_flat_whole}

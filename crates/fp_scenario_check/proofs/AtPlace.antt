@@ -15,7 +15,7 @@ use Rattle.fp_scenario_actions.specs.Listing.{BreaksAt, IsListHalt, lacks_return
 use Rattle.fp_scenario_actions.specs.Spots.{spot_in}
 use Rattle.fp_scenario_actions.specs.declared.listing.ListHalt.{ListHalt}
 use Rattle.fp_scenario_actions.specs.declared.listing.ListHalt.TheVariants as halt
-use Rattle.fp_scenario_plan.specs.Planned.{action_path, list_path}
+use Rattle.fp_scenario_check.specs.Planned.{action_path, list_path}
 use Rattle.fp_scenario_check.specs.Faults.{IsStop, StopsInList, ListFault, HandlerFault, in_action, return_missing, no_place}
 use Rattle.fp_scenario_check.proofs.Stopping.{stopped, no_memory}
 

@@ -15,9 +15,9 @@ use Rattle.fp_scenario.specs.declared.scenario.HandlerText.{HandlerText}
 use Rattle.fp_scenario.specs.declared.scenario.ScenarioStop.{ScenarioStop}
 use Rattle.fp_scenario.specs.declared.scenario.ScenarioStop.TheVariants.{Broken, NoMemory}
 use Rattle.fp_scenario_actions.proofs.Listed.{dropped, all_dropped}
-use Rattle.fp_scenario_plan.specs.Planned.{Planned, PlansHandler, at_each, pairs, stands_for, handler_path, action_path}
-use Rattle.fp_scenario_plan.specs.Broken.{BreaksCycle, texts_from, synchronous, of_locks}
-use Rattle.fp_scenario_plan.proofs.Beside.{as_many}
+use Rattle.fp_scenario_check.specs.Planned.{Planned, PlansHandler, at_each, pairs, stands_for, handler_path, action_path}
+use Rattle.fp_scenario_check.specs.Broken.{BreaksCycle, texts_from, synchronous, of_locks}
+use Rattle.fp_scenario_check.proofs.Beside.{as_many}
 use Rattle.fp_scenario_check.specs.Faults.{IsStop, counts, texts_counted}
 
 -- ---- within the counts

@@ -13,8 +13,8 @@ use Rattle.fp_tables.specs.declared.program.Caller.{Caller}
 use Rattle.fp_tables.specs.declared.program.Handler.{Handler}
 use Rattle.fp_tables.specs.declared.program.Answers.{Answers}
 use Rattle.fp_tables.specs.declared.program.Program.{Program}
-use Rattle.fp_scenario_values.proofs.Making.{not_both}
-use Rattle.fp_scenario_plan.specs.Planned.{IsTooLarge}
+use Rattle.fp_scenario_actions.proofs.Making.{not_both}
+use Rattle.fp_scenario_check.specs.Planned.{IsTooLarge}
 
 module _ (t : Described) where
   abbrev few : Bool

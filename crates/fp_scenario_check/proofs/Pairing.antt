@@ -1,7 +1,7 @@
 -- Two lists that grow side by side.
 use Rattle.std.proofs.Common.{◌≡◌, ◌<◌, ◌≤◌, ℕ, ◌+◌, List, [], ◌∷◌, ◌++◌, length, get_or, take, map, flat_map, refl, sym, ap, ◌∙◌, subst, append_assoc, append-nil}
 use Rattle.std.proofs.lemmas.List.{take_more, take_all}
-use Rattle.fp_scenario_plan.specs.Planned.{Pairwise}
+use Rattle.fp_scenario_check.specs.Planned.{Pairwise}
 
 module _ {A B : Type 0} (P : A → B → Type 0) where
   pub beside_append : (as_ : List A) (bs : List B) (cs : List A) (ds : List B) → Pairwise P as_ bs → Pairwise P cs ds → Pairwise P (as_ ++ cs) (bs ++ ds)

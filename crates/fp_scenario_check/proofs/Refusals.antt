@@ -9,7 +9,7 @@ use Rattle.fp_scenario.specs.declared.scenario.CallerText.{CallerText}
 use Rattle.fp_scenario.specs.declared.scenario.HandlerText.{HandlerText}
 use Rattle.fp_scenario.specs.declared.scenario.GuardText.{GuardText}
 use Rattle.fp_scenario.specs.declared.scenario.ScenarioStop.{ScenarioStop}
-use Rattle.fp_scenario_plan.specs.Planned.{Breaks, IsRepeated, caller_repeated, handler_repeated, guard_repeated, at_item, same_caller, same_handler, same_guard}
+use Rattle.fp_scenario_check.specs.Planned.{Breaks, IsRepeated, caller_repeated, handler_repeated, guard_repeated, at_item, same_caller, same_handler, same_guard}
 use Rattle.fp_scenario_check.specs.Faults.{IsStop, InItem, CallerFault, GuardFault, TextFault}
 use Rattle.fp_scenario_check.specs.Keys.{IsRepeat}
 use Rattle.fp_scenario_check.proofs.Refusing.{in_callers, in_guards, in_handlers}

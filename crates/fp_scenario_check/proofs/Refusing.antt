@@ -11,9 +11,9 @@ use Rattle.fp_scenario.specs.declared.scenario.HandlerText.{HandlerText}
 use Rattle.fp_scenario.specs.declared.scenario.ScenarioStop.{ScenarioStop}
 use Rattle.fp_scenario.specs.declared.scenario.ScenarioStop.TheVariants.{Broken, NoMemory}
 use Rattle.fp_scenario_actions.specs.Named.{placed_named}
-use Rattle.fp_scenario_plan.specs.Planned as plan
-use Rattle.fp_scenario_plan.specs.Planned.{Planned, Breaks, IsTooLarge, IsUnknownHandler, of_instance, stands_for, caller_path, handler_path, guard_path, action_path, list_path}
-use Rattle.fp_scenario_plan.specs.Broken.{IsRefusal}
+use Rattle.fp_scenario_check.specs.Planned as plan
+use Rattle.fp_scenario_check.specs.Planned.{Planned, Breaks, IsTooLarge, IsUnknownHandler, of_instance, stands_for, caller_path, handler_path, guard_path, action_path, list_path}
+use Rattle.fp_scenario_check.specs.Broken.{IsRefusal}
 use Rattle.fp_scenario_check.specs.Faults.{IsStop, InItem, CallerFault, GuardFault, TextFault, HandlerFault, ListFault, no_place, in_list, in_action, return_missing, IdleFault, counts}
 use Rattle.fp_scenario_check.proofs.Stopping.{stopped}
 use Rattle.fp_scenario_check.proofs.Counting.{CycleFault}

@@ -10,7 +10,7 @@ use Rattle.fp_tables.proofs.Optional.{some_and_of}
 use Rattle.fp_scenario.specs.declared.scenario.CallerText.{CallerText}
 use Rattle.fp_scenario.specs.declared.scenario.GuardText.{GuardText}
 use Rattle.fp_scenario.specs.declared.scenario.HandlerText.{HandlerText}
-use Rattle.fp_scenario_plan.specs.Planned.{IsRepeated, same_caller, same_guard, same_handler}
+use Rattle.fp_scenario_check.specs.Planned.{IsRepeated, same_caller, same_guard, same_handler}
 use Rattle.fp_scenario_check.specs.Keys.{IsRepeat, Key, key_cmp, same_key, texts_of}
 use Rattle.fp_scenario_check.proofs.Keyed.{key_by_texts, none_held, same_texts}
 

@@ -6,7 +6,7 @@ use Rattle.fp_scenario.specs.Broken.{below}
 use Rattle.fp_scenario.specs.Checked.{Stops, StopsBelow}
 use Rattle.fp_scenario.specs.declared.scenario.ScenarioStop.{ScenarioStop}
 use Rattle.fp_scenario.specs.declared.scenario.ScenarioStop.TheVariants.{Broken, NoMemory}
-use Rattle.fp_scenario_plan.specs.Planned.{action_path}
+use Rattle.fp_scenario_check.specs.Planned.{action_path}
 use Rattle.fp_scenario_actions.specs.declared.listing.ListHalt.{ListHalt}
 use Rattle.fp_scenario_actions.specs.declared.listing.ListHalt.TheVariants as halt
 use Rattle.fp_scenario_check.specs.Faults.{IsStop, StopsInList, InItem}

@@ -20,13 +20,13 @@ use Rattle.fp_scenario.specs.declared.scenario.Scenario.{Scenario}
 use Rattle.fp_scenario.specs.declared.scenario.CallerText.{CallerText}
 use Rattle.fp_scenario.specs.declared.scenario.HandlerText.{HandlerText}
 use Rattle.fp_scenario.specs.declared.scenario.GuardText.{GuardText}
-use Rattle.fp_scenario_values.proofs.Making.{not_both}
+use Rattle.fp_scenario_actions.proofs.Making.{not_both}
 use Rattle.fp_scenario_actions.specs.Named.{placed_named}
 use Rattle.fp_scenario_actions.specs.Spots.{spot_in}
 use Rattle.fp_scenario_actions.specs.Listing.{ActsPlan, lacks_return}
 use Rattle.fp_scenario_actions.proofs.Keeping.{acts_break_nothing}
 use Rattle.fp_scenario_actions.proofs.KeepingCalls.{calls_break_nothing}
-use Rattle.fp_scenario_plan.specs.Planned.{Pairwise, PlansHandler, PlansCaller, PlansAnswers, IsRepeated, IsTooLarge, IsPlaceUnknown, IsUnknownGuard, IsUnknownHandler, nothing_named, no_place, no_place_of_component, Stands, Breaks, too_large, caller_repeated, handler_repeated, guard_repeated, handler_unknown, guard_unknown, in_caller, in_handler, return_missing, IsWhole, is_of, has_own, of_instance, stands_for, at_each, pairs, component_named, running_at, guard_at, same_caller, same_handler, same_guard}
+use Rattle.fp_scenario_check.specs.Planned.{Pairwise, PlansHandler, PlansCaller, PlansAnswers, IsRepeated, IsTooLarge, IsPlaceUnknown, IsUnknownGuard, IsUnknownHandler, nothing_named, no_place, no_place_of_component, Stands, Breaks, too_large, caller_repeated, handler_repeated, guard_repeated, handler_unknown, guard_unknown, in_caller, in_handler, return_missing, IsWhole, is_of, has_own, of_instance, stands_for, at_each, pairs, component_named, running_at, guard_at, same_caller, same_handler, same_guard}
 use Rattle.fp_scenario_check.specs.Faults.{IdleFault}
 
 -- ---- items that are planned

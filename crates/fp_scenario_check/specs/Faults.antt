@@ -21,7 +21,7 @@ use Rattle.fp_scenario_actions.specs.Listing as listing
 use Rattle.fp_scenario_actions.specs.Calling as calling
 use Rattle.fp_scenario_actions.specs.declared.listing.ListHalt.{ListHalt}
 use Rattle.fp_scenario_actions.specs.declared.listing.ListHalt.TheVariants as halt
-use Rattle.fp_scenario_plan.specs.Planned.{IsPlaceUnknown, IsUnknownGuard, component_named, stands_for, action_path, list_path}
+use Rattle.fp_scenario_check.specs.Planned.{IsPlaceUnknown, IsUnknownGuard, component_named, stands_for, action_path, list_path}
 
 -- the position of the text of each handler, by how many each text gives, the first text having the number
 abbrev pub texts_counted : ℕ → List ℕ → List ℕ

@@ -11,7 +11,7 @@ use Rattle.std.specs.BTreeSet.{BTreeSet, contains_by}
 use Rattle.fp_scenario.specs.declared.scenario.Scenario.{Scenario}
 use Rattle.fp_scenario.specs.declared.scenario.HandlerText.{HandlerText}
 use Rattle.fp_scenario_actions.specs.Named.{placed_named}
-use Rattle.fp_scenario_plan.specs.Planned.{IsRepeated}
+use Rattle.fp_scenario_check.specs.Planned.{IsRepeated}
 use denote.Ref.{Bor}
 
 -- up to three texts

@@ -1,2 +1,4 @@
+pub mod Broken
 pub mod Faults
 pub mod Keys
+pub mod Planned

@@ -1,6 +1,6 @@
 ghost use Rattle.std.specs.Prelude.{◌≡◌, true, IfOk, IfErr};
 ghost use Rattle.fp_tables.specs.Positions.{lists_are_short};
-ghost use Rattle.fp_scenario_plan.specs.Planned.{Pairwise, PlansCaller};
+ghost use Rattle.fp_scenario_check.specs.Planned.{Pairwise, PlansCaller};
 ghost use Rattle.fp_scenario_check.specs.Faults.{IsStop, InItem, CallerFault};
 
 use crate::stops::stop_in_list;

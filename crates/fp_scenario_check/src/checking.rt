@@ -5,8 +5,8 @@ ghost use Rattle.fp_tables.specs.Positions.{lists_are_short};
 ghost use Rattle.fp_tables.specs.Sound.{IsSoundFor};
 ghost use Rattle.fp_tables.specs.SoundPrograms.{IsSoundProgram};
 ghost use Rattle.fp_scenario.specs.Same.{IsOfText};
-ghost use Rattle.fp_scenario_plan.specs.Planned.{Pairwise, PlansCaller, PlansHandler, PlansAnswers, Planned, Breaks, IsRepeated, IsTooLarge, IsWhole, pairs, stands_for, same_caller, same_handler, same_guard};
-ghost use Rattle.fp_scenario_plan.specs.Broken.{BreaksNothing, IsRefusal};
+ghost use Rattle.fp_scenario_check.specs.Planned.{Pairwise, PlansCaller, PlansHandler, PlansAnswers, Planned, Breaks, IsRepeated, IsTooLarge, IsWhole, pairs, stands_for, same_caller, same_handler, same_guard};
+ghost use Rattle.fp_scenario_check.specs.Broken.{BreaksNothing, IsRefusal};
 ghost use Rattle.fp_scenario_check.specs.Faults.{IsStop, IdleFault, counts as counted};
 ghost use Rattle.fp_scenario.specs.declared.scenario.HandlerText.{HandlerText as HandlerOf};
 
@@ -20,7 +20,7 @@ use crate::repeats::{repeated_caller, repeated_guard, repeated_handler};
 use crate::stops::stop_at_item;
 use fp_base::{PathStop, Row, Rule, Text};
 use fp_scenario::{Scenario, ScenarioStop, stop_under_key};
-use fp_scenario_plan::{acyclic_programs_break_nothing, planned_programs_are_sound};
+use crate::{acyclic_programs_break_nothing, planned_programs_are_sound};
 use fp_tables::{Answers, Caller, Program, Tables};
 use std::alloc::Global;
 

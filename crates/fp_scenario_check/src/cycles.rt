@@ -3,8 +3,8 @@ ghost use Rattle.fp_reach.specs.Cycles.{HasNoCycle, HasNoLockCycle};
 ghost use Rattle.fp_tables.specs.Positions.{lists_are_short};
 ghost use Rattle.fp_scenario.specs.Checked.{Stops};
 ghost use Rattle.fp_scenario.specs.declared.scenario.Scenario.{Scenario};
-ghost use Rattle.fp_scenario_plan.specs.Planned.{Planned, handler_path, action_path};
-ghost use Rattle.fp_scenario_plan.specs.Broken.{BreaksCycle};
+ghost use Rattle.fp_scenario_check.specs.Planned.{Planned, handler_path, action_path};
+ghost use Rattle.fp_scenario_check.specs.Broken.{BreaksCycle};
 ghost use Rattle.fp_scenario_check.specs.Faults.{IsStop, counts as counted, texts_counted};
 
 use crate::stops::stop_in_list;

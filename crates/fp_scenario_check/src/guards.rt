@@ -1,7 +1,7 @@
 ghost use Rattle.std.specs.Prelude.{◌≡◌, true, Some, None, IfOk, IfErr, MatchOption};
 ghost use Rattle.fp_tables.specs.Positions.{lists_are_short};
 ghost use Rattle.fp_scenario_actions.specs.Named.{placed_named};
-ghost use Rattle.fp_scenario_plan.specs.Planned.{Pairwise, PlansAnswers, running_at, guard_at, IsUnknownGuard};
+ghost use Rattle.fp_scenario_check.specs.Planned.{Pairwise, PlansAnswers, running_at, guard_at, IsUnknownGuard};
 ghost use Rattle.fp_scenario_check.specs.Faults.{IsStop, InItem, GuardFault};
 
 use fp_base::{Row, Rule};

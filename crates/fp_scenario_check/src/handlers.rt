@@ -2,7 +2,7 @@ ghost use Rattle.std.specs.Prelude.{◌≡◌, ℕ, true, Some, slice_get, flat_
 ghost use Rattle.fp_tables.specs.Positions.{lists_are_short};
 ghost use Rattle.fp_scenario.specs.declared.scenario.Scenario.{Scenario};
 ghost use Rattle.fp_scenario.specs.declared.scenario.HandlerText.{HandlerText as HandlerOf};
-ghost use Rattle.fp_scenario_plan.specs.Planned.{Pairwise, PlansHandler, at_each, stands_for};
+ghost use Rattle.fp_scenario_check.specs.Planned.{Pairwise, PlansHandler, at_each, stands_for};
 ghost use Rattle.fp_scenario_check.specs.Faults.{IsStop, InItem, TextFault, IdleFault, counts as counted};
 ghost use Rattle.fp_scenario_check.specs.Keys.{AreOwned};
 

@@ -4,7 +4,7 @@ ghost use Rattle.fp_tables.specs.Lookup.{component_of};
 ghost use Rattle.fp_tables.specs.Positions.{component_is_short, lists_are_short};
 ghost use Rattle.fp_tables.specs.Programs.{bound_at};
 ghost use Rattle.fp_scenario_actions.specs.Listing.{ActsPlan, lacks_return};
-ghost use Rattle.fp_scenario_plan.specs.Planned.{Pairwise, PlansHandler};
+ghost use Rattle.fp_scenario_check.specs.Planned.{Pairwise, PlansHandler};
 ghost use Rattle.fp_scenario_check.specs.Faults.{IsStop, ListFault, HandlerFault, FaultAtOne};
 
 use crate::stops::{stop_at_list, stop_in_list};

@@ -8,6 +8,7 @@ mod guards;
 mod handlers;
 mod handling;
 mod keys;
+mod laws;
 mod limits;
 mod owned;
 mod repeats;
@@ -15,3 +16,4 @@ mod standing;
 mod stops;
 
 pub use checking::check_scenario;
+pub use laws::{acyclic_programs_break_nothing, handlers_begin, planned_programs_are_sound, scenarios_stand_for_one_program};

@@ -1,5 +1,5 @@
 ghost use Rattle.std.specs.Prelude.{◌≡◌, true, MatchBool, IfOk};
-ghost use Rattle.fp_scenario_plan.specs.Planned.{IsTooLarge};
+ghost use Rattle.fp_scenario_check.specs.Planned.{IsTooLarge};
 
 use fp_base::{NoMemory, Row};
 use fp_sound_programs::SoundProgram;

@@ -1,6 +1,6 @@
 ghost use Rattle.std.specs.Prelude.{◌≡◌, ◌||◌, IfOk, OnOk};
 ghost use Rattle.std.specs.BTreeSet.{contains_by};
-ghost use Rattle.fp_scenario_plan.specs.Planned.{same_caller, same_handler, same_guard};
+ghost use Rattle.fp_scenario_check.specs.Planned.{same_caller, same_handler, same_guard};
 ghost use Rattle.fp_scenario_check.specs.Keys.{Key as KeyOf, key_cmp, same_key, IsRepeat};
 
 use crate::keys::{Key, keys_of_callers, keys_of_guards, keys_of_handlers};

@@ -3,7 +3,7 @@ ghost use Rattle.std.specs.Option.{option_copied};
 ghost use Rattle.fp_base.specs.declared.rule.Rule.TheVariants.{UnknownName};
 ghost use Rattle.fp_tables.specs.Positions.{lists_are_short};
 ghost use Rattle.fp_scenario.specs.declared.scenario.Scenario.{Scenario};
-ghost use Rattle.fp_scenario_plan.specs.Planned.{is_of, has_own, stands_for, component_named};
+ghost use Rattle.fp_scenario_check.specs.Planned.{is_of, has_own, stands_for, component_named};
 ghost use Rattle.fp_scenario_check.specs.Faults.{IsStop, NamesNothing, IdleFault};
 ghost use Rattle.fp_scenario_check.specs.Keys.{AreOwned};
 

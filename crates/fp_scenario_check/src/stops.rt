@@ -1,6 +1,6 @@
 ghost use Rattle.std.specs.Prelude.{[]};
 ghost use Rattle.fp_scenario.specs.Checked.{Stops};
-ghost use Rattle.fp_scenario_plan.specs.Planned.{at_item, list_path};
+ghost use Rattle.fp_scenario_check.specs.Planned.{at_item, list_path};
 ghost use Rattle.fp_scenario_check.specs.Faults.{StopsInList};
 
 use fp_base::Rule;

@@ -20,8 +20,8 @@ use Rattle.fp_scenario.specs.declared.scenario.GuardText.{GuardText}
 use Rattle.fp_scenario_actions.specs.Named.{placed_named}
 use Rattle.fp_scenario_actions.specs.Spots.{spot_in}
 use Rattle.fp_scenario_actions.specs.Listing.{ActsPlan, lacks_return}
-use Rattle.fp_scenario_plan.specs.Planned.{Pairwise, IsRepeated, PlansCaller, PlansAnswers, same_guard, PlansHandler, Planned, IsUnknownHandler, nothing_named, no_place, no_place_of_component, Stands, Breaks, too_large, caller_repeated, handler_repeated, guard_repeated, handler_unknown, guard_unknown, in_caller, in_handler, return_missing, is_of, has_own, of_instance, stands_for, at_each, pairs, component_named, same_caller, same_handler}
-use Rattle.fp_scenario_plan.specs.Broken.{texts_from, BreaksCycle, synchronous, of_locks, IsScenarioBroken}
+use Rattle.fp_scenario_check.specs.Planned.{Pairwise, IsRepeated, PlansCaller, PlansAnswers, same_guard, PlansHandler, Planned, IsUnknownHandler, nothing_named, no_place, no_place_of_component, Stands, Breaks, too_large, caller_repeated, handler_repeated, guard_repeated, handler_unknown, guard_unknown, in_caller, in_handler, return_missing, is_of, has_own, of_instance, stands_for, at_each, pairs, component_named, same_caller, same_handler}
+use Rattle.fp_scenario_check.specs.Broken.{texts_from, BreaksCycle, synchronous, of_locks, IsScenarioBroken}
 use Rattle.fp_scenario_run.proofs.Paired.{beside, paired_append, planned_beside, repeated_beside}
 use Rattle.fp_scenario_run.proofs.AlikeActs.{acts_plan, acts_break, lacks_alike}
 use Rattle.fp_scenario_run.proofs.AlikeCalls.{calls_plan, calls_break}

@@ -18,7 +18,7 @@ use Rattle.fp_scenario.specs.Same.{IsSameAct, Paired}
 use Rattle.fp_scenario.specs.declared.scenario.ActText.{ActText}
 use Rattle.fp_scenario.specs.declared.first_key.FirstKey.{FirstKey}
 use Rattle.fp_scenario.specs.declared.first_key.FirstKey.TheVariants as key
-use Rattle.fp_scenario_values.specs.Arguments.{AreArguments, is_bound}
+use Rattle.fp_scenario_actions.specs.Arguments.{AreArguments, is_bound}
 use Rattle.fp_scenario_actions.specs.Acting.{binding, names_are_bound, subject_of, name_in, kinds_in, is_known, is_wired, is_allowed, scope_after, Breaks, Plans}
 use Rattle.fp_scenario_actions.specs.Listing.{is_end, is_return, ends_in_return, lacks_return, ActsPlan, BreaksAt}
 

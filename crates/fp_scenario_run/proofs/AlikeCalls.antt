@@ -13,7 +13,7 @@ use Rattle.fp_scenario.specs.Same.{IsSameAct, Paired}
 use Rattle.fp_scenario.specs.declared.scenario.ActText.{ActText}
 use Rattle.fp_scenario.specs.declared.first_key.FirstKey.{FirstKey}
 use Rattle.fp_scenario.specs.declared.first_key.FirstKey.TheVariants as key
-use Rattle.fp_scenario_values.specs.Arguments.{AreArguments}
+use Rattle.fp_scenario_actions.specs.Arguments.{AreArguments}
 use Rattle.fp_scenario_actions.specs.Acting.{binding}
 use Rattle.fp_scenario_actions.specs.Calling.{subject_of, name_in, kinds_in, is_known, is_numbered, scope_after, Breaks, Plans, ActsPlan, BreaksAt}
 use Rattle.fp_scenario_run.proofs.AlikeActs.{with_values, alike, bound_alike}

@@ -3,7 +3,7 @@ use Rattle.std.proofs.Common.{◌≡◌, ℕ, zero, suc, Bool, List, [], ◌∷�
 use Rattle.fp_base.proofs.Options.{same_some}
 use Rattle.fp_tables.specs.Lists.{some_and}
 use Rattle.fp_scenario.specs.Same.{Paired}
-use Rattle.fp_scenario_plan.specs.Planned.{Pairwise, IsRepeated}
+use Rattle.fp_scenario_check.specs.Planned.{Pairwise, IsRepeated}
 
 module _ {A : Type 0} (R : A → A → Type 0) where
   -- what stands at a place has something beside it

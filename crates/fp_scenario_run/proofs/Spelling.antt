@@ -11,7 +11,7 @@ use Rattle.fp_scenario.specs.declared.scenario.Scenario.{Scenario}
 use Rattle.fp_scenario.specs.declared.scenario.ScenarioStop.{ScenarioStop}
 use Rattle.fp_scenario.specs.declared.scenario.ScenarioStop.TheVariants.{Broken, NoMemory}
 use Rattle.fp_scenario.specs.Checked.{IsRefusal as IsTextRefusal}
-use Rattle.fp_scenario_plan.specs.Broken.{BreaksNothing, IsRefusal}
+use Rattle.fp_scenario_check.specs.Broken.{BreaksNothing, IsRefusal}
 use Rattle.fp_scenario_run.specs.Planned.{IsSpelled, IsTextWhole, BreaksRule, IsRefused}
 use Rattle.fp_scenario_run.proofs.Alike.{broken_alike}
 

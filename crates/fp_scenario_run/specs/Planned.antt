@@ -9,8 +9,8 @@ use Rattle.fp_scenario.specs.Spelled.{Spells}
 use Rattle.fp_scenario.specs.declared.scenario.Scenario.{Scenario}
 use Rattle.fp_scenario.specs.declared.scenario.ScenarioStop.{ScenarioStop}
 use Rattle.fp_scenario.specs.declared.scenario.ScenarioStop.TheVariants.{Broken, NoMemory}
-use Rattle.fp_scenario_plan.specs.Planned.{Planned}
-use Rattle.fp_scenario_plan.specs.Broken.{IsScenarioBroken}
+use Rattle.fp_scenario_check.specs.Planned.{Planned}
+use Rattle.fp_scenario_check.specs.Broken.{IsScenarioBroken}
 
 -- the text is JSON whose value spells the scenario
 abbrev pub IsSpelled : List ℕ → Scenario → Type 0

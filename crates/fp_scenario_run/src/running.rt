@@ -8,9 +8,9 @@ ghost use Rattle.fp_events.specs.Run.{entry_lt, AreRecords};
 
 use fp_actor::actor_count;
 use fp_base::{NoMemory, Row};
-use fp_conclude::{conclude, run_alone};
+use fp_running::{conclude, run_alone};
 use fp_events::{Entry, Finish};
-use fp_merge::Kept;
+use fp_run_laws::Kept;
 use fp_outside::Gate;
 use fp_plant::Plant;
 use fp_rounds::run;

@@ -35,8 +35,8 @@ use Rattle.fp_written_parts.specs.declared.member.WrittenRunning.{WrittenRunning
 use Rattle.fp_written_parts.specs.declared.member.WrittenMember.TheVariants as member
 use Rattle.fp_component_forms.specs.declared.writing.WrittenSource.{WrittenSource}
 use Rattle.fp_component_forms.specs.Written.{ChannelIs, CommandIs, ComponentIs, EventIs, GeneralIs, ImportIs, InterfaceIs, InternalIs, IsWrittenSource, MatchIs, MemberIs, ParamIs, RunningIs, SpecialIs, Scoped, components, interfaces, member_part, part_of}
-use Rattle.fp_source_components.proofs.Places.{second_read}
-use Rattle.fp_sound_components.specs.Ready.{OfEachMember}
+use Rattle.fp_source_parts.proofs.Places.{second_read}
+use Rattle.fp_sound_parts.specs.Ready.{OfEachMember}
 
 pub each_by_place : {A : Type 0} (P : A → Type 0) (xs : List A) → ((k : ℕ) (x : A) → slice_get xs k ≡ Some x → P x) → AllByRecursion P xs
 each_by_place P [] each = tt

@@ -28,8 +28,8 @@ use Rattle.fp_types.specs.Converting.{Converts, IsWithin}
 use Rattle.fp_types.specs.WellWritten.{AllGiven, AreSoundTypes}
 use Rattle.fp_type_forms.specs.declared.resolving.Resolution.{Resolution}
 use Rattle.fp_type_forms.specs.Written.{KindIs}
-use Rattle.fp_part_forms.specs.Broken.{PartFormsBroken}
-use Rattle.fp_part_forms.specs.Standing.{NumbersStand}
+use Rattle.fp_part_values.specs.FormBroken.{PartFormsBroken}
+use Rattle.fp_part_values.specs.FormStanding.{NumbersStand}
 use Rattle.fp_part_values.specs.Broken.{PartValuesBroken}
 use Rattle.fp_part_values.specs.Standing.{HasLimit, IsPart}
 use Rattle.fp_written_parts.specs.declared.dictionary.WrittenChannel.{WrittenChannel}
@@ -41,11 +41,11 @@ use Rattle.fp_written_parts.specs.declared.member.WrittenMember.TheVariants as m
 use Rattle.fp_dictdefs.specs.Broken.{BrokenLimits, is_integer_kind}
 use Rattle.fp_component_forms.specs.declared.writing.WrittenSource.{WrittenSource}
 use Rattle.fp_component_forms.specs.Written.{ChannelIs, IsWrittenSource, LimitIs, MemberIs, SideIs, part_of}
-use Rattle.fp_source_components.specs.Broken.{BrokenBy}
-use Rattle.fp_source_components.specs.Valued.{IsValued}
-use Rattle.fp_source_components.proofs.Members.{interface_member_known, member_known}
-use Rattle.fp_source_components.proofs.Places.{second_read}
-use Rattle.fp_sound_components.specs.Ready.{HasFittingLimits, LimitsFit, OfEachMember}
+use Rattle.fp_source_parts.specs.Broken.{BrokenBy}
+use Rattle.fp_source_parts.specs.Valued.{IsValued}
+use Rattle.fp_source_parts.proofs.Members.{interface_member_known, member_known}
+use Rattle.fp_source_parts.proofs.Places.{second_read}
+use Rattle.fp_sound_parts.specs.Ready.{HasFittingLimits, LimitsFit, OfEachMember}
 use Rattle.fp_sound_parts.proofs.Good.{ConvertedHasKind, all_given}
 use Rattle.fp_sound_parts.proofs.Well.{given_at, sound_well}
 

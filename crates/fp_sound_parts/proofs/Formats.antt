@@ -32,8 +32,8 @@ use Rattle.fp_type_forms.specs.Written.{AllAt}
 use Rattle.fp_type_formats.specs.Broken.{BrokenByFormats}
 use Rattle.fp_type_formats.specs.Integers.{NamesNoInteger}
 use Rattle.fp_type_formats.specs.Readable.{Agree, AreReadable, IsReadableEvent}
-use Rattle.fp_part_forms.specs.Broken.{PartFormsBroken}
-use Rattle.fp_part_forms.specs.Standing.{NumbersStand}
+use Rattle.fp_part_values.specs.FormBroken.{PartFormsBroken}
+use Rattle.fp_part_values.specs.FormStanding.{NumbersStand}
 use Rattle.fp_part_values.specs.Standing.{IsPart}
 use Rattle.fp_written_parts.specs.declared.dictionary.WrittenEvent.{WrittenEvent}
 use Rattle.fp_written_parts.specs.declared.port.WrittenFormal.{WrittenFormal}
@@ -42,9 +42,9 @@ use Rattle.fp_written_parts.specs.declared.member.WrittenMember.TheVariants as m
 use Rattle.fp_component_forms.specs.declared.writing.WrittenSource.{WrittenSource}
 use Rattle.fp_component_forms.specs.Written.{EventIs, FormalIs, IsWrittenSource, MemberIs, part_of}
 use Rattle.fp_components.specs.Resolved.{formals_of}
-use Rattle.fp_source_components.specs.Valued.{IsValued}
-use Rattle.fp_source_components.proofs.Members.{interface_member_known, member_known}
-use Rattle.fp_sound_components.specs.Ready.{HasAgreeingFormat, OfEachMember}
+use Rattle.fp_source_parts.specs.Valued.{IsValued}
+use Rattle.fp_source_parts.proofs.Members.{interface_member_known, member_known}
+use Rattle.fp_sound_parts.specs.Ready.{HasAgreeingFormat, OfEachMember}
 use Rattle.fp_sound_parts.proofs.FormatsKinds.{integer_kind}
 
 -- a text is one list of pieces

@@ -49,7 +49,7 @@ use Rattle.fp_type_forms.specs.Written.{FormIs, IsWritten, KindIs, TypeHere, typ
 use Rattle.fp_type_forms.proofs.Following.{items_whole}
 use Rattle.fp_source_types.specs.Typed.{AreTypesOf}
 use Rattle.fp_type_formats.specs.Integers.{NamesNoInteger, by_alias, by_definition, by_word, is_other_definition, is_other_word, sites_of}
-use Rattle.fp_source_components.proofs.Places.{as_long, second_read}
+use Rattle.fp_source_parts.proofs.Places.{as_long, second_read}
 
 -- ---- the type that a definition is
 

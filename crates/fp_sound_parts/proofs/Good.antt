@@ -17,8 +17,8 @@ use Rattle.fp_types.specs.Converting.{Converts, DefaultIs, empty, plainly, untru
 use Rattle.fp_types.specs.WellWritten.{AllGiven, AreSoundTypes, AreWellWritten}
 use Rattle.fp_type_forms.specs.declared.resolving.Resolution.{Resolution}
 use Rattle.fp_type_forms.proofs.OneForm.{one_list}
-use Rattle.fp_source_components.specs.Valued.{IsValued}
-use Rattle.fp_sound_components.specs.Ready.{IsGood}
+use Rattle.fp_source_parts.specs.Valued.{IsValued}
+use Rattle.fp_sound_parts.specs.Ready.{IsGood}
 use Rattle.fp_sound_parts.proofs.Well.{given_at, sound_well, type_with}
 
 -- the laws on types that are cited here

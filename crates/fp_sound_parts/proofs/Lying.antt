@@ -26,9 +26,9 @@ use Rattle.fp_written_parts.specs.declared.member.WrittenMember.{WrittenMember}
 use Rattle.fp_component_forms.specs.declared.writing.WrittenSource.{WrittenSource}
 use Rattle.fp_component_forms.specs.Written.{BothOrNeither, FormalIs, IsWrittenSource, PortDefIs, Scoped, TypeNameIs, port_definitions}
 use Rattle.fp_tree.specs.declared.definition.Port.{Port}
-use Rattle.fp_source_components.proofs.Places.{as_long}
-use Rattle.fp_source_components.proofs.Positions.{type_lies}
-use Rattle.fp_sound_components.specs.Ready.{OfEachMember, definition_lies, formals_lie, member_lies}
+use Rattle.fp_source_parts.proofs.Places.{as_long}
+use Rattle.fp_source_parts.proofs.Positions.{type_lies}
+use Rattle.fp_sound_parts.specs.Ready.{OfEachMember, definition_lies, formals_lie, member_lies}
 use Rattle.fp_sound_parts.proofs.Each.{ByForm, any_component, any_interface, of_each_member}
 
 -- as many types as the source defines

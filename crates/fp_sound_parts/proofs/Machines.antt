@@ -33,15 +33,15 @@ use Rattle.fp_source_types.specs.Typed.{AreTypesOf}
 use Rattle.fp_machines.specs.Made.{kind_at, machine_of, machine_with}
 use Rattle.fp_machines.specs.Ordered.{AreWellPlaced}
 use Rattle.fp_component_forms.specs.Written.{PositionIs, Scoped, among, qualified}
-use Rattle.fp_source_components.specs.Machines.{machine_in, machines}
-use Rattle.fp_source_components.specs.Machines as all
-use Rattle.fp_source_components.proofs.Places.{as_long, second_read}
-use Rattle.fp_source_components.proofs.Positions.{position_lies}
-use Rattle.fp_source_machines.specs.Broken.{BrokenBehavior, BrokenItem, BrokenMachine, BrokenModel, MachinesBroken}
-use Rattle.fp_source_machines.specs.Built.{AreMachinesOf, IsMachine}
-use Rattle.fp_source_machines.specs.Declared.{DeclareAll, Declares, FormDeclares, TypeIs}
-use Rattle.fp_source_machines.specs.Ordered.{IsOrdered, IsOrderedModel, MachinesAreOrdered}
-use Rattle.fp_sound_behaviors.specs.Sound.{HasSoundBody, HasSoundOutline, IsUnbrokenBehavior}
+use Rattle.fp_source_parts.specs.Machines.{machine_in, machines}
+use Rattle.fp_source_parts.specs.Machines as all
+use Rattle.fp_source_parts.proofs.Places.{as_long, second_read}
+use Rattle.fp_source_parts.proofs.Positions.{position_lies}
+use Rattle.fp_source_parts.specs.MachineBroken.{BrokenBehavior, BrokenItem, BrokenMachine, BrokenModel, MachinesBroken}
+use Rattle.fp_source_parts.specs.MachineBuilt.{AreMachinesOf, IsMachine}
+use Rattle.fp_source_parts.specs.Declared.{DeclareAll, Declares, FormDeclares, TypeIs}
+use Rattle.fp_source_parts.specs.Ordered.{IsOrdered, IsOrderedModel, MachinesAreOrdered}
+use Rattle.fp_sound_parts.specs.Sound.{HasSoundBody, HasSoundOutline, IsUnbrokenBehavior}
 use Rattle.fp_sound_parts.specs.Machines.{AreSoundMachines, IsSoundMachine}
 use Rattle.fp_sound_parts.proofs.Each.{each_by_place}
 use Rattle.fp_sound_parts.proofs.Lying.{as_many, kind_lying}

@@ -32,7 +32,7 @@ use Rattle.fp_written_parts.specs.declared.member.WrittenComponent.{WrittenCompo
 use Rattle.fp_written_parts.specs.declared.member.WrittenMember.{WrittenMember}
 use Rattle.fp_component_forms.specs.declared.writing.WrittenSource.{WrittenSource}
 use Rattle.fp_component_forms.specs.Written.{ComponentIs, FormalIs, FormalsAre, IsWrittenSource, PortDefIs, Scoped, component_in, component_of, components, interface_in, interface_of, interfaces, part_of, port_definitions, port_in, port_of, qualified}
-use Rattle.fp_sound_components.specs.Ready.{OfEachMember, formals_have_names, member_has_names}
+use Rattle.fp_sound_parts.specs.Ready.{OfEachMember, formals_have_names, member_has_names}
 use Rattle.fp_sound_parts.proofs.Each.{ByForm, each_by_place, each_of_all, of_each_member}
 
 -- ---- what is known of each item

@@ -27,17 +27,17 @@ use Rattle.fp_written_parts.specs.declared.member.WrittenComponent.{WrittenCompo
 use Rattle.fp_written_parts.specs.declared.member.WrittenInterface.{WrittenInterface}
 use Rattle.fp_written_parts.specs.declared.port.WrittenPortDef.{WrittenPortDef}
 use Rattle.fp_dictdefs.specs.Broken.{DictionaryBroken}
-use Rattle.fp_port_rules.specs.Broken.{PortsBroken}
+use Rattle.fp_component_rules.specs.PortBroken.{PortsBroken}
 use Rattle.fp_component_rules.specs.Broken.{ComponentsBroken}
 use Rattle.fp_components.specs.Resolved.{AreComponents, port_def_of}
-use Rattle.fp_source_components.specs.Broken.{BrokenBy, PartsBroken}
-use Rattle.fp_source_components.specs.Built.{ArePartsOf}
-use Rattle.fp_source_components.specs.Machines.{InstancesBroken}
-use Rattle.fp_source_components.specs.Valued.{IsValued}
-use Rattle.fp_source_components.specs.declared.parts.Parts.{Parts}
-use Rattle.fp_source_machines.specs.Built.{AreMachinesOf}
-use Rattle.fp_sound_components.specs.Ready.{AreReady}
-use Rattle.fp_sound_components.specs.Sound.{AreSound}
+use Rattle.fp_source_parts.specs.Broken.{BrokenBy, PartsBroken}
+use Rattle.fp_source_parts.specs.Built.{ArePartsOf}
+use Rattle.fp_source_parts.specs.Machines.{InstancesBroken}
+use Rattle.fp_source_parts.specs.Valued.{IsValued}
+use Rattle.fp_source_parts.specs.declared.parts.Parts.{Parts}
+use Rattle.fp_source_parts.specs.MachineBuilt.{AreMachinesOf}
+use Rattle.fp_sound_parts.specs.Ready.{AreReady}
+use Rattle.fp_sound_parts.specs.ComponentSound.{AreSound}
 use Rattle.fp_sound_parts.proofs.Fitting.{LimitsConvert, PartNumbersStand, limits_fit}
 use Rattle.fp_sound_parts.proofs.Formats.{formats_agree}
 use Rattle.fp_sound_parts.proofs.Good.{ConvertedHasKind, ConvertedIsOfSize, DefaultHasForm, OneDefault, all_given, converted_good, defaults_good}

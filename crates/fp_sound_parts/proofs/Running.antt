@@ -21,16 +21,16 @@ use Rattle.fp_tables.specs.declared.machine.Machine.{Machine}
 use Rattle.fp_written_parts.specs.declared.member.WrittenMember.{WrittenMember}
 use Rattle.fp_written_parts.specs.declared.member.WrittenMember.TheVariants as member
 use Rattle.fp_written_parts.specs.declared.member.WrittenRunning.{WrittenRunning}
-use Rattle.fp_interfaces.proofs.Named.{same_bytes}
+use Rattle.fp_component_rules.proofs.Named.{same_bytes}
 use Rattle.fp_dictdefs.specs.Running.{InstanceBroken}
 use Rattle.fp_machines.specs.Made.{machine_of}
 use Rattle.fp_components.specs.Resolved.{running_in}
 use Rattle.fp_component_forms.specs.declared.writing.WrittenSource.{WrittenSource}
 use Rattle.fp_component_forms.specs.Written.{IsWrittenSource, Scoped, interfaces, part_of}
-use Rattle.fp_source_components.specs.Machines.{InstancesBroken, externals, is_outside, machines}
-use Rattle.fp_source_components.proofs.Places.{as_long, second_read}
-use Rattle.fp_source_machines.specs.Built.{AreMachinesOf, IsMachine}
-use Rattle.fp_sound_components.specs.Ready.{OfEachMember, RunsFitting, instances_differ}
+use Rattle.fp_source_parts.specs.Machines.{InstancesBroken, externals, is_outside, machines}
+use Rattle.fp_source_parts.proofs.Places.{as_long, second_read}
+use Rattle.fp_source_parts.specs.MachineBuilt.{AreMachinesOf, IsMachine}
+use Rattle.fp_sound_parts.specs.Ready.{OfEachMember, RunsFitting, instances_differ}
 use Rattle.fp_sound_parts.proofs.Each.{ByForm, any_component, any_interface, in_interface, of_each_member}
 use Rattle.fp_sound_parts.proofs.Machines.{machine_lies, there}
 

@@ -15,8 +15,8 @@ use Rattle.fp_written_parts.specs.declared.port.WrittenRole.{WrittenRole}
 use Rattle.fp_written_parts.specs.declared.port.WrittenRole.TheVariants as role
 use Rattle.fp_component_forms.specs.declared.writing.WrittenSource.{WrittenSource}
 use Rattle.fp_component_forms.specs.Written.{IsWrittenSource, PortDefIs, PortDefsAre, Scoped, SpecialTypeIs, port_definitions, port_names, qualified, role_of, special_of}
-use Rattle.fp_source_components.proofs.Places.{second_read}
-use Rattle.fp_sound_components.specs.Ready.{DefinitionSuits, HasItsDefinition, OfEachMember}
+use Rattle.fp_source_parts.proofs.Places.{second_read}
+use Rattle.fp_sound_parts.specs.Ready.{DefinitionSuits, HasItsDefinition, OfEachMember}
 use Rattle.fp_sound_parts.proofs.Each.{ByForm, any_component, any_interface, of_each_member}
 
 -- ---- definitions of ports

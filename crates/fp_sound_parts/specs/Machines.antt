@@ -3,7 +3,7 @@ use Rattle.std.specs.Prelude.{◌≡◌, ℕ, true, false, List, Some, slice_get
 use Rattle.fp_tables.specs.Names.{is_qualified}
 use Rattle.fp_tables.specs.declared.kind.TypeDef.{TypeDef}
 use Rattle.fp_tables.specs.declared.machine.Machine.{Machine}
-use Rattle.fp_sound_behaviors.specs.Sound.{HasSoundBody, HasSoundOutline}
+use Rattle.fp_sound_parts.specs.Sound.{HasSoundBody, HasSoundOutline}
 
 -- one whose body is written elsewhere has an outline alone
 pub record IsSoundMachine (types : List TypeDef) (m : Machine) : Type 0 where

@@ -1,8 +1,10 @@
 mod Below
 mod Growing
 mod Items
+mod Kinded
 mod Numbers
 mod Once
 pub mod Places
 mod PortNames
 mod Rows
+pub mod Texts

@@ -21,10 +21,10 @@ use Rattle.fp_meaning.specs.Origins.{expressions, expressions_of, one}
 use Rattle.fp_meaning.specs.Sites.{Declaration, ModelDef, component, declaration, in_optional, instance, interface, machine, topology, value_in}
 use Rattle.fp_meaning.specs.Values.{Val, opened}
 use Rattle.fp_type_forms.specs.Written.{NumberIs}
-use Rattle.fp_part_forms.specs.Names.{written}
-use Rattle.fp_part_forms.specs.Numbers.{connection_numbers, instance_numbers, topology_member_numbers}
-use Rattle.fp_part_forms.specs.Standing.{AreValued, NumbersStand}
-use Rattle.fp_part_forms.proofs.Standing.{HasValue as IsPlaced, each_given, owned}
+use Rattle.fp_part_values.specs.Names.{written}
+use Rattle.fp_part_values.specs.Numbers.{connection_numbers, instance_numbers, topology_member_numbers}
+use Rattle.fp_part_values.specs.FormStanding.{AreValued, NumbersStand}
+use Rattle.fp_part_values.proofs.Standing.{HasValue as IsPlaced, each_given, owned}
 use Rattle.fp_written_parts.specs.declared.port.Given.{Given}
 use Rattle.fp_component_forms.specs.Written.{BothOrNeither, GivenIs, Scoped}
 use Rattle.fp_written_topologies.specs.Given.{DeploymentHasNumbers, HasNumber, HasNumberWhereGiven, InstanceHasNumbers}

@@ -2,14 +2,14 @@ ghost use Rattle.std.specs.Prelude.{◌≡◌, length};
 ghost use Rattle.fp_base.specs.Least.{IsUnbroken};
 ghost use Rattle.fp_tree.specs.declared.source.Source.{Source};
 ghost use Rattle.fp_component_forms.specs.Written.{components};
-ghost use Rattle.fp_part_forms.specs.Broken.{PartFormsBroken};
-ghost use Rattle.fp_part_forms.specs.Standing.{AreValued};
+ghost use Rattle.fp_part_values.specs.FormBroken.{PartFormsBroken};
+ghost use Rattle.fp_part_values.specs.FormStanding.{AreValued};
 ghost use Rattle.fp_written_topologies.specs.Given.{DeploymentHasNumbers};
 ghost use Rattle.fp_written_topologies.specs.Lying.{DeploymentLies};
 ghost use Rattle.fp_written_topologies.specs.declared.topology.WrittenDeployment.{WrittenDeployment};
 ghost use Rattle.fp_topology_forms.specs.Written.{IsWrittenDeployment};
 
-use fp_part_forms::unbroken_part_numbers_stand;
+use fp_part_values::unbroken_part_numbers_stand;
 
 /// What is written of the instances and topologies of a source is one thing.
 pub fn one_deployment()

@@ -5,6 +5,7 @@ mod adding;
 mod connections;
 mod laws;
 mod members;
+mod names_laws;
 mod patterns;
 mod ranks;
 mod uses;
@@ -12,4 +13,5 @@ mod wholes;
 mod writing;
 
 pub use laws::{deployments_have_numbers, one_deployment, written_deployments_lie};
+pub use names_laws::{deployment_names_are_qualified, deployment_names_differ};
 pub use writing::deployment_written;

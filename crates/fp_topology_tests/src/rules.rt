@@ -1,8 +1,7 @@
 use fp_base::{NoMemory, Place, Refusal};
-use fp_connection_rules::{ConnectionFacts, EndFacts, JoinedPort, connection_faults};
-use fp_instance_rules::{InstanceFacts, instance_faults};
+use fp_topologies::{ConnectionFacts, EndFacts, JoinedPort, connection_faults, member_faults};
+use fp_instances::{InstanceFacts, instance_faults};
 use fp_tables::{Queueing, Role, Special, Way};
-use fp_topology_members::member_faults;
 use fp_written_parts::Given;
 use fp_written_topologies::UsedInstance;
 use std::alloc::Global;

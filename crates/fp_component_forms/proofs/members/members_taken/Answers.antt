@@ -3,7 +3,7 @@ use Rattle.std.proofs.lemmas.Option.{slice_get_read}
 use Rattle.fp_tree.specs.declared.component.Part.{Part}
 use Rattle.fp_meaning.specs.Layout.{own_items}
 use Rattle.fp_type_forms.proofs.Taking.{taken_as}
-use Rattle.fp_part_forms.specs.Names.{part_names}
+use Rattle.fp_part_values.specs.Names.{part_names}
 use Rattle.fp_component_forms.specs.Taken.{row_of}
 use Rattle.fp_component_forms.specs.Written.{AllHaveTypes, HasType, MemberIs, member_part}
 use Rattle.fp_component_forms.proofs.Lists.{KeptAre, all_read, each_given, kept_joined, kept_one, next_read, none_read}

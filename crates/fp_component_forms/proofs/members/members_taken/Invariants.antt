@@ -2,7 +2,7 @@ use Rattle.fp_tree.specs.declared.source.Source.{Source}
 use Rattle.fp_tree.specs.declared.component.Part.{Part}
 use Rattle.fp_meaning.specs.Layout.{own_items}
 use Rattle.fp_meaning.specs.Names.{Path}
-use Rattle.fp_part_forms.specs.Names.{part_names}
+use Rattle.fp_part_values.specs.Names.{part_names}
 use Rattle.fp_component_forms.specs.Positions.{ArePositions}
 use Rattle.fp_component_forms.specs.Written.{AllHaveTypes, MemberIs, member_part}
 use Rattle.fp_component_forms.proofs.Lists.{KeptAre, ReadsFirst}

@@ -5,7 +5,7 @@ use Rattle.fp_meaning.specs.Layout.{type_items, formals_items}
 use Rattle.fp_meaning.specs.Names.{in_optional}
 use Rattle.fp_type_forms.specs.Resolved.{Takes}
 use Rattle.fp_type_forms.proofs.Taking.{taken_all, taken_then}
-use Rattle.fp_part_forms.specs.Names.{formal_names, written}
+use Rattle.fp_part_values.specs.Names.{formal_names, written}
 use Rattle.fp_component_forms.specs.Taken.{FormalsWhere}
 use Rattle.fp_component_forms.specs.Written.{HasType}
 use Rattle.fp_component_forms.proofs.Readers.{results_named}

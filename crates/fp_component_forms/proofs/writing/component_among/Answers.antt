@@ -6,7 +6,7 @@ use Rattle.fp_meaning.specs.Layout.{model_own_items, component_scope}
 use Rattle.fp_meaning.specs.Names.{Path}
 use Rattle.fp_type_forms.specs.Resolved.{AreResolved}
 use Rattle.fp_type_forms.specs.Written.{AllAt}
-use Rattle.fp_part_forms.specs.Names.{part_names}
+use Rattle.fp_part_values.specs.Names.{part_names}
 use Rattle.fp_component_forms.specs.Written.{AllHaveTypes, ComponentIs, ModelNamesStand, component_in, scoped}
 use Rattle.fp_component_forms.proofs.writing.component_among.Goals as goal
 

@@ -3,7 +3,7 @@ use Rattle.fp_base.specs.Least.{IsLeast}
 use Rattle.fp_base.proofs.Calculus.{least_along, least_either}
 use Rattle.fp_written_parts.specs.declared.member.WrittenMember.{WrittenMember}
 use Rattle.fp_written_parts.specs.Giving.{ImportsWithin}
-use Rattle.fp_interfaces.specs.Gifts.{IsGift}
+use Rattle.fp_component_rules.specs.Gifts.{IsGift}
 use Rattle.fp_component_rules.specs.Broken.{MatchesBroken, QueueBroken, RepeatsBroken, SpecialBroken}
 use Rattle.fp_component_rules.proofs.faults.component_fault.Goals as goal
 

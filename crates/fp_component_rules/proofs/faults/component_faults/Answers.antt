@@ -1,7 +1,7 @@
 use Rattle.std.proofs.Common.{List, sym, subst}
 use Rattle.fp_base.proofs.Calculus.{least_along, least_either}
-use Rattle.fp_interfaces.specs.declared.gift.Gift.{Gift}
-use Rattle.fp_interfaces.specs.Gifts.{AreGifts}
+use Rattle.fp_component_rules.specs.declared.gift.Gift.{Gift}
+use Rattle.fp_component_rules.specs.Gifts.{AreGifts}
 use Rattle.fp_component_rules.proofs.faults.component_faults.Goals as goal
 
 pub returns : goal.returns

@@ -1,8 +1,8 @@
 use Rattle.std.proofs.Common.{List}
 use Rattle.fp_base.specs.Least.{InFirst, IsLeast}
 use Rattle.fp_written_parts.specs.declared.member.WrittenInterface.{WrittenInterface}
-use Rattle.fp_interfaces.specs.Gifts.{AreGifts}
-use Rattle.fp_interfaces.specs.Lists.{AreImportsWithin}
+use Rattle.fp_component_rules.specs.Gifts.{AreGifts}
+use Rattle.fp_component_rules.specs.Lists.{AreImportsWithin}
 use Rattle.fp_component_rules.specs.Broken.{ComponentBroken}
 use Rattle.fp_component_rules.proofs.faults.each_component_fault.Given as goal
 

@@ -1,5 +1,5 @@
 use Rattle.fp_base.specs.Least.{InFirst, IsLeast}
-use Rattle.fp_interfaces.specs.Gifts.{AreGifts, AreWithin}
+use Rattle.fp_component_rules.specs.Gifts.{AreGifts, AreWithin}
 use Rattle.fp_component_rules.specs.Broken.{InterfaceBroken}
 use Rattle.fp_component_rules.proofs.faults.interfaces_fault.Given as goal
 

@@ -1,7 +1,7 @@
 use Rattle.std.proofs.Common.{◌≡◌, ℕ, List, map, take}
 use Rattle.std.specs.Prelude.{option_map}
 use Rattle.std.specs.List.{find}
-use Rattle.fp_interfaces.specs.Firsts.{is_named}
+use Rattle.fp_component_rules.specs.Firsts.{is_named}
 use Rattle.fp_component_rules.specs.Tested.{end_of, find_end}
 use Rattle.fp_component_rules.proofs.matching.ends_of.Given as goal
 

@@ -1,7 +1,7 @@
 use Rattle.std.proofs.Common.{List}
 use Rattle.fp_base.specs.Least.{InFirst, IsLeast}
 use Rattle.fp_written_parts.specs.declared.member.WrittenInterface.{WrittenInterface}
-use Rattle.fp_interfaces.specs.Gifts.{IsGift}
+use Rattle.fp_component_rules.specs.Gifts.{IsGift}
 use Rattle.fp_component_rules.specs.Broken.{MatchAt}
 use Rattle.fp_component_rules.proofs.matching.matches_fault.Given as goal
 

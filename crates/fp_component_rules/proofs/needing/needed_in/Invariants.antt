@@ -1,7 +1,7 @@
 use Rattle.std.proofs.Common.{◌≡◌, take}
 use Rattle.std.specs.List.{list_any}
 use Rattle.fp_tables.specs.declared.component.Special.{Special}
-use Rattle.fp_interfaces.specs.Firsts.{has_kind}
+use Rattle.fp_component_rules.specs.Firsts.{has_kind}
 use Rattle.fp_component_rules.specs.Broken.{needs}
 use Rattle.fp_component_rules.proofs.needing.needed_in.Given as goal
 

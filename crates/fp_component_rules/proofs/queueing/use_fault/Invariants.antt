@@ -2,7 +2,7 @@ use Rattle.std.proofs.Common.{List}
 use Rattle.fp_base.specs.Least.{InFirst, IsLeast}
 use Rattle.fp_written_parts.specs.declared.member.WrittenInterface.{WrittenInterface}
 use Rattle.fp_written_parts.specs.Giving.{ImportsWithin}
-use Rattle.fp_interfaces.specs.Gifts.{AreGifts}
+use Rattle.fp_component_rules.specs.Gifts.{AreGifts}
 use Rattle.fp_component_rules.specs.Broken.{UseAt}
 use Rattle.fp_component_rules.proofs.queueing.use_fault.Given as goal
 

@@ -4,7 +4,7 @@ use Rattle.fp_base.specs.declared.refusal.Refusal.{Refusal}
 use Rattle.fp_base.specs.declared.rule.Rule.TheVariants.{PortNameRepeated, SpecialPort}
 use Rattle.fp_base.specs.Least.{lesser_of}
 use Rattle.fp_written_parts.specs.declared.port.WrittenPort.{WrittenPort}
-use Rattle.fp_interfaces.specs.Firsts.{has_port}
+use Rattle.fp_component_rules.specs.Firsts.{has_port}
 use Rattle.fp_component_rules.specs.Broken.{giver_at}
 use Rattle.fp_component_rules.specs.Tested.{any_seen, fault_at, have_common}
 use Rattle.fp_component_rules.proofs.Passing.{any_mapped}

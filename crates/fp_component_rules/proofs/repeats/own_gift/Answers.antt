@@ -2,7 +2,7 @@ use Rattle.std.proofs.Common.{List, sym, subst}
 use Rattle.std.specs.Prelude.{IfOk}
 use Rattle.fp_written_parts.specs.declared.member.WrittenMember.{WrittenMember}
 use Rattle.fp_written_parts.specs.Giving.{ImportsWithin}
-use Rattle.fp_interfaces.specs.Gifts.{IsGift}
+use Rattle.fp_component_rules.specs.Gifts.{IsGift}
 use Rattle.fp_component_rules.proofs.repeats.own_gift.Goals as goal
 
 pub returns : goal.returns

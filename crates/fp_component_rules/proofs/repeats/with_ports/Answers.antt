@@ -3,7 +3,7 @@ use Rattle.std.proofs.lemmas.List.{take_all}
 use Rattle.std.proofs.lemmas.Option.{slice_get_read}
 use denote.Ref.{Bor}
 use Rattle.fp_written_parts.specs.declared.port.WrittenPort.{WrittenPort}
-use Rattle.fp_interfaces.specs.Firsts.{has_port, is_named}
+use Rattle.fp_component_rules.specs.Firsts.{has_port, is_named}
 use Rattle.fp_component_rules.proofs.Passing.{any_pushed, has_with, mapped_next, or_assoc, or_false}
 use Rattle.fp_component_rules.proofs.repeats.with_ports.Goals as goal
 

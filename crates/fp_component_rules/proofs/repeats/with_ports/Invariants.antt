@@ -1,5 +1,5 @@
 use Rattle.std.proofs.Common.{◌≡◌, ◌||◌, ℕ, List, map, take}
-use Rattle.fp_interfaces.specs.Firsts.{has_port}
+use Rattle.fp_component_rules.specs.Firsts.{has_port}
 use Rattle.fp_component_rules.proofs.repeats.with_ports.Given as goal
 
 abbrev pub invariant-loop-port : goal.invariant-loop-port

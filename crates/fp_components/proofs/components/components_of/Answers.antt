@@ -1,7 +1,7 @@
 use Rattle.std.proofs.Common.{sym, subst}
 use Rattle.fp_base.proofs.Options.{if_ok_then}
-use Rattle.fp_interfaces.specs.Gifts.{AreGifts}
-use Rattle.fp_interfaces.specs.Lists.{ArePortLists}
+use Rattle.fp_component_rules.specs.Gifts.{AreGifts}
+use Rattle.fp_component_rules.specs.Lists.{ArePortLists}
 use Rattle.fp_components.specs.Resolved.{AreComponents}
 use Rattle.fp_components.proofs.components.components_of.Goals as goal
 

@@ -1,6 +1,6 @@
 use Rattle.std.proofs.Common.{List, take}
 use Rattle.fp_written_parts.specs.declared.member.WrittenInterface.{WrittenInterface}
-use Rattle.fp_interfaces.specs.Lists.{ArePortLists}
+use Rattle.fp_component_rules.specs.Lists.{ArePortLists}
 use Rattle.fp_components.specs.Resolved.{AreEach, IsComponent}
 use Rattle.fp_components.specs.Whole.{AreWholeEach}
 use Rattle.fp_components.proofs.components.resolved.Given as goal

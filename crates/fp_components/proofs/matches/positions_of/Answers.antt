@@ -5,7 +5,7 @@ use Rattle.std.specs.Prelude.{option_map}
 use denote.Ref.{Bor}
 use Rattle.fp_tables.proofs.Firsts.{position_at}
 use Rattle.fp_written_parts.specs.declared.port.WrittenPort.{WrittenPort}
-use Rattle.fp_interfaces.specs.Firsts.{is_named}
+use Rattle.fp_component_rules.specs.Firsts.{is_named}
 use Rattle.fp_components.specs.Listing.{or_first}
 use Rattle.fp_components.proofs.matches.positions_of.Goals as goal
 

@@ -2,7 +2,7 @@ use Rattle.std.proofs.Common.{◌++◌, ◌∙◌, ap, codes, List}
 use Rattle.fp_tables.specs.declared.component.Limit.{Limit}
 use Rattle.serde_json.specs.Data.{object, string}
 use Rattle.serde_json.specs.Written.{has_float}
-use Rattle.fp_dictionary_types.specs.Objects.{annotation, held, optional, with_entries}
+use Rattle.fp_dictionary.specs.Objects.{annotation, held, optional, with_entries}
 use Rattle.fp_dictionary.specs.Members.{limit_entries}
 use Rattle.fp_dictionary.proofs.Entries.{three_lists}
 use Rattle.fp_dictionary.proofs.Floats.{channel_no_float}

@@ -1,7 +1,7 @@
 use Rattle.std.proofs.Common.{◌∙◌, ap, sym, List}
 use Rattle.std.proofs.lemmas.Result.{on_ok_weaker}
 use Rattle.serde_json.specs.Data.{Data, put}
-use Rattle.fp_dictionary_types.specs.Objects.{Entry, held, with_entries}
+use Rattle.fp_dictionary.specs.Objects.{Entry, held, with_entries}
 use Rattle.fp_dictionary.proofs.Sides.{no_side, some_side}
 use Rattle.fp_dictionary.proofs.channels.put_side.Goals as goal
 

@@ -1,6 +1,6 @@
 use Rattle.std.proofs.Common.{◌≡◌, drop, map}
 use Rattle.serde_json.specs.Data.{no_members}
-use Rattle.fp_dictionary_types.specs.Objects.{held, with_entries}
+use Rattle.fp_dictionary.specs.Objects.{held, with_entries}
 use Rattle.fp_dictionary.specs.Members.{color_entry, side}
 use Rattle.fp_dictionary.proofs.channels.side_value.Given as goal
 

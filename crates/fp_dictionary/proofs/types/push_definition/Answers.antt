@@ -1,6 +1,6 @@
 use Rattle.std.proofs.Common.{◌∙◌, ap}
 use Rattle.serde_json.specs.Written.{has_float}
-use Rattle.fp_dictionary_types.proofs.Floats.{type_no_float}
+use Rattle.fp_dictionary.proofs.DescriptorFloats.{type_no_float}
 use Rattle.fp_dictionary.proofs.types.push_definition.Goals as goal
 
 pub push_item-requires : goal.push_item-requires

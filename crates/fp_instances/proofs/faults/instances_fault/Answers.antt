@@ -1,8 +1,8 @@
 use Rattle.std.proofs.Common.{List, ap, sym, subst, ◌∙◌}
 use Rattle.fp_base.specs.Least.{IsLeast}
 use Rattle.fp_base.proofs.Calculus.{least_along, least_either}
-use Rattle.fp_instance_rules.specs.Broken.{BrokenByInstances}
-use Rattle.fp_instance_rules.specs.declared.facts.InstanceFacts.{InstanceFacts}
+use Rattle.fp_instances.specs.InstanceBroken.{BrokenByInstances}
+use Rattle.fp_instances.specs.declared.instance_facts.InstanceFacts.{InstanceFacts}
 use Rattle.fp_instances.specs.Ranges.{RangesBroken, ranges}
 use Rattle.fp_instances.specs.declared.ranges.IdRange.{IdRange}
 use Rattle.fp_instances.proofs.faults.instances_fault.Goals as goal

@@ -1,6 +1,6 @@
 use Rattle.std.proofs.Common.{◌∙◌, List, subst}
 use Rattle.fp_machine_rules.specs.declared.item.Item.{Item}
-use Rattle.fp_machine_layout.specs.Found.{AreScopes}
+use Rattle.fp_machines.specs.Found.{AreScopes}
 use Rattle.fp_machines.proofs.naming.names_of.Goals as goal
 
 pub returns-clause-known : goal.returns-clause-known

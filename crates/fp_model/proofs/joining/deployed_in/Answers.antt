@@ -2,7 +2,7 @@ use Rattle.std.proofs.Common.{List, inl, inr, subst, sym, ◌∙◌}
 use Rattle.fp_consts.specs.Answered.{IsStop}
 use Rattle.fp_instances.specs.Resolved.{AreInstances}
 use Rattle.fp_tables.specs.declared.topology.Instance.{Instance}
-use Rattle.fp_topology_links.specs.Resolved.{AreTopologies}
+use Rattle.fp_topologies.specs.Resolved.{AreTopologies}
 use Rattle.fp_model.specs.Broken.{ModelBroken}
 use Rattle.fp_model.proofs.Stopping.{instances_stop, passed, topologies_stop}
 use Rattle.fp_model.proofs.joining.deployed_in.Goals as goal

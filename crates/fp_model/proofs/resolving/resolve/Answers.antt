@@ -4,7 +4,7 @@ use Rattle.fp_consts.specs.Answered.{IsStop}
 use Rattle.fp_meaning.specs.Layout.{items}
 use Rattle.fp_meaning.specs.Origins.{expressions}
 use Rattle.fp_tables.specs.declared.topology.Topology.{Topology}
-use Rattle.fp_topology_links.specs.Resolved.{HaveNoWires}
+use Rattle.fp_topologies.specs.Resolved.{HaveNoWires}
 use Rattle.fp_type_forms.specs.declared.resolving.Resolution.{Resolution}
 use Rattle.fp_type_forms.specs.Resolved.{AreResolved}
 use Rattle.fp_model.specs.Broken.{ModelBroken}

@@ -2,7 +2,7 @@ use Rattle.std.proofs.Common.{subst}
 use Rattle.fp_tables.specs.Lookup.{Described}
 use Rattle.fp_tables.specs.declared.program.Program.{Program}
 use Rattle.fp_events.specs.Run.{IsRun}
-use Rattle.fp_conclude.proofs.Anew.{are_records}
+use Rattle.fp_running.proofs.Anew.{are_records}
 use Rattle.fp_model_cases.proofs.kept.kept_of.Goals as goal
 
 pub returns : goal.returns

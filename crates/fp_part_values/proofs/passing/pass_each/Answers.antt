@@ -3,7 +3,7 @@ use Rattle.std.proofs.lemmas.Option.{slice_get_read}
 use Rattle.fp_meaning.specs.declared.item.Item.{Item}
 use Rattle.fp_meaning.specs.Layout.{formal_items}
 use Rattle.fp_type_forms.proofs.Taking.{items_flat}
-use Rattle.fp_part_forms.specs.Passed.{Passes}
+use Rattle.fp_part_values.specs.Passed.{Passes}
 use Rattle.fp_part_values.proofs.Passed.{passed_all, passed_as, passed_next, passed_nothing}
 use Rattle.fp_part_values.proofs.passing.pass_each.Goals as goal
 

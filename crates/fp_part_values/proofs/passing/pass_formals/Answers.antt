@@ -1,7 +1,7 @@
 use Rattle.std.proofs.Common.{List, flat_map, subst}
 use Rattle.fp_tree.specs.declared.part.Formal.{Formal}
 use Rattle.fp_meaning.specs.Layout.{formal_items}
-use Rattle.fp_part_forms.specs.Passed.{Passes}
+use Rattle.fp_part_values.specs.Passed.{Passes}
 use Rattle.fp_part_values.proofs.passing.pass_formals.Goals as goal
 
 pub returns : goal.returns

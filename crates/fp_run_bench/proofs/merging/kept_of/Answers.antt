@@ -3,7 +3,7 @@ use Rattle.fp_tables.specs.Lookup.{Described}
 use Rattle.fp_tables.specs.declared.program.Program.{Program}
 use Rattle.fp_events.specs.Run.{IsRun}
 use Rattle.fp_running.specs.Progress.{Progress, Added}
-use Rattle.fp_conclude.proofs.Anew.{are_records}
+use Rattle.fp_running.proofs.Anew.{are_records}
 use Rattle.fp_run_bench.proofs.merging.kept_of.Goals as goal
 
 same_tables : (added : Bool) (old new : Progress) → Added added old new → new.tables ≡ old.tables

@@ -1,5 +1,5 @@
 use Rattle.std.proofs.Common.{take}
-use Rattle.fp_scenario_plan.specs.Planned.{Pairwise, PlansCaller}
+use Rattle.fp_scenario_check.specs.Planned.{Pairwise, PlansCaller}
 use Rattle.fp_scenario_check.proofs.callers.callers_of.Given as goal
 
 abbrev pub invariant-loop-at : goal.invariant-loop-at

@@ -1,5 +1,5 @@
 use Rattle.std.proofs.Common.{refl}
-use Rattle.fp_scenario_plan.specs.Planned.{Planned, Breaks, IsWhole}
+use Rattle.fp_scenario_check.specs.Planned.{Planned, Breaks, IsWhole}
 use Rattle.fp_scenario_check.proofs.Refusing.{too_large, refused, refused_by, refused_for_cycle}
 use Rattle.fp_scenario_check.proofs.Stopping.{weaker}
 use Rattle.fp_scenario_check.proofs.Whole.{whole}

@@ -1,5 +1,5 @@
 use Rattle.std.proofs.Common.{subst}
-use Rattle.fp_scenario_plan.specs.Planned.{same_caller}
+use Rattle.fp_scenario_check.specs.Planned.{same_caller}
 use Rattle.fp_scenario_check.proofs.Refusals.{no_repeat, callers_repeated, callers_stopped}
 use Rattle.fp_scenario_check.proofs.checking.checked_callers.Goals as goal
 

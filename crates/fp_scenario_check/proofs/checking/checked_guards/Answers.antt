@@ -1,5 +1,5 @@
 use Rattle.std.proofs.Common.{subst}
-use Rattle.fp_scenario_plan.specs.Planned.{same_guard}
+use Rattle.fp_scenario_check.specs.Planned.{same_guard}
 use Rattle.fp_scenario_check.proofs.Refusals.{no_repeat, guards_repeated, guards_stopped}
 use Rattle.fp_scenario_check.proofs.checking.checked_guards.Goals as goal
 

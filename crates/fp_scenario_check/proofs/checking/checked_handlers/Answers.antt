@@ -1,6 +1,6 @@
 use Rattle.std.proofs.Common.{sym, subst, flat_map}
 use Rattle.fp_tables.specs.declared.program.Handler.{Handler}
-use Rattle.fp_scenario_plan.specs.Planned.{Pairwise, PlansHandler, at_each, same_handler}
+use Rattle.fp_scenario_check.specs.Planned.{Pairwise, PlansHandler, at_each, same_handler}
 use Rattle.fp_scenario_check.specs.Faults.{InItem, TextFault, counts}
 use Rattle.fp_scenario_check.specs.Keys.{AreOwnedBy}
 use Rattle.fp_scenario_check.proofs.Refusals.{no_repeat, handlers_repeated, handlers_stopped}

@@ -1,7 +1,7 @@
 use Rattle.std.proofs.Common.{ℕ, codes, decimal, subst}
 use Rattle.fp_scenario.specs.Broken.{below}
 use Rattle.fp_scenario.specs.Checked.{Stops}
-use Rattle.fp_scenario_plan.specs.Planned.{handler_path, action_path}
+use Rattle.fp_scenario_check.specs.Planned.{handler_path, action_path}
 use Rattle.fp_scenario_check.proofs.Stopping.{stops_below}
 use Rattle.fp_scenario_check.proofs.cycles.stop_at_ring.Goals as goal
 

@@ -1,6 +1,6 @@
 use Rattle.std.proofs.Common.{◌≡◌, Some, length, slice_get, refl, arith}
 use Rattle.std.proofs.lemmas.Option.{slice_get_read}
-use Rattle.fp_scenario_plan.specs.Planned.{PlansAnswers}
+use Rattle.fp_scenario_check.specs.Planned.{PlansAnswers}
 use Rattle.fp_scenario_check.specs.Faults.{GuardFault}
 use Rattle.fp_scenario_check.proofs.Pairing.{beside_more, beside_whole}
 use Rattle.fp_scenario_check.proofs.Stopping.{in_item}

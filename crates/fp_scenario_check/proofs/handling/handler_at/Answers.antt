@@ -2,7 +2,7 @@ use Rattle.std.proofs.Common.{refl, sym, ◌∙◌, ap}
 use Rattle.fp_tables.specs.Bound.{scope_of}
 use Rattle.fp_scenario_actions.specs.Spots.{spot_in}
 use Rattle.fp_scenario_actions.proofs.Halting.{component_short}
-use Rattle.fp_scenario_plan.proofs.Beginning.{spot_begins}
+use Rattle.fp_scenario_check.proofs.Beginning.{spot_begins}
 use Rattle.fp_scenario_check.specs.Faults.{HandlerFault, ListFault, in_list}
 use Rattle.fp_scenario_check.proofs.AtPlace.{without_component, without_place}
 use Rattle.fp_scenario_check.proofs.Stopping.{passed}

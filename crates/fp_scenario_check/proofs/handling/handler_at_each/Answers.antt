@@ -1,6 +1,6 @@
 use Rattle.std.proofs.Common.{◌≡◌, ℕ, Some, get_or, slice_get, refl}
 use Rattle.fp_tables.specs.declared.program.Handler.{Handler}
-use Rattle.fp_scenario_plan.specs.Planned.{PlansHandler}
+use Rattle.fp_scenario_check.specs.Planned.{PlansHandler}
 use Rattle.fp_scenario_check.specs.Faults.{HandlerFault, FaultAtOne}
 use Rattle.fp_scenario_check.proofs.Pairing.{beside_more, beside_whole, beside_mapped}
 use Rattle.fp_scenario_check.proofs.AtEach.{at_one, here_at}

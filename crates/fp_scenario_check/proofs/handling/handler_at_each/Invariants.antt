@@ -1,6 +1,6 @@
 use Rattle.std.proofs.Common.{take}
 use Rattle.fp_tables.specs.declared.program.Handler.{Handler}
-use Rattle.fp_scenario_plan.specs.Planned.{Pairwise, PlansHandler}
+use Rattle.fp_scenario_check.specs.Planned.{Pairwise, PlansHandler}
 use Rattle.fp_scenario_check.proofs.handling.handler_at_each.Given as goal
 
 abbrev pub invariant-loop-instance : goal.invariant-loop-instance

@@ -1,6 +1,6 @@
 use Rattle.std.proofs.Common.{◌≡◌, ℕ, Bool, ◌&&◌, not, ◌∙◌, ap, sym, refl, get_or}
 use Rattle.fp_scenario.specs.declared.scenario.Scenario.{Scenario}
-use Rattle.fp_scenario_plan.specs.Planned.{is_of, has_own}
+use Rattle.fp_scenario_check.specs.Planned.{is_of, has_own}
 use Rattle.fp_scenario_check.proofs.Among.{kept_more, left_out, kept_all}
 use Rattle.fp_scenario_check.proofs.standing.instances_among.Goals as goal
 use Rattle.fp_scenario_check.proofs.standing.instances_among.Goals.{then-free+in_ok-push, else-free}

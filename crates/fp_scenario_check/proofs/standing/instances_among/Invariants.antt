@@ -1,6 +1,6 @@
 use Rattle.std.proofs.Common.{◌≡◌, ◌&&◌, not, filter, take}
 use Rattle.fp_scenario.specs.declared.scenario.Scenario.{Scenario}
-use Rattle.fp_scenario_plan.specs.Planned.{is_of, has_own}
+use Rattle.fp_scenario_check.specs.Planned.{is_of, has_own}
 use Rattle.fp_scenario_check.specs.Keys.{AreOwned}
 use Rattle.fp_scenario_check.proofs.standing.instances_among.Given as goal
 

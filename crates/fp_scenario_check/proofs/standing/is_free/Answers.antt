@@ -1,5 +1,5 @@
 use Rattle.std.proofs.Common.{Bool, ◌&&◌, not, ap, ap₂, ◌∙◌}
-use Rattle.fp_scenario_plan.specs.Planned.{is_of}
+use Rattle.fp_scenario_check.specs.Planned.{is_of}
 use Rattle.fp_scenario_check.proofs.standing.is_free.Goals as goal
 
 pub returns : goal.returns

@@ -1,5 +1,5 @@
 use Rattle.std.proofs.Common.{sym, ap, ◌∙◌}
-use Rattle.fp_scenario_plan.specs.Planned.{component_named}
+use Rattle.fp_scenario_check.specs.Planned.{component_named}
 use Rattle.fp_scenario_check.proofs.Found.{found_short}
 use Rattle.fp_scenario_check.proofs.standing.names_nothing.Goals as goal
 

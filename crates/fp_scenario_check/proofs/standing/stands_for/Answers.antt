@@ -1,7 +1,7 @@
 use Rattle.std.proofs.Common.{◌≡◌, ◌&&◌, not, filter, ap, ◌∙◌}
 use Rattle.std.proofs.lemmas.Result.{IfOk-weaker}
 use Rattle.fp_scenario_actions.specs.Named.{placed_named}
-use Rattle.fp_scenario_plan.specs.Planned.{is_of, has_own, of_instance}
+use Rattle.fp_scenario_check.specs.Planned.{is_of, has_own, of_instance}
 use Rattle.fp_scenario_check.proofs.standing.stands_for.Goals as goal
 
 pub returns-in-None : goal.returns-in-None

@@ -1,0 +1,58 @@
+-- First ports and the set of their names, with one port more.
+use Rattle.std.proofs.Common.{◌≡◌, ◌∙◌, ◌||◌, ℕ, Bool, true, false, not, cond, List, [], ◌∷◌, ◌++◌, map, BTreeSet, refl, sym, ap, bytes_eq}
+use Rattle.std.proofs.lemmas.List.{map-append}
+use Rattle.std.proofs.lemmas.List.Folds.{list_any-append}
+use denote.Ref.{Bor}
+use Rattle.fp_written_parts.specs.declared.port.WrittenPort.{WrittenPort}
+use Rattle.fp_component_rules.specs.Firsts.{has_port, is_named, with_port}
+use Rattle.fp_component_rules.specs.Noted.{AreNames, has_name}
+use Rattle.fp_component_rules.proofs.Named.{same_bytes}
+
+abbrev pub behind : Bor WrittenPort → WrittenPort
+behind port = port.now
+
+or_false : (b : Bool) → (b || false) ≡ b
+or_false true = refl
+or_false false = refl
+
+-- the name was there, or it wasn't
+was_there : (b c : Bool) → b ≡ not c → b ≡ false → c ≡ true
+was_there true c is e = absurd (cc)
+was_there false true is e = refl
+was_there false false is e = absurd (cc)
+
+was_new : (b c : Bool) → b ≡ not c → b ≡ true → c ≡ false
+was_new false c is e = absurd (cc)
+was_new true false is e = refl
+was_new true true is e = absurd (cc)
+
+known_or : (a b : Bool) → (b ≡ true → a ≡ true) → (a || b) ≡ a
+known_or true b h = refl
+known_or false true h = sym (h refl)
+known_or false false h = refl
+
+module _ (ports : List (Bor WrittenPort)) where
+  pub more_names : (after : List (Bor WrittenPort)) (port : Bor WrittenPort) (names more : BTreeSet (Bor (List ℕ))) (name : List ℕ) → name ≡ port.now.name → AreNames (map behind ports) names
+      → ((q : List ℕ) → has_name more q ≡ (has_name names q || bytes_eq q name)) → after ≡ ports ++ port ∷ [] → AreNames (map behind after) more
+  more_names after port names more name is known added pushed q =
+      added q ∙ ap (λ (b : Bool). b || bytes_eq q name) (known q) ∙ ap (λ (n : List ℕ). has_port q (map behind ports) || bytes_eq q n) is
+      ∙ ap (λ (b : Bool). has_port q (map behind ports) || b) (sym (or_false (bytes_eq q port.now.name)))
+      ∙ sym (ap (λ (ps : List (Bor WrittenPort)). has_port q (map behind ps)) pushed ∙ ap (has_port q) (map-append behind ports (port ∷ [])) ∙ list_any-append (is_named q) (map behind ports) (port.now ∷ []))
+
+  pub known_names : (port : Bor WrittenPort) (names more : BTreeSet (Bor (List ℕ))) (name : List ℕ) (added : Bool) → name ≡ port.now.name → AreNames (map behind ports) names
+      → ((q : List ℕ) → has_name more q ≡ (has_name names q || bytes_eq q name)) → added ≡ not (has_name names name) → added ≡ false → AreNames (map behind ports) more
+  known_names port names more name added is known adds told never q =
+      adds q ∙ known_or (has_name names q) (bytes_eq q name) (λ e. ap (has_name names) (same_bytes q name e) ∙ was_there added (has_name names name) told never) ∙ known q
+
+  pub more_ports : (after : List (Bor WrittenPort)) (port : Bor WrittenPort) (names : BTreeSet (Bor (List ℕ))) (name : List ℕ) (added : Bool) (firsts : List WrittenPort) → name ≡ port.now.name
+      → AreNames (map behind ports) names → added ≡ not (has_name names name) → added ≡ true → after ≡ ports ++ port ∷ [] → map behind ports ≡ firsts → map behind after ≡ with_port port.now firsts
+  more_ports after port names name added firsts is known told first pushed view =
+      let new : has_port port.now.name (map behind ports) ≡ false = sym (known port.now.name) ∙ ap (has_name names) (sym is) ∙ was_new added (has_name names name) told first in
+      ap (map behind) pushed ∙ map-append behind ports (port ∷ [])
+      ∙ sym (ap (λ (b : Bool). cond b (map behind ports) (map behind ports ++ port.now ∷ [])) new) ∙ ap (with_port port.now) view
+
+  pub known_ports : (port : Bor WrittenPort) (names : BTreeSet (Bor (List ℕ))) (name : List ℕ) (added : Bool) (firsts : List WrittenPort) → name ≡ port.now.name → AreNames (map behind ports) names
+      → added ≡ not (has_name names name) → added ≡ false → map behind ports ≡ firsts → map behind ports ≡ with_port port.now firsts
+  known_ports port names name added firsts is known told never view =
+      let there : has_port port.now.name (map behind ports) ≡ true = sym (known port.now.name) ∙ ap (has_name names) (sym is) ∙ was_there added (has_name names name) told never in
+      sym (ap (λ (b : Bool). cond b (map behind ports) (map behind ports ++ port.now ∷ [])) there) ∙ ap (with_port port.now) view

@@ -1,3 +1,0 @@
-pub mod Parts
-pub mod Anew
-pub mod Going

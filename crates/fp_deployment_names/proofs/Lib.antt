@@ -1,2 +1,0 @@
-mod Kinded
-pub mod Texts

@@ -1,4 +1,0 @@
-mod Entries
-pub mod Floats
-mod Given
-mod Targets

@@ -1,3 +1,0 @@
-mod Constants
-mod Having
-mod Members

@@ -1,5 +1,0 @@
-use Rattle.fp_fault_places.proofs.Standing.{source_instances_placed}
-use Rattle.fp_fault_places.proofs.laws.instances_break_at_places.Goals as goal
-
-pub returns : goal.returns
-returns c = source_instances_placed

@@ -1,5 +1,0 @@
-use Rattle.fp_fault_places.proofs.Standing.{states_placed}
-use Rattle.fp_fault_places.proofs.laws.states_break_at_places.Goals as goal
-
-pub returns : goal.returns
-returns c = states_placed

@@ -1,2 +1,0 @@
-mod Bases
-mod Folding

@@ -1,5 +1,0 @@
-use Rattle.fp_interfaces.proofs.Adding.{name_added}
-use Rattle.fp_interfaces.proofs.firsts.note.Goals as goal
-
-pub returns-clause-names : goal.returns-clause-names
-returns-clause-names c = name_added c.args.names.now c.insert.new.self c.args.name c.in_ok-added.ensures.keys

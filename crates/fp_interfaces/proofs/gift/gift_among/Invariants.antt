@@ -1,7 +1,0 @@
-use Rattle.std.proofs.Common.{List, take}
-use Rattle.fp_written_parts.specs.declared.member.WrittenInterface.{WrittenInterface}
-use Rattle.fp_interfaces.specs.Gifts.{IsGift, Serves}
-use Rattle.fp_interfaces.proofs.gift.gift_among.Given as goal
-
-abbrev pub invariant-loop-member : goal.invariant-loop-member
-invariant-loop-member l = (interfaces : List WrittenInterface) → Serves interfaces l.gifts l.members → IsGift interfaces (take l.member-index l.members) l.gift

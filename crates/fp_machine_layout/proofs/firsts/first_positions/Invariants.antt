@@ -1,6 +1,0 @@
-use Rattle.std.proofs.Common.{take}
-use Rattle.fp_machine_layout.specs.Found.{FindsKeys}
-use Rattle.fp_machine_layout.proofs.firsts.first_positions.Given as goal
-
-abbrev pub invariant-loop-at : goal.invariant-loop-at
-invariant-loop-at l = FindsKeys (take l.at l.keys) l.found

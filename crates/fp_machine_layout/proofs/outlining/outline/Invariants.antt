@@ -1,6 +1,0 @@
-use Rattle.std.proofs.Common.{◌≡◌, take, map}
-use Rattle.fp_machine_layout.specs.Outline.{outline_of}
-use Rattle.fp_machine_layout.proofs.outlining.outline.Given as goal
-
-abbrev pub invariant-loop-element : goal.invariant-loop-element
-invariant-loop-element l = l.items.items ≡ map (outline_of l.elements) (take l.element-index l.elements)

@@ -1,6 +1,0 @@
-pub mod Behind
-pub mod Found
-pub mod Layout
-pub mod Outline
-pub mod Scopes
-pub mod Steps

@@ -1,5 +1,0 @@
-mod Rows
-mod Preorder
-mod Machines
-mod Ordering
-mod Members

@@ -1,2 +1,0 @@
-mod Folding
-mod Naming

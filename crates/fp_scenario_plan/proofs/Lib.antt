@@ -1,9 +1,0 @@
-pub mod Apart
-pub mod Beginning
-pub mod Beside
-pub mod Once
-pub mod Placed
-pub mod Sounding
-pub mod Spelled
-pub mod Standing
-pub mod Unbroken

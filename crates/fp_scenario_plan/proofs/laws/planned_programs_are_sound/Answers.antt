@@ -1,5 +1,0 @@
-use Rattle.fp_scenario_plan.proofs.Sounding.{program_is_sound}
-use Rattle.fp_scenario_plan.proofs.laws.planned_programs_are_sound.Goals as goal
-
-pub returns : goal.returns
-returns c = λ t scenario program sound given plan whole. program_is_sound t scenario program sound (c.scenario_keeps_limits.ensures scenario given) plan whole

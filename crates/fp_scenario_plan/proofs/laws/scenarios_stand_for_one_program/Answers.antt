@@ -1,5 +1,0 @@
-use Rattle.fp_scenario_plan.proofs.Once.{one_program}
-use Rattle.fp_scenario_plan.proofs.laws.scenarios_stand_for_one_program.Goals as goal
-
-pub returns : goal.returns
-returns c = λ t scenario program other h g. one_program t scenario program other h g

@@ -1,4 +1,0 @@
-pub mod Arguing
-pub mod Making
-pub mod MeantKinds
-pub mod Once

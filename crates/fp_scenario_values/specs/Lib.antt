@@ -1,4 +1,0 @@
-pub mod Arguments
-pub mod Made
-pub mod Read
-pub mod Wanted

@@ -1,5 +1,0 @@
-use Rattle.fp_sites.proofs.Standing.{topology_standing}
-use Rattle.fp_sites.proofs.laws.topology_stands_at_tokens.Goals as goal
-
-pub returns : goal.returns
-returns c = topology_standing

@@ -1,5 +1,0 @@
-mod Lists
-mod Pieces
-mod Ports
-mod Dictionary
-mod Components

@@ -1,5 +1,0 @@
-use Rattle.fp_sole_parts.proofs.Components.{components_same}
-use Rattle.fp_sole_parts.proofs.laws.one_components.Goals as goal
-
-pub returns : goal.returns
-returns c fs ds ws written a b are also = components_same fs ds ws (c.one_default.ensures ws) (c.one_result.ensures ws) written a b are also

@@ -1,5 +1,0 @@
-use Rattle.fp_sound_behaviors.proofs.Bodies.{body_is_sound}
-use Rattle.fp_sound_behaviors.proofs.laws.unbroken_bodies_are_sound.Goals as goal
-
-pub returns : goal.returns
-returns c = λ types place es kinds name b. body_is_sound types place es kinds name b

@@ -1,5 +1,0 @@
-use Rattle.fp_sound_behaviors.proofs.Outlined.{outline_is_sound}
-use Rattle.fp_sound_behaviors.proofs.laws.unbroken_outlines_are_sound.Goals as goal
-
-pub returns : goal.returns
-returns c types place es kinds name u = outline_is_sound types place es kinds u name

@@ -1,6 +1,0 @@
-use Rattle.fp_sound_components.proofs.Whole.{components_sound}
-use Rattle.fp_sound_components.proofs.laws.resolved_components_are_sound.Goals as goal
-
-pub returns : goal.returns
-returns c types machines ws definitions interfaces written cs ready ports parts wholes resolved =
-    components_sound types machines ws definitions interfaces written cs (record { ready = ready; of_ports = ports; of_parts = parts; of_wholes = wholes }) resolved

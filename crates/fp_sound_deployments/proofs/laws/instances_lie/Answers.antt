@@ -1,5 +1,0 @@
-use Rattle.fp_sound_deployments.proofs.Instanced.{all_lie}
-use Rattle.fp_sound_deployments.proofs.laws.instances_lie.Goals as goal
-
-pub returns : goal.returns
-returns c m ws are lie = all_lie m ws are lie

@@ -1,6 +1,0 @@
-pub mod Apart
-pub mod Below
-pub mod Carried
-pub mod Listed
-pub mod Placing
-pub mod Wholly

@@ -1,0 +1,92 @@
+-- What is known of the pieces of a file: the enumerations among its items have constants.
+use Rattle.std.proofs.Common.{ℕ, List, [], ◌∷◌}
+use Rattle.std.specs.List.{AllByRecursion as Each}
+use Rattle.fp_tree.specs.declared.name.Name.{Name}
+use Rattle.fp_tree.specs.declared.definition.Def.{Def}
+use Rattle.fp_tree.specs.declared.expression.Expr.{Expr}
+use Rattle.fp_tree.specs.declared.type_name.TypeName.{TypeName}
+use Rattle.fp_meaning.specs.declared.item.Item.{Item}
+use Rattle.fp_meaning.specs.declared.item.Item.TheVariants as item
+use Rattle.fp_meaning.specs.Sites.{Path}
+use Rattle.fp_meaning.specs.Layout.{expression_items, type_items, items_in, part_items}
+use Rattle.fp_meaning.proofs.Since.{AllSince, since_form}
+use Rattle.fp_parse_defs.specs.Definitions.{noted_definition}
+use Rattle.fp_base.proofs.Lists.{each_of_any, each_weaker}
+use Rattle.fp_places.specs.Parts.{names_in_expression, names_in_type, names_in_definition}
+use Rattle.fp_places.proofs.Preserving.{gives_anything, gives_less}
+use Rattle.fp_places.proofs.Held.{Held}
+use Rattle.fp_places.proofs.Known.{Known}
+use Rattle.fp_source_types.specs.Listed.{HasConstants, IsListed}
+use Rattle.fp_type_forms.proofs.Following.{IsPart, are_parts}
+use Rattle.fp_source_laws.proofs.EnumConstants.{Any, Noted, definition_yields}
+
+-- what stands in a definition is no definition of a type
+part_listed : (i : Item) → IsPart i → IsListed i
+part_listed (item.Defined s) is = absurd is
+part_listed (item.Enumerated e) is = tt
+part_listed (item.Declared d) is = tt
+part_listed (item.Used since n) is = tt
+part_listed (item.Written since p) is = tt
+
+pub definition_listed : (scope : Path) (d : Def) → HasConstants d → Each IsListed (items_in scope d)
+definition_listed scope d has = (has, each_weaker IsPart IsListed part_listed (part_items scope d) (are_parts scope d))
+
+-- nor are names and expressions
+since_listed : (since : ℕ) (is : List Item) → AllSince since is → Each IsListed is
+since_listed since [] h = tt
+since_listed since (item.Used m n ∷ is) h = (tt, since_listed since is h.1)
+since_listed since (item.Written m p ∷ is) h = (tt, since_listed since is h.1)
+since_listed since (item.Defined s ∷ is) h = absurd h
+since_listed since (item.Enumerated e ∷ is) h = absurd h
+since_listed since (item.Declared d ∷ is) h = absurd h
+
+-- nothing is said of names
+abbrev pub AnyName : Name → Type 0
+AnyName n = Unit {0}
+
+pub any_names : (ns : List Name) → Each AnyName ns
+any_names ns = each_of_any AnyName (λ n. tt) ns
+
+pub value_held : (e : Expr) → Unit {0} → Held IsListed AnyName (λ scope. expression_items 0 scope e) (names_in_expression e)
+value_held e h = record { items = λ scope. (tt, tt); names = any_names (names_in_expression e) }
+
+pub type_held : (t : TypeName) → Unit {0} → Held IsListed AnyName (λ scope. type_items 0 scope t) (names_in_type t)
+type_held t h = record { items = λ scope. since_listed 0 (type_items 0 scope t) (since_form 0 scope t.form); names = any_names (names_in_type t) }
+
+abbrev pub DefinitionHeld : Def → Type 0
+DefinitionHeld d = (note : List ℕ) → Held IsListed AnyName (λ scope. items_in scope (noted_definition d note)) (names_in_definition (noted_definition d note))
+
+pub definition_held : (d : Def) → Noted d → DefinitionHeld d
+definition_held d has note = record {
+  items = λ scope. definition_listed scope (noted_definition d note) (has note);
+  names = any_names (names_in_definition (noted_definition d note));
+}
+
+unfoldable pub having : (depth : ℕ) → Known depth
+having depth = record {
+  OfToken = Any;
+  OfItem = IsListed;
+  OfName = AnyName;
+  Naming = λ n. Unit {0};
+  Using = λ q. Unit {0};
+  naming_given = gives_anything;
+  using_given = gives_anything;
+  named = λ n h. tt;
+  all_named = λ q h. any_names q.names;
+  OfMachine = λ m. Unit {0};
+  OfComponent = λ c. Unit {0};
+  OfInterface = λ i. Unit {0};
+  OfInstance = λ i. Unit {0};
+  OfTopology = λ t. Unit {0};
+  machines_given = gives_less _ (λ m h note. tt) gives_anything;
+  components_given = gives_less _ (λ c h note. tt) gives_anything;
+  interfaces_given = gives_less _ (λ i h note. tt) gives_anything;
+  instances_given = gives_less _ (λ i h note. tt) gives_anything;
+  topologies_given = gives_less _ (λ t h note. tt) gives_anything;
+  declared = λ scope d h b. tt;
+  used = λ group scope q h. tt;
+  port_used = λ scope u same h. tt;
+  expressions_given = gives_less _ value_held gives_anything;
+  types_given = gives_less _ type_held gives_anything;
+  definitions_given = gives_less DefinitionHeld definition_held (definition_yields depth);
+}

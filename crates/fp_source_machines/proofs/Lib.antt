@@ -1,3 +1,0 @@
-pub mod Taken
-mod Giving
-mod Least

@@ -1,5 +1,0 @@
-use Rattle.fp_source_machines.proofs.Giving.{AreGiven}
-use Rattle.fp_source_machines.proofs.building.machines_built.Given as goal
-
-abbrev pub invariant-loop-index : goal.invariant-loop-index
-invariant-loop-index l = AreGiven l.marks l.resolutions l.items l.index l.machines

@@ -1,4 +1,0 @@
-pub mod Broken
-pub mod Built
-pub mod Declared
-pub mod Ordered

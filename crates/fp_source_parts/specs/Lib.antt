@@ -1,0 +1,10 @@
+pub mod Broken
+pub mod Built
+pub mod Declared
+pub mod MachineBroken
+pub mod MachineBuilt
+pub mod Machines
+pub mod Ordered
+pub mod TopologyBroken
+pub mod TopologyBuilt
+pub mod Valued

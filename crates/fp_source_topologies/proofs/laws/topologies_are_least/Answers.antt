@@ -1,5 +1,0 @@
-use Rattle.fp_source_topologies.proofs.Least.{topologies_least}
-use Rattle.fp_source_topologies.proofs.laws.topologies_are_least.Goals as goal
-
-pub returns : goal.returns
-returns c source parts written instances first are built l = topologies_least c.one_components.ensures c.one_deployment.ensures source parts written are instances built first l

@@ -1,6 +1,0 @@
-use Rattle.fp_base.specs.Least.{InFirst, IsLeast}
-use Rattle.fp_topology_imports.specs.Flagged.{FlaggedLink}
-use Rattle.fp_topology_imports.proofs.cycles.least_flagged.Given as goal
-
-abbrev pub invariant-loop-at : goal.invariant-loop-at
-invariant-loop-at l = IsLeast (InFirst l.at (FlaggedLink l.flags) l.links) l.least

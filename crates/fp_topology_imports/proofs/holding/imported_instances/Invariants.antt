@@ -1,7 +1,0 @@
-use Rattle.std.proofs.Common.{flat_map, take}
-use Rattle.fp_topology_imports.specs.Firsts.{AreFirsts}
-use Rattle.fp_topology_imports.specs.Held.{public_at}
-use Rattle.fp_topology_imports.proofs.holding.imported_instances.Given as goal
-
-abbrev pub invariant-loop-topology : goal.invariant-loop-topology
-invariant-loop-topology l = AreFirsts (flat_map (public_at l.written) (take l.topology-index l.closure)) l.firsts

@@ -1,6 +1,0 @@
-use Rattle.std.proofs.Common.{◌≡◌, take}
-use Rattle.fp_topology_imports.specs.Links.{links_in}
-use Rattle.fp_topology_imports.proofs.links.links_in.Given as goal
-
-abbrev pub invariant-loop-import : goal.invariant-loop-import
-invariant-loop-import l = l.links ≡ links_in l.importer (take l.import-index l.imports)

@@ -1,5 +1,0 @@
-use Rattle.fp_topology_links.proofs.Differing.{all_differ}
-use Rattle.fp_topology_links.proofs.laws.instances_differ.Goals as goal
-
-pub returns : goal.returns
-returns c ds cs is ts rs have = all_differ ds cs is ts rs have

@@ -1,6 +1,0 @@
-use Rattle.std.proofs.Common.{◌≡◌, flat_map, take}
-use Rattle.fp_topology_links.specs.Joined.{taken_links}
-use Rattle.fp_topology_links.proofs.taking.imported_links.Given as goal
-
-abbrev pub invariant-loop-topology : goal.invariant-loop-topology
-invariant-loop-topology l = l.links ≡ flat_map (taken_links l.written l.joined) (take l.topology-index l.closure)

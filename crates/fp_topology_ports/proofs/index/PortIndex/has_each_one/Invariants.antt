@@ -1,8 +1,0 @@
-use Rattle.std.proofs.Common.{◌≡◌, is_some, take}
-use Rattle.std.specs.List.{list_all}
-use Rattle.fp_topology_ports.specs.Patterns.{one, only_port}
-use Rattle.fp_topology_ports.specs.declared.sorts.Join.{Join}
-use Rattle.fp_topology_ports.proofs.index.PortIndex.has_each_one.Given as goal
-
-abbrev pub invariant-loop-join : goal.invariant-loop-join
-invariant-loop-join l = l.each ≡ list_all (λ (j : Join). is_some (only_port l.self.ports l.self.components l.self.instances (one j) l.instance)) (take l.join-index l.joins)

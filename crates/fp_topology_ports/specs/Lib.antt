@@ -1,4 +1,0 @@
-pub mod Indexed
-pub mod Firsts
-pub mod Ports
-pub mod Patterns

@@ -1,7 +1,0 @@
-mod Ordering
-mod Flags
-mod Coming
-mod Reading
-mod Listed
-mod Filtering
-mod Gathering

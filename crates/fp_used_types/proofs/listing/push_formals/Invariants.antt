@@ -1,6 +1,0 @@
-use Rattle.std.proofs.Common.{◌≡◌, ◌++◌, take}
-use Rattle.fp_used_types.specs.Used.{kinds_of_formals}
-use Rattle.fp_used_types.proofs.listing.push_formals.Given as goal
-
-abbrev pub invariant-loop-formal : goal.invariant-loop-formal
-invariant-loop-formal l = l.kinds ≡ l.initial.kinds ++ kinds_of_formals (take l.formal-index l.formals)

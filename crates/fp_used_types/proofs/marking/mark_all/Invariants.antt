@@ -1,6 +1,0 @@
-use Rattle.std.proofs.Common.{◌≡◌, drop}
-use Rattle.fp_used_types.specs.Marks.{marks_of, with_marks}
-use Rattle.fp_used_types.proofs.marking.mark_all.Given as goal
-
-abbrev pub invariant-loop-kind : goal.invariant-loop-kind
-invariant-loop-kind l = with_marks (marks_of l.marks) (drop l.kind-index l.kinds) ≡ with_marks (marks_of l.initial.marks) l.kinds

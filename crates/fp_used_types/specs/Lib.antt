@@ -1,3 +1,0 @@
-pub mod Used
-pub mod Marks
-pub mod Sorting
