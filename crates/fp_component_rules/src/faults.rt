@@ -10,8 +10,8 @@ use crate::matching::matches_fault;
 use crate::needing::special_fault;
 use crate::queueing::queue_fault;
 use crate::repeats::repeat_fault;
-use fp_base::{NoMemory, Refusal, Rule, lesser};
 use crate::{Gift, gathered, gift_of, interface_cycle_faults};
+use fp_base::{NoMemory, Refusal, Rule, lesser};
 use fp_written_parts::{WrittenComponent, WrittenInterface};
 use std::alloc::Global;
 

@@ -8,8 +8,8 @@ ghost use Rattle.fp_component_rules.specs.Gifts.{IsGift};
 ghost use Rattle.fp_component_rules.specs.Broken.{MatchesBroken, is_general, size_of};
 ghost use Rattle.fp_component_rules.specs.Tested.{end_of, fails, find_end, match_fault, sizes_differ};
 
-use fp_base::{NoMemory, Refusal, Rule, Text, lesser, refusal_if};
 use crate::Gift;
+use fp_base::{NoMemory, Refusal, Rule, Text, lesser, refusal_if};
 use fp_written_parts::{Given, WrittenMatch, WrittenMember, WrittenPort, WrittenRole};
 use std::alloc::Global;
 use std::collections::BTreeMap;

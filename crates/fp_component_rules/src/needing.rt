@@ -10,8 +10,8 @@ ghost use Rattle.fp_component_rules.specs.Gifts.{IsGift};
 ghost use Rattle.fp_component_rules.specs.Broken.{SpecialBroken, needs};
 
 use crate::kinds::{have_common, left_out, three_kinds, two_kinds};
-use fp_base::{Place, Refusal, Rule, refusal_if};
 use crate::{Gift, SpecialKinds};
+use fp_base::{Place, Refusal, Rule, refusal_if};
 use fp_tables::Special;
 use fp_written_parts::WrittenMember;
 

@@ -6,9 +6,9 @@ ghost use Rattle.fp_written_parts.specs.Giving.{ImportsWithin};
 ghost use Rattle.fp_component_rules.specs.Gifts.{AreGifts, IsGift};
 ghost use Rattle.fp_component_rules.specs.Broken.{QueueBroken, UseAt, BrokenUnused, bringer_at, is_async, waits_itself};
 
+use crate::Gift;
 use crate::repeats::{fault_at, own_gift};
 use fp_base::{NoMemory, Place, Refusal, Rule, lesser, refusal_if};
-use crate::Gift;
 use fp_tables::Queueing;
 use fp_tree::CommandKind;
 use fp_written_parts::WrittenMember;

@@ -9,8 +9,8 @@ ghost use Rattle.fp_component_rules.specs.Broken.{RepeatsBroken, giver_at};
 ghost use Rattle.fp_component_rules.specs.Tested.{clash_fault, fault_at};
 
 use crate::kinds::have_common;
-use fp_base::{NoMemory, Place, Refusal, Rule, lesser, refusal_if};
 use crate::{FirstPorts, Gift, SpecialKinds, gift_of};
+use fp_base::{NoMemory, Place, Refusal, Rule, lesser, refusal_if};
 use fp_written_parts::{WrittenMember, WrittenPort};
 use std::alloc::Global;
 use std::slice::from_ref;

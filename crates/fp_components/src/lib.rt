@@ -1,4 +1,4 @@
-//! What components come to: the resolved components of a model, from what is written of them.
+//! From what is written of components to those of a model, of which there is one list.
 #![tactic(auto)]
 
 mod channels;

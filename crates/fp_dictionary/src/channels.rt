@@ -9,8 +9,8 @@ ghost use Rattle.fp_dictionary.specs.Members.{channel_data, channel_head, color,
 
 use crate::formals::put_name;
 use crate::lists::{Listed, number_in};
-use fp_base::{NoMemory, Text};
 use crate::{Object, descriptor, value_of};
+use fp_base::{NoMemory, Text};
 use fp_tables::{Channel, Component, Instance, Limit, TypeDef};
 use serde_json::Value;
 use std::alloc::Global;

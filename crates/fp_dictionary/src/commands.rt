@@ -6,8 +6,8 @@ ghost use Rattle.fp_dictionary.specs.Members.{command_data, command_kind, full_w
 
 use crate::formals::{formals_value, put_name};
 use crate::lists::{Listed, number_in};
-use fp_base::NoMemory;
 use crate::{Object, number_value};
+use fp_base::NoMemory;
 use fp_tables::{Command, CommandPart, Component, Full, Instance, TypeDef, Way};
 use serde_json::Value;
 use std::alloc::Global;

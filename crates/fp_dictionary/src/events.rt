@@ -4,10 +4,10 @@ ghost use Rattle.serde_json.specs.Written.{has_float};
 ghost use Rattle.fp_dictionary.specs.Objects.{held, natural, optional, with_entries};
 ghost use Rattle.fp_dictionary.specs.Members.{event_data, severity};
 
+use crate::Object;
 use crate::formals::{formals_value, put_name};
 use crate::lists::{Listed, number_in};
 use fp_base::NoMemory;
-use crate::Object;
 use fp_tables::{Component, Event, Instance, TypeDef};
 use serde_json::Value;
 use std::alloc::Global;

@@ -3,8 +3,8 @@ ghost use Rattle.serde_json.specs.View.{view};
 ghost use Rattle.fp_dictionary.specs.Objects.{held, with_entries};
 ghost use Rattle.fp_dictionary.specs.Members.{formal_data, formals_data, name_in};
 
-use fp_base::{NoMemory, Text};
 use crate::{Object, descriptor};
+use fp_base::{NoMemory, Text};
 use fp_tables::{Formal, Instance, TypeDef};
 use serde_json::Value;
 use std::alloc::Global;

@@ -6,8 +6,8 @@ ghost use Rattle.fp_dictionary.specs.Members.{default_entries, parameter_data};
 
 use crate::formals::put_name;
 use crate::lists::{Listed, number_in};
-use fp_base::NoMemory;
 use crate::{Object, descriptor, value_of};
+use fp_base::NoMemory;
 use fp_tables::{Component, Instance, Param, TypeDef};
 use serde_json::Value;
 use std::alloc::Global;

@@ -3,11 +3,11 @@ ghost use Rattle.serde_json.specs.View.{view};
 ghost use Rattle.serde_json.specs.Written.{compact_text};
 ghost use Rattle.fp_dictionary.specs.Dictionary.{IsDictionaryText, IsTextOf, metadata};
 
+use crate::Object;
 use crate::lists::push_members;
 use crate::printing::{push_text, push_value};
 use crate::types::push_types;
 use fp_base::{NoMemory, Row};
-use crate::Object;
 use fp_tables::{Channel, Command, Event, Model, Param, Topology};
 use serde_json::Value;
 use std::alloc::Global;

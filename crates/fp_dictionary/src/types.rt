@@ -6,8 +6,8 @@ ghost use Rattle.fp_dictionary.specs.Dictionary.{types_data};
 ghost use Rattle.fp_dictionary.specs.Printed.{AddsTypes, items_printed};
 
 use crate::printing::push_item;
-use fp_base::{NoMemory, Row};
 use crate::{type_of, used_types};
+use fp_base::{NoMemory, Row};
 use fp_tables::{Model, Topology, TypeDef};
 use std::alloc::Global;
 

@@ -1,7 +1,6 @@
 use fp_base::NoMemory;
 use fp_lexer::lex;
 use fp_parse_states::parse_machine;
-use fp_tree_copies::Copied;
 use std::alloc::Global;
 use std::test::Fail;
 
@@ -16,7 +15,7 @@ fn push_times(text: &mut String, piece: &str, count: u32) -> Result<(), NoMemory
     Ok(())
 }
 
-/// The position of the state in which the last element of a machine stands, in a copy.
+/// The position of the state in which the last element of a machine stands.
 fn last_parent(alloc: Global, text: &[u8]) -> Result<Option<usize>, NoMemory> {
     let Ok(tokens) = lex(alloc, 0, text) else {
         return Ok(None);
@@ -27,8 +26,7 @@ fn last_parent(alloc: Global, text: &[u8]) -> Result<Option<usize>, NoMemory> {
     let Ok((machine, _)) = parse_machine(alloc, &tokens, 0) else {
         return Ok(None);
     };
-    let copy = machine.copy(alloc)?;
-    let Some(behavior) = &copy.behavior else {
+    let Some(behavior) = &machine.behavior else {
         return Ok(None);
     };
     match behavior.elements.as_slice().last() {

@@ -3,10 +3,10 @@ ghost use Rattle.fp_base.specs.Least.{IsLeast};
 ghost use Rattle.fp_instances.specs.Broken.{InstancesBroken};
 
 use crate::facts::all_facts;
+use crate::instance_faults;
 use crate::overlaps::range_faults;
 use crate::ranges::ranges_of;
 use fp_base::{NoMemory, Refusal, lesser};
-use crate::instance_faults;
 use fp_tables::Component;
 use fp_written_topologies::WrittenInstance;
 use std::alloc::Global;

@@ -1,4 +1,4 @@
-//! From what is written of instances of components to the instances of a model, or the first rule that these break.
+//! From what is written of instances of components to the instances of a model, or the first rule that these break, each by itself or two of them.
 #![tactic(auto)]
 
 mod building;

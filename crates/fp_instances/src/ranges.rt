@@ -2,8 +2,8 @@ ghost use Rattle.std.specs.Prelude.{◌≡◌, ◌++◌, [], IfOk};
 ghost use Rattle.std.specs.List.{cons_option};
 ghost use Rattle.fp_instances.specs.Ranges.{ends_before, overlap, range_of, ranges};
 
-use fp_base::{NoMemory, Place, Row};
 use crate::InstanceFacts;
+use fp_base::{NoMemory, Place, Row};
 use std::alloc::Global;
 
 /// The ids and opcodes that an instance takes: from its base id to that with the greatest one of its component.

@@ -5,9 +5,9 @@ ghost use Rattle.fp_machines.specs.Made.{actions_of, step_of};
 ghost use Rattle.fp_machines.specs.Named.{AreNames};
 
 use crate::naming::Names;
+use crate::position_if;
 use crate::stepping::{actions_of, push_on, step_of};
 use fp_base::{NoMemory, Row};
-use crate::position_if;
 use fp_tables::{On, Step};
 use fp_tree::{BehaviorElement, Do, ElementForm, Goto};
 use std::alloc::Global;

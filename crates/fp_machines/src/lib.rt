@@ -1,4 +1,4 @@
-//! From the elements of a state machine to the machine of a model.
+//! From the elements of a state machine to the machine of a model, or the first rule that they break: laid out flat, with what the names in them mean.
 #![tactic(auto)]
 
 mod checking;

@@ -6,11 +6,11 @@ ghost use Rattle.fp_machines.specs.Made.{action_number, guard_meant, signal_mean
 ghost use Rattle.fp_machines.specs.Named.{AreNames};
 
 use crate::counting::{CountTable, count_table};
-use fp_base::{NoMemory, Row};
 use crate::{
     Scopes, action_declared, guard_declared, outline, scopes_of, signal_declared, spellings_of,
     vertex_meant,
 };
+use fp_base::{NoMemory, Row};
 use fp_machine_rules::Item;
 use fp_tree::{BehaviorElement, Name, Qual};
 use std::alloc::Global;

@@ -6,9 +6,9 @@ ghost use Rattle.fp_machines.specs.Named.{AreNames};
 
 use crate::gathering::Parts;
 use crate::naming::Names;
+use crate::position_if;
 use crate::stepping::step_of;
 use fp_base::{NoMemory, Row};
-use crate::position_if;
 use fp_tables::{Node, Vertex};
 use fp_tree::{BehaviorElement, Choice, ElementForm, Name};
 use std::alloc::Global;

@@ -11,8 +11,8 @@ ghost use Rattle.fp_part_values.specs.Broken.{BrokenByChannel, BrokenByLimit, Br
 
 use crate::integers::integer_in;
 use crate::misfitting::misfit_of;
-use fp_base::{Refusal, Value, lesser};
 use crate::pass_value;
+use fp_base::{Refusal, Value, lesser};
 use fp_tables::Kind;
 use fp_tree::{Channel, Limit, Limits};
 use fp_type_forms::{Resolution, if_no_number, kind_taken, taken, value_of};

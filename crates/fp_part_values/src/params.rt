@@ -9,8 +9,8 @@ ghost use Rattle.fp_type_sizes.specs.Found.{AreExtents};
 ghost use Rattle.fp_part_values.specs.Broken.{BrokenByParam, IsUnfit};
 
 use crate::misfitting::misfit_of;
-use fp_base::{Refusal, Value};
 use crate::pass_value;
+use fp_base::{Refusal, Value};
 use fp_tables::Kind;
 use fp_tree::{Expr, ParamDef};
 use fp_type_forms::{Resolution, kind_taken, taken, value_of};

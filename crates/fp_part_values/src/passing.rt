@@ -6,8 +6,8 @@ ghost use Rattle.fp_tree.specs.declared.source.Source.{Source};
 ghost use Rattle.fp_type_forms.specs.Resolved.{Moves};
 ghost use Rattle.fp_part_values.specs.Passed.{Passes};
 
-use fp_base::{Refusal, Row, Value};
 use crate::{pass_name, pass_one, pass_value};
+use fp_base::{Refusal, Row, Value};
 use fp_tree::{Command, Event, Formal, General, Internal, Running};
 use fp_type_forms::{Resolution, kind_taken};
 

@@ -6,4 +6,7 @@ mod laws;
 mod site_laws;
 
 pub use laws::{part_places_begin_tokens, places_begin_tokens, topology_places_begin_tokens};
-pub use site_laws::{names_are_written, nesting_is_limited, part_names_are_written, parts_stand_at_tokens, stand_at_tokens, topology_names_are_written, topology_stands_at_tokens};
+pub use site_laws::{
+    names_are_written, nesting_is_limited, part_names_are_written, parts_stand_at_tokens,
+    stand_at_tokens, topology_names_are_written, topology_stands_at_tokens,
+};

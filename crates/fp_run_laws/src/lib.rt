@@ -6,6 +6,9 @@ mod laws;
 mod records;
 mod typing_laws;
 
-pub use laws::{answering, last_stamps, one_entry_more, same_world, seen_records, steps_rise, untaken_is_pending, waiting};
+pub use laws::{
+    answering, last_stamps, one_entry_more, same_world, seen_records, steps_rise,
+    untaken_is_pending, waiting,
+};
 pub use records::{Kept, merge};
 pub use typing_laws::{due_asks, returned_values, suiting_frames};

@@ -6,10 +6,10 @@ ghost use Rattle.fp_tables.specs.SoundPrograms.{IsSoundProgram};
 ghost use Rattle.fp_events.specs.Ends.{EndsAs};
 ghost use Rattle.fp_events.specs.Run.{at, by, entry_lt, history, trace, IsRun, AreRecords};
 
+use crate::Running;
 use fp_base::{NoMemory, Row};
 use fp_events::{Entry, Finish, projections};
 use fp_run_laws::{Kept, merge, same_world};
-use crate::Running;
 use fp_tables::{Program, Tables};
 use std::alloc::Global;
 

@@ -1,4 +1,5 @@
-//! The runner on one thread: cells and actors whose turns are taken one by one, and how a run of them ends.
+//! The runner on one thread: cells and actors whose turns are taken one by one, and how a run of them ends; and the end of a run on threads: what was
+//! kept of it, merged, and brought to its end on one thread.
 #![tactic(auto)]
 
 mod agenda;

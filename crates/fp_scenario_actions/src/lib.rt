@@ -1,4 +1,5 @@
-//! The actions of a scenario's lists: what each names, takes and binds in the tables of a run, or a rule that it breaks.
+//! The actions of a scenario's lists: what each names, takes and binds in the tables of a run, what JSON values are as values of the model's types and as
+//! arguments, or a rule that an action breaks.
 #![tactic(auto)]
 
 mod acting;
@@ -19,7 +20,10 @@ mod wanted;
 
 pub use arguments::{are_bound, arguments_of, kinds_of};
 pub use calling::acts_of_caller;
-pub use laws::{lists_are_planned_once, planned_calls_break_nothing, planned_calls_suit, planned_lists_break_nothing, planned_lists_suit};
+pub use laws::{
+    lists_are_planned_once, planned_calls_break_nothing, planned_calls_suit,
+    planned_lists_break_nothing, planned_lists_suit,
+};
 pub use listing::{ListHalt, acts_here, ends_in_return};
 pub use named::{name_of, placed_named, running_named};
 pub use spots::spot_in;

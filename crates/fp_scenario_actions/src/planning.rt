@@ -7,9 +7,9 @@ ghost use Rattle.fp_scenario_actions.specs.Halts.{IsHalt};
 ghost use Rattle.fp_scenario_actions.specs.Acting.{ArgumentsBreak, IsUnsuited, PlansWith};
 
 use crate::halt::Halt;
+use crate::{are_bound, arguments_of, kinds_of};
 use fp_base::{Row, Rule, Text};
 use fp_scenario::ActText;
-use crate::{are_bound, arguments_of, kinds_of};
 use fp_tables::{Act, Arg, Bound, End, Formal, Kind, TypeDef, Verb};
 use std::alloc::Global;
 

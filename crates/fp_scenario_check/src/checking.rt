@@ -18,9 +18,9 @@ use crate::limits::is_small_enough;
 use crate::owned::owned_of;
 use crate::repeats::{repeated_caller, repeated_guard, repeated_handler};
 use crate::stops::stop_at_item;
+use crate::{acyclic_programs_break_nothing, planned_programs_are_sound};
 use fp_base::{PathStop, Row, Rule, Text};
 use fp_scenario::{Scenario, ScenarioStop, stop_under_key};
-use crate::{acyclic_programs_break_nothing, planned_programs_are_sound};
 use fp_tables::{Answers, Caller, Program, Tables};
 use std::alloc::Global;
 

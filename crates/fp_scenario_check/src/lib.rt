@@ -1,4 +1,5 @@
-//! The program that a scenario stands for in the tables of a run, or a rule that the scenario breaks with the path of what breaks it.
+//! The program that a scenario stands for in the tables of a run, of which there is one and which is sound, or a rule that the scenario breaks with the
+//! path of what breaks it.
 #![tactic(auto)]
 
 mod callers;
@@ -16,4 +17,7 @@ mod standing;
 mod stops;
 
 pub use checking::check_scenario;
-pub use laws::{acyclic_programs_break_nothing, handlers_begin, planned_programs_are_sound, scenarios_stand_for_one_program};
+pub use laws::{
+    acyclic_programs_break_nothing, handlers_begin, planned_programs_are_sound,
+    scenarios_stand_for_one_program,
+};

@@ -22,7 +22,9 @@ ghost use Rattle.fp_topologies.specs.Resolved.{AreTopologies, HaveNoWires};
 ghost use Rattle.fp_sound_parts.specs.Premises.{HasSuitingPorts};
 
 use fp_numbering::{wires_lie, with_numbers_sound};
-use fp_topologies::{instances_differ, links_join_members, topologies_lie, unbroken_imports_are_closed};
+use fp_topologies::{
+    instances_differ, links_join_members, topologies_lie, unbroken_imports_are_closed,
+};
 
 /// Instances are of components of the model.
 pub fn instances_lie()

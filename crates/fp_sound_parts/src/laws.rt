@@ -22,8 +22,10 @@ ghost use Rattle.fp_source_parts.specs.MachineBuilt.{AreMachinesOf};
 ghost use Rattle.fp_source_parts.specs.Ordered.{MachinesAreOrdered};
 ghost use Rattle.fp_sound_parts.specs.Machines.{AreSoundMachines};
 
+use crate::{
+    resolved_components_are_sound, unbroken_bodies_are_sound, unbroken_outlines_are_sound,
+};
 use fp_part_values::{unbroken_limits_convert, unbroken_part_numbers_stand};
-use crate::{resolved_components_are_sound, unbroken_bodies_are_sound, unbroken_outlines_are_sound};
 use fp_source_types::unbroken_types_are_sound;
 use fp_type_formats::unbroken_formats_read;
 use fp_types::{converted_has_kind, converted_is_of_size, default_has_form, one_default};

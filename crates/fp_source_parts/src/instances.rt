@@ -6,10 +6,10 @@ ghost use Rattle.fp_source_parts.specs.TopologyBroken.{SourceInstancesBroken};
 ghost use Rattle.fp_source_parts.specs.TopologyBuilt.{IsDeployment};
 ghost use Rattle.fp_written_topologies.specs.Given.{DeploymentHasNumbers};
 
+use crate::Parts;
 use crate::topology_laws::instances_are_least;
 use fp_base::{NoMemory, Row, Stop};
 use fp_instances::{instances_fault, instances_of, unbroken_are_within};
-use crate::Parts;
 use fp_tables::Instance;
 use fp_tree::Source;
 use fp_written_topologies::WrittenDeployment;

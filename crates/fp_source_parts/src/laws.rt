@@ -18,7 +18,10 @@ ghost use Rattle.fp_source_parts.specs.Machines.{InstancesBroken, externals};
 ghost use Rattle.fp_source_parts.specs.Valued.{IsValued};
 
 use fp_component_rules::unbroken_are_consistent;
-use fp_part_values::{unbroken_defaults_convert, unbroken_limits_convert, unbroken_part_names_stand, unbroken_part_numbers_stand};
+use fp_part_values::{
+    unbroken_defaults_convert, unbroken_limits_convert, unbroken_part_names_stand,
+    unbroken_part_numbers_stand,
+};
 use fp_type_formats::unbroken_formats_read;
 use fp_types::{default_has_form, one_default};
 

@@ -8,11 +8,14 @@ ghost use Rattle.fp_topologies.specs.Imports.{ImportsLie};
 ghost use Rattle.fp_topologies.specs.Laws.{HaveClosures};
 ghost use Rattle.fp_topologies.specs.Resolved.{AreTopologies, HaveNoWires};
 
+use crate::Parts;
 use crate::topology_laws::topologies_are_least;
 use fp_base::{NoMemory, Row, Stop};
-use crate::Parts;
 use fp_tables::{Instance, Topology};
-use fp_topologies::{import_faults, imports_of, one_closures, topologies_of, topology_faults, unbroken_imports_are_closed};
+use fp_topologies::{
+    import_faults, imports_of, one_closures, topologies_of, topology_faults,
+    unbroken_imports_are_closed,
+};
 use fp_tree::Source;
 use fp_written_topologies::WrittenDeployment;
 use std::alloc::Global;

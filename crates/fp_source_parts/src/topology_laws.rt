@@ -16,8 +16,8 @@ ghost use Rattle.fp_numbering.specs.Wired.{NumbersBroken};
 ghost use Rattle.fp_written_topologies.specs.declared.topology.WrittenDeployment.{WrittenDeployment};
 
 use fp_components::one_components;
-use fp_topology_forms::one_deployment;
 use fp_topologies::one_topologies;
+use fp_topology_forms::one_deployment;
 
 /// The least rule that what is written of instances breaks is the least that those of the source break.
 pub fn instances_are_least()

@@ -1,9 +1,6 @@
-use crate::files::{copy, members, parts, topology_members};
-use crate::grammar::{
-    View, copied_instance, copied_machine, copied_topology, definition, expression, instance,
-    machine, topology,
-};
-use crate::parsed_components::{component, copied_component, copied_interface, interface};
+use crate::files::{members, parts, topology_members};
+use crate::grammar::{View, definition, expression, instance, machine, topology};
+use crate::parsed_components::{component, interface};
 use crate::tokens::tokens;
 use fp_base::{NoMemory, Stop, Text};
 use fp_case_texts::{Asked, Case, refused};
@@ -19,9 +16,7 @@ fn of_source(alloc: Global, case: &Case, question: &str) -> Option<Result<Text, 
         "places of definition" => Some(definition(alloc, case, View::Places)),
         "machine" => Some(machine(alloc, case, View::Shape)),
         "places of machine" => Some(machine(alloc, case, View::Places)),
-        "copy of machine" => Some(copied_machine(alloc, case, View::Shape)),
         "members" => Some(members(alloc, case)),
-        "copy" => Some(copy(alloc, case)),
         "parts" => Some(parts(alloc, case)),
         "topology members" => Some(topology_members(alloc, case)),
         _ => None,
@@ -32,10 +27,8 @@ fn of_topologies(alloc: Global, case: &Case, question: &str) -> Option<Result<Te
     match question {
         "instance" => Some(instance(alloc, case, View::Shape)),
         "places of instance" => Some(instance(alloc, case, View::Places)),
-        "copy of instance" => Some(copied_instance(alloc, case, View::Shape)),
         "topology" => Some(topology(alloc, case, View::Shape)),
         "places of topology" => Some(topology(alloc, case, View::Places)),
-        "copy of topology" => Some(copied_topology(alloc, case, View::Shape)),
         _ => None,
     }
 }
@@ -45,10 +38,8 @@ fn of_component(alloc: Global, case: &Case, question: &str) -> Option<Result<Tex
     match question {
         "component" => Some(component(alloc, case, View::Shape)),
         "places of component" => Some(component(alloc, case, View::Places)),
-        "copy of component" => Some(copied_component(alloc, case)),
         "interface" => Some(interface(alloc, case, View::Shape)),
         "places of interface" => Some(interface(alloc, case, View::Places)),
-        "copy of interface" => Some(copied_interface(alloc, case)),
         _ => None,
     }
 }

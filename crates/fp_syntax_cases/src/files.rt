@@ -7,7 +7,6 @@ use fp_case_texts::{Case, push_line, push_span};
 use fp_lexer::lex;
 use fp_parse_parts::{Inside, Members, parse};
 use fp_tree::{Part, Unit};
-use fp_tree_copies::Copied;
 use std::alloc::Global;
 
 fn unit(alloc: Global, source: &[u8]) -> Result<Unit, Stop> {
@@ -63,13 +62,5 @@ pub fn members(alloc: Global, case: &Case) -> Result<Text, Stop> {
     let unit = unit(alloc, case.source())?;
     let mut out = Text::new(alloc);
     add_members(alloc, 0, unit.members.as_slice(), &mut out)?;
-    Ok(out)
-}
-
-/// The members of a copy of a file.
-pub fn copy(alloc: Global, case: &Case) -> Result<Text, Stop> {
-    let copy = unit(alloc, case.source())?.copy(alloc)?;
-    let mut out = Text::new(alloc);
-    add_members(alloc, 0, copy.members.as_slice(), &mut out)?;
     Ok(out)
 }

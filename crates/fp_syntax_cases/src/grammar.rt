@@ -11,7 +11,6 @@ use fp_parse_defs::{parse_def, parse_expr};
 use fp_parse_states::parse_machine;
 use fp_parse_topologies::{parse_instance, parse_topology};
 use fp_tree::{Expr, Instance, Machine, Topology};
-use fp_tree_copies::Copied;
 use std::alloc::Global;
 
 /// No source of a case has more.
@@ -87,15 +86,6 @@ pub fn machine(alloc: Global, case: &Case, view: View) -> Result<Text, Stop> {
     Ok(viewed(alloc, tree, to, view)?)
 }
 
-/// The same of a copy.
-pub fn copied_machine(alloc: Global, case: &Case, view: View) -> Result<Text, Stop> {
-    let mut tree = Tree::new(alloc);
-    let (machine, to) = parsed_machine(alloc, case)?;
-    let copy = machine.copy(alloc)?;
-    add_machine(alloc, &copy, &mut tree)?;
-    Ok(viewed(alloc, tree, to, view)?)
-}
-
 fn parsed_instance(alloc: Global, case: &Case) -> Result<(Instance, u32), Stop> {
     let tokens = lex(alloc, 0, case.source())?;
     let from = case.number("from");
@@ -113,15 +103,6 @@ pub fn instance(alloc: Global, case: &Case, view: View) -> Result<Text, Stop> {
     Ok(viewed(alloc, tree, to, view)?)
 }
 
-/// The same of a copy.
-pub fn copied_instance(alloc: Global, case: &Case, view: View) -> Result<Text, Stop> {
-    let mut tree = Tree::new(alloc);
-    let (instance, to) = parsed_instance(alloc, case)?;
-    let copy = instance.copy(alloc)?;
-    add_instance(alloc, &copy, &mut tree)?;
-    Ok(viewed(alloc, tree, to, view)?)
-}
-
 fn parsed_topology(alloc: Global, case: &Case) -> Result<(Topology, u32), Stop> {
     let tokens = lex(alloc, 0, case.source())?;
     let from = case.number("from");
@@ -136,14 +117,5 @@ pub fn topology(alloc: Global, case: &Case, view: View) -> Result<Text, Stop> {
     let mut tree = Tree::new(alloc);
     let (topology, to) = parsed_topology(alloc, case)?;
     add_topology(alloc, &topology, &mut tree)?;
-    Ok(viewed(alloc, tree, to, view)?)
-}
-
-/// The same of a copy.
-pub fn copied_topology(alloc: Global, case: &Case, view: View) -> Result<Text, Stop> {
-    let mut tree = Tree::new(alloc);
-    let (topology, to) = parsed_topology(alloc, case)?;
-    let copy = topology.copy(alloc)?;
-    add_topology(alloc, &copy, &mut tree)?;
     Ok(viewed(alloc, tree, to, view)?)
 }

@@ -6,7 +6,6 @@ use fp_case_texts::Case;
 use fp_lexer::lex;
 use fp_parse_components::{parse_component, parse_interface};
 use fp_tree::{Component, Interface};
-use fp_tree_copies::Copied;
 use std::alloc::Global;
 
 fn parsed_component(alloc: Global, case: &Case) -> Result<(Component, u32), Stop> {
@@ -35,28 +34,10 @@ pub fn component(alloc: Global, case: &Case, view: View) -> Result<Text, Stop> {
     Ok(viewed(alloc, tree, to, view)?)
 }
 
-/// The same of a copy.
-pub fn copied_component(alloc: Global, case: &Case) -> Result<Text, Stop> {
-    let mut tree = Tree::new(alloc);
-    let (component, to) = parsed_component(alloc, case)?;
-    let copy = component.copy(alloc)?;
-    add_component(alloc, &copy, &mut tree)?;
-    Ok(viewed(alloc, tree, to, View::Shape)?)
-}
-
 /// What an interface spells.
 pub fn interface(alloc: Global, case: &Case, view: View) -> Result<Text, Stop> {
     let mut tree = Tree::new(alloc);
     let (interface, to) = parsed_interface(alloc, case)?;
     add_interface(alloc, &interface, &mut tree)?;
     Ok(viewed(alloc, tree, to, view)?)
-}
-
-/// The same of a copy.
-pub fn copied_interface(alloc: Global, case: &Case) -> Result<Text, Stop> {
-    let mut tree = Tree::new(alloc);
-    let (interface, to) = parsed_interface(alloc, case)?;
-    let copy = interface.copy(alloc)?;
-    add_interface(alloc, &copy, &mut tree)?;
-    Ok(viewed(alloc, tree, to, View::Shape)?)
 }

@@ -3,8 +3,8 @@ ghost use Rattle.fp_base.specs.Least.{IsLeast};
 ghost use Rattle.fp_topologies.specs.ConnectionBroken.{BrokenByConnections};
 ghost use Rattle.fp_topologies.specs.Ports.{connection_facts};
 
-use fp_base::{NoMemory, Refusal, Row};
 use crate::{ConnectionFacts, PortIndex, connection_faults};
+use fp_base::{NoMemory, Refusal, Row};
 use fp_written_topologies::WrittenConnection;
 use std::alloc::Global;
 

@@ -6,9 +6,9 @@ ghost use Rattle.fp_topologies.specs.Broken.{TopologiesBroken, TopologyBroken};
 use crate::connecting::connections_fault;
 use crate::members::members_fault;
 use crate::rule_patterns::patterns_fault;
+use crate::{PortIndex, index_ports, one_closures};
 use fp_base::{NoMemory, Refusal, Row, lesser};
 use fp_tables::{Component, Instance, PortDef};
-use crate::{PortIndex, index_ports, one_closures};
 use fp_written_topologies::WrittenTopology;
 use std::alloc::Global;
 

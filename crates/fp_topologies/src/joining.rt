@@ -8,9 +8,9 @@ ghost use Rattle.fp_topologies.specs.Joined.{AreJoined, AreJoinedTo, IsJoined, m
 
 use crate::ends::new_links;
 use crate::taking::imported_links;
+use crate::{Imported, PortIndex, instances_held};
 use fp_base::{NoMemory, Row};
 use fp_tables::Link;
-use crate::{Imported, PortIndex, instances_held};
 use fp_written_topologies::{WrittenPattern, WrittenTopology};
 use std::alloc::Global;
 

@@ -6,8 +6,8 @@ ghost use Rattle.fp_topologies.specs.MemberBroken.{MembersBroken, Repeated};
 ghost use Rattle.fp_topologies.specs.Broken.{Lacks, own_uses, uses_in};
 
 use crate::uses::{own_uses, uses_in};
-use fp_base::{NoMemory, Refusal, Row};
 use crate::{instances_held, member_faults};
+use fp_base::{NoMemory, Refusal, Row};
 use fp_written_topologies::WrittenTopology;
 use std::alloc::Global;
 

@@ -8,9 +8,9 @@ ghost use Rattle.fp_topologies.specs.Resolved.{AreResolved, AreTopologies, HaveN
 use crate::joining::{Joined, closure_at, topologies_joined, written_at};
 use crate::sorting::in_order;
 use crate::taking::imported_links;
+use crate::{Imported, index_ports};
 use fp_base::{NoMemory, Row};
 use fp_tables::{Component, Instance, Link, PortDef, Topology};
-use crate::{Imported, index_ports};
 use fp_written_topologies::WrittenTopology;
 use std::alloc::Global;
 

@@ -2,9 +2,9 @@ ghost use Rattle.std.specs.Prelude.{ℕ};
 ghost use Rattle.fp_base.specs.Least.{InSome, IsLeast};
 ghost use Rattle.fp_topologies.specs.Broken.{PatternBroken, TargetBroken};
 
+use crate::PortIndex;
 use crate::uses::targets_of;
 use fp_base::{Refusal, Rule, lesser, refusal_if};
-use crate::PortIndex;
 use fp_tree::Pattern;
 use fp_written_topologies::{UsedInstance, WrittenPattern};
 

@@ -2,8 +2,8 @@ ghost use Rattle.std.specs.Prelude.{◌≡◌, ◌++◌, filter_map, option_and_
 ghost use Rattle.fp_topologies.specs.Ports.{connection_facts, direct_links, end_facts, joined_port, link_between, link_of, port_used, ports_at, written_number};
 
 use crate::index::PortIndex;
-use fp_base::{NoMemory, Row};
 use crate::{ConnectionFacts, EndFacts, JoinedPort};
+use fp_base::{NoMemory, Row};
 use fp_tables::{Link, Written};
 use fp_written_parts::Given;
 use fp_written_topologies::{WrittenConnection, WrittenPortUse, WrittenTopology};

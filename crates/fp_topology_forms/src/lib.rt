@@ -1,4 +1,4 @@
-//! From a source that is laid out to what is written of its instances and topologies.
+//! From a source that is laid out to what is written of its instances and topologies, whose names are qualified and differ.
 #![tactic(auto)]
 
 mod adding;
