@@ -6,10 +6,10 @@ ghost use Rattle.fp_plant.specs.Planted.{AreAll};
 
 use fp_base::{NoMemory, Row};
 use fp_events::Entry;
-use fp_run_laws::merge;
 use fp_outside::Gate;
 use fp_plant::{Hand, Plant};
 use fp_rounds::run;
+use fp_run_laws::merge;
 use fp_tables::{Program, Tables};
 use std::alloc::Global;
 use std::sync::Wait;

@@ -1,5 +1,5 @@
-use Rattle.fp_machine_tests.proofs.Standing.{elements_stand}
-use Rattle.fp_machine_tests.proofs.layouts.fault_in.Goals as goal
+use Rattle.fp_front_tests.proofs.Standing.{elements_stand}
+use Rattle.fp_front_tests.proofs.layouts.fault_in.Goals as goal
 
 pub behavior_fault-requires : goal.behavior_fault-requires
 behavior_fault-requires c =

@@ -1,7 +1,7 @@
 use crate::reading::read_machine;
 use fp_base::{NoMemory, Place, Refusal};
-use fp_machines::{behavior_fault, lay_out_machine};
 use fp_machine_rules::{Declaration, Form, Item, LaidMachine, Meaning, Target, Use, is_laid};
+use fp_machines::{behavior_fault, lay_out_machine};
 use fp_tree::BehaviorElement;
 use std::alloc::Global;
 use std::test::Fail;

@@ -1,6 +1,6 @@
 use Rattle.std.proofs.Common.{pos, [], ◌∷◌, lit<, refl, ap, ◌∙◌}
-use Rattle.fp_queue_tests.proofs.Known.{known_at}
-use Rattle.fp_queue_tests.proofs.tests.takes_by_priority_and_then_by_arrival.Goals as goal
+use Rattle.fp_plant_tests.proofs.Known.{known_at}
+use Rattle.fp_plant_tests.proofs.queues.takes_by_priority_and_then_by_arrival.Goals as goal
 
 pub put-requires-2 : goal.put-requires-2
 put-requires-2 g c = known_at _ (pos 1 ∷ pos 5 ∷ pos 3 ∷ []) 1 _ (c.put.ensures.priorities ∙ ap (λ q. q.priorities) c.in_ok-queue.ensures) (lit< tt) refl
