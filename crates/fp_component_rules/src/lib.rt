@@ -17,8 +17,8 @@ mod listing;
 mod matching;
 mod needing;
 mod numbers;
-mod port_faults;
 mod ports;
+mod ports_broken;
 mod queueing;
 mod repeats;
 
@@ -30,4 +30,4 @@ pub use gift::{Gift, gift_of};
 pub use interface_kinds::SpecialKinds;
 pub use laws::unbroken_are_consistent;
 pub use listing::port_lists;
-pub use port_faults::port_faults;
+pub use ports_broken::port_faults;

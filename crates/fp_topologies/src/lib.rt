@@ -3,7 +3,7 @@
 
 mod closing;
 mod connecting;
-mod connection_faults;
+mod connections_broken;
 mod cycles;
 mod ends;
 mod facts;
@@ -18,8 +18,8 @@ mod joining;
 mod laws;
 mod links;
 mod making;
-mod member_faults;
 mod members;
+mod members_broken;
 mod noting;
 mod patterns;
 mod resolving;
@@ -30,7 +30,7 @@ mod taking;
 mod uses;
 mod written;
 
-pub use connection_faults::connection_faults;
+pub use connections_broken::connection_faults;
 pub use cycles::import_faults;
 pub use facts::{ConnectionFacts, EndFacts, JoinedPort};
 pub use faults::topology_faults;
@@ -40,6 +40,6 @@ pub use import_laws::{closures_lie, one_closures, unbroken_imports_are_closed};
 pub use index::{PortIndex, index_ports};
 pub use joining::Joined;
 pub use laws::{instances_differ, links_join_members, one_topologies, topologies_lie};
-pub use member_faults::member_faults;
+pub use members_broken::member_faults;
 pub use resolving::topologies_of;
 pub use sorts::{Definition, Join, JoinAt, Sort, joins_of};
