@@ -39,7 +39,7 @@ use Rattle.fp_source_parts.proofs.Places.{as_long, second_read}
 use Rattle.fp_source_parts.proofs.Positions.{position_lies}
 use Rattle.fp_source_parts.specs.MachineBroken.{BrokenBehavior, BrokenItem, BrokenMachine, BrokenModel, MachinesBroken}
 use Rattle.fp_source_parts.specs.MachineBuilt.{AreMachinesOf, IsMachine}
-use Rattle.fp_source_parts.specs.Declared.{DeclareAll, Declares, FormDeclares, TypeIs}
+use Rattle.fp_source_parts.specs.DeclaredElements.{DeclareAll, Declares, FormDeclares, TypeIs}
 use Rattle.fp_source_parts.specs.Ordered.{IsOrdered, IsOrderedModel, MachinesAreOrdered}
 use Rattle.fp_sound_parts.specs.Sound.{HasSoundBody, HasSoundOutline, IsUnbrokenBehavior}
 use Rattle.fp_sound_parts.specs.Machines.{AreSoundMachines, IsSoundMachine}

@@ -27,7 +27,7 @@ use Rattle.fp_machines.specs.Layout.{laid}
 use Rattle.fp_machines.specs.Numbers.{type_numbers}
 use Rattle.fp_machines.specs.Ordered.{AreInOrder}
 use Rattle.fp_source_parts.specs.MachineBroken.{BrokenBehavior, BrokenElements, BrokenItem, BrokenModel, MachinesBroken}
-use Rattle.fp_source_parts.specs.Declared.{DeclareAll}
+use Rattle.fp_source_parts.specs.DeclaredElements.{DeclareAll}
 use Rattle.fp_source_parts.proofs.Taken.{one_declared}
 
 -- elements in their order stand behind the states that they stand in

@@ -12,7 +12,7 @@ use Rattle.fp_meaning.specs.Names.{Path, in_optional}
 use Rattle.fp_type_forms.specs.declared.resolving.Resolution.{Resolution}
 use Rattle.fp_type_forms.specs.Resolved.{Takes}
 use Rattle.fp_type_forms.specs.Written.{AllAt}
-use Rattle.fp_source_parts.specs.Declared.{DeclareAll, Declares, FormDeclares, TypeIs}
+use Rattle.fp_source_parts.specs.DeclaredElements.{DeclareAll, Declares, FormDeclares, TypeIs}
 
 module _ (source : Source) (marks : List (Option Value)) (rs : List Resolution) (scope : Path) where
   -- by the form that an element has

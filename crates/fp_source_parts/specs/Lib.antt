@@ -1,6 +1,6 @@
 pub mod Broken
 pub mod Built
-pub mod Declared
+pub mod DeclaredElements
 pub mod MachineBroken
 pub mod MachineBuilt
 pub mod Machines

@@ -18,7 +18,7 @@ use Rattle.fp_source_types.specs.Typed.{AreTypesOf}
 use Rattle.fp_machine_rules.specs.Broken.{MachineBroken}
 use Rattle.fp_machines.specs.Layout.{laid}
 use Rattle.fp_machines.specs.Numbers.{type_numbers}
-use Rattle.fp_source_parts.specs.Declared.{DeclareAll}
+use Rattle.fp_source_parts.specs.DeclaredElements.{DeclareAll}
 
 -- the types of the source are these
 module _ (types : List TypeDef) (source : Source) where

@@ -9,7 +9,7 @@ use Rattle.fp_type_forms.specs.Written.{AllAt}
 use Rattle.fp_component_forms.specs.Written.{Scoped, qualified}
 use Rattle.fp_machines.specs.Made.{machine_of}
 use Rattle.fp_source_parts.specs.Machines.{machines}
-use Rattle.fp_source_parts.specs.Declared.{DeclareAll}
+use Rattle.fp_source_parts.specs.DeclaredElements.{DeclareAll}
 
 -- a machine by its qualified name, over the kinds of what its elements declare
 pub record IsMachine (source : Source) (m : Scoped Written) (d : Machine) : Type 0 where

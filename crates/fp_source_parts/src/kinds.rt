@@ -4,7 +4,7 @@ ghost use Rattle.fp_meaning.specs.Names.{Path, in_optional};
 ghost use Rattle.fp_tree.specs.declared.source.Source.{Source};
 ghost use Rattle.fp_names.specs.Named.{elements_in};
 ghost use Rattle.fp_type_forms.specs.Resolved.{AreResolved, Takes};
-ghost use Rattle.fp_source_parts.specs.Declared.{DeclareAll, FormDeclares, TypeIs};
+ghost use Rattle.fp_source_parts.specs.DeclaredElements.{DeclareAll, FormDeclares, TypeIs};
 
 use fp_base::{NoMemory, Row, Value};
 use fp_tables::Kind;

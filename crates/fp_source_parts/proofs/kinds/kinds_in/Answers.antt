@@ -8,7 +8,7 @@ use Rattle.fp_meaning.specs.Names.{in_optional}
 use Rattle.fp_names.specs.Named.{elements_in}
 use Rattle.fp_type_forms.specs.Resolved.{AreResolved}
 use Rattle.fp_type_forms.proofs.Taking.{taken_all}
-use Rattle.fp_source_parts.specs.Declared.{DeclareAll}
+use Rattle.fp_source_parts.specs.DeclaredElements.{DeclareAll}
 use Rattle.fp_source_parts.proofs.kinds.kinds_in.Goals as goal
 
 pub returns-in-None : goal.returns-in-None

@@ -5,7 +5,7 @@ use Rattle.fp_tree.specs.declared.machine.BehaviorElement.{BehaviorElement}
 use Rattle.fp_meaning.specs.Layout.{element_items}
 use Rattle.fp_type_forms.proofs.Taking.{taken_as}
 use Rattle.fp_component_forms.proofs.Lists.{EachIs, all_read, each_joined, next_read, none_read}
-use Rattle.fp_source_parts.specs.Declared.{Declares}
+use Rattle.fp_source_parts.specs.DeclaredElements.{Declares}
 use Rattle.fp_source_parts.proofs.kinds.kinds_taken.Goals as goal
 
 pub loop-element-init : goal.loop-element-init

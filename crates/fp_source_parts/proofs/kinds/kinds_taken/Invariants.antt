@@ -3,7 +3,7 @@ use Rattle.fp_tree.specs.declared.machine.BehaviorElement.{BehaviorElement}
 use Rattle.fp_meaning.specs.Layout.{element_items}
 use Rattle.fp_meaning.specs.Names.{Path}
 use Rattle.fp_component_forms.proofs.Lists.{EachIs, ReadsFirst}
-use Rattle.fp_source_parts.specs.Declared.{Declares}
+use Rattle.fp_source_parts.specs.DeclaredElements.{Declares}
 use Rattle.fp_source_parts.proofs.kinds.kinds_taken.Given as goal
 
 abbrev pub invariant-loop-element : goal.invariant-loop-element
