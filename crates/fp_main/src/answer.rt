@@ -23,11 +23,16 @@ use crate::topologies::topology_named;
 use crate::words::{Command, TopologyText, Wanted, read_words};
 use fp_base::{NoMemory, Refusal, Row, Stop};
 use fp_dictionary::dictionary;
-use fp_source_laws::{enumerations_have_constants, instances_break_at_places, machines_are_ordered, numbers_break_at_places, part_enumerations_have_constants, part_machines_are_ordered, parts_break_at_places, states_break_at_places, topologies_break_at_places, values_break_at_places};
 use fp_gather::{Halt, gather, in_files_read, name_of, names_are_names, places_in_files};
 use fp_listing::{listing, port_lines};
 use fp_model::resolve;
 use fp_outside::{Files, Gate};
+use fp_source_laws::{
+    enumerations_have_constants, instances_break_at_places, machines_are_ordered,
+    numbers_break_at_places, part_enumerations_have_constants, part_machines_are_ordered,
+    parts_break_at_places, states_break_at_places, topologies_break_at_places,
+    values_break_at_places,
+};
 use fp_source_types::listed_items_have_constants;
 use fp_tables::Model;
 use fp_tree::Source;

@@ -13,15 +13,15 @@ ghost use Rattle.fp_model.specs.Joined.{AreParts, IsDeployed, Joined, StatesHold
 
 use fp_base::{Row, Stop, Value};
 use fp_meaning::Item;
+use fp_numbering::number_all;
 use fp_source_parts::{Parts, numbers_are_least, source_instances, source_topologies};
 use fp_tables::{Instance, Model, Topology};
+use fp_topologies::unbroken_imports_are_closed;
 use fp_topology_forms::{
     deployment_written, deployments_have_numbers, one_deployment, written_deployments_lie,
 };
-use fp_topologies::unbroken_imports_are_closed;
 use fp_tree::Source;
 use fp_type_forms::Resolution;
-use fp_numbering::number_all;
 use std::alloc::Global;
 
 /// The instances of components and the topologies of a source.

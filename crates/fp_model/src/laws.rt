@@ -20,13 +20,19 @@ ghost use Rattle.fp_model.specs.Defined.{Defined};
 ghost use Rattle.fp_model.specs.Joined.{Joined, TopologiesHold};
 
 use fp_component_rules::unbroken_are_consistent;
-use fp_topology_forms::{deployment_names_are_qualified, deployment_names_differ, one_deployment, written_deployments_lie};
-use fp_sound_parts::{instances_are_sound, instances_lie, machines_are_sound, numbered_topologies_lie, parts_are_sound, topologies_are_sound};
+use fp_sound_parts::{
+    instances_are_sound, instances_lie, machines_are_sound, numbered_topologies_lie,
+    parts_are_sound, topologies_are_sound,
+};
 use fp_source_types::{
     names_in_types_are_names, type_names_are_qualified, type_names_differ,
     unbroken_chains_are_short, unbroken_types_are_sound, values_are_of_size,
 };
 use fp_topologies::{topologies_lie, unbroken_imports_are_closed};
+use fp_topology_forms::{
+    deployment_names_are_qualified, deployment_names_differ, one_deployment,
+    written_deployments_lie,
+};
 use fp_types::default_has_form;
 
 /// The positions in the model that a source defines lie, and matched ports have one size, where no phase before that of numbering is broken, each use

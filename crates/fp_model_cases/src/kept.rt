@@ -6,9 +6,9 @@ ghost use Rattle.fp_tables.specs.SoundPrograms.{IsSoundProgram};
 use crate::runs::add_log;
 use crate::turns::take_turns;
 use fp_base::{NoMemory, Text};
-use fp_running::{Running, conclude};
 use fp_events::{Finish, projections};
 use fp_run_laws::{Kept, merge};
+use fp_running::{Running, conclude};
 use fp_tables::{Program, Tables};
 use std::alloc::Global;
 

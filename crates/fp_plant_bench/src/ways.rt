@@ -7,10 +7,10 @@ ghost use Rattle.fp_plant.specs.Planted.{AreAll};
 
 use fp_base::{NoMemory, Row};
 use fp_events::Entry;
-use fp_run_laws::Kept;
 use fp_outside::OpenGate;
 use fp_plant::{Hand, Plant};
 use fp_rounds::run;
+use fp_run_laws::Kept;
 use fp_running::Running;
 use fp_tables::{Program, Tables};
 use std::alloc::Global;

@@ -6,9 +6,9 @@ ghost use Rattle.fp_events.specs.Run.{IsRun};
 
 use crate::ways::kept_of;
 use fp_base::{NoMemory, Row};
-use fp_running::{conclude, run_alone};
 use fp_events::{Entry, Finish};
 use fp_outside::OpenGate;
+use fp_running::{conclude, run_alone};
 use fp_scenario_run::{log_of, run_on_threads};
 use fp_tables::{Program, Tables};
 use std::alloc::{AllocError, Global};

@@ -8,12 +8,12 @@ ghost use Rattle.fp_events.specs.Run.{entry_lt, AreRecords};
 
 use fp_actor::actor_count;
 use fp_base::{NoMemory, Row};
-use fp_running::{conclude, run_alone};
 use fp_events::{Entry, Finish};
-use fp_run_laws::Kept;
 use fp_outside::Gate;
 use fp_plant::Plant;
 use fp_rounds::run;
+use fp_run_laws::Kept;
+use fp_running::{conclude, run_alone};
 use fp_tables::{Program, Tables};
 use std::alloc::Global;
 use std::sync::Wait;

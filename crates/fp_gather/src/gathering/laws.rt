@@ -11,7 +11,11 @@ ghost use Rattle.fp_gather.specs.gathering.Names.{IsNamed};
 ghost use Rattle.fp_gather.specs.gathering.Walks.{Walked, Outcome, NoReadFault, WalksFiles, Went, nothing_read};
 
 use fp_parse_parts::{one_break, one_list};
-use fp_places::{names_are_written, part_names_are_written, part_places_begin_tokens, parts_stand_at_tokens, places_begin_tokens, stand_at_tokens, topology_names_are_written, topology_places_begin_tokens, topology_stands_at_tokens};
+use fp_places::{
+    names_are_written, part_names_are_written, part_places_begin_tokens, parts_stand_at_tokens,
+    places_begin_tokens, stand_at_tokens, topology_names_are_written, topology_places_begin_tokens,
+    topology_stands_at_tokens,
+};
 
 /// Files that tell what they hold are read in one way, where no read fails.
 pub fn one_reading()
