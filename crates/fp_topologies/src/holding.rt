@@ -1,28 +1,11 @@
 ghost use Rattle.std.specs.Prelude.{◌≡◌, ◌++◌, ◌∷◌, [], ℕ, List, IfOk, flat_map};
 ghost use Rattle.fp_topologies.specs.ImportFirsts.{AreFirsts};
-ghost use Rattle.fp_topologies.specs.Held.{has_private, instances_of, instances_with, is_private_at, members_at, public_at, public_of};
+ghost use Rattle.fp_topologies.specs.Held.{instances_of, instances_with, members_at, public_at, public_of};
 
 use crate::firsts::{Firsts, no_firsts, with_number};
 use fp_base::{NoMemory, Row};
 use fp_written_topologies::{MemberInstance, WrittenTopology};
 use std::alloc::Global;
-
-fn has_private(instance: u32, topology: &WrittenTopology) -> bool
-    ensures { result ≡ has_private instance topology.now }
-{
-    topology.instances.as_slice().iter().any(|member| member.private
-        & (member.used.instance == instance))
-}
-
-/// Whether an instance is among the private members of a topology. In time that grows with its members.
-pub fn is_private_at(written: &[WrittenTopology], topology: u32, instance: u32) -> bool
-    ensures { result ≡ is_private_at written.now topology instance }
-{
-    match written.get(topology as usize) {
-        Some(topology) => has_private(instance, topology),
-        None => false,
-    }
-}
 
 fn with_if_public(firsts: Firsts, member: MemberInstance) -> Result<Firsts, NoMemory>
     ensures { (all : List ℕ) → AreFirsts all firsts → IfOk result (AreFirsts (all ++ public_of (member ∷ []))) }

@@ -35,7 +35,7 @@ pub use cycles::import_faults;
 pub use facts::{ConnectionFacts, EndFacts, JoinedPort};
 pub use faults::topology_faults;
 pub use filling::{Imported, imports_of};
-pub use holding::{instances_held, is_private_at};
+pub use holding::instances_held;
 pub use import_laws::{closures_lie, one_closures, unbroken_imports_are_closed};
 pub use index::{PortIndex, index_ports};
 pub use joining::Joined;

@@ -26,7 +26,7 @@ use Rattle.fp_meaning.specs.declared.item.Item.TheVariants as item
 use Rattle.fp_meaning.specs.Meaning.{Means}
 use Rattle.fp_meaning.specs.Layout.{constant_items, expression_items, type_form_items}
 use Rattle.fp_meaning.specs.Names.{Path, definitions}
-use Rattle.fp_meaning.specs.Sites.{Naming, entry, in_optional, is_implied}
+use Rattle.fp_meaning.specs.Sites.{Naming, entry, is_implied}
 use Rattle.fp_meaning.proofs.Meanings.{one_meaning}
 use Rattle.fp_meaning.specs.Values.{number_in, dotted, opened, names_of, IsImplied, Val}
 use Rattle.fp_consts.proofs.Valued.{implied_when, implied_then}
@@ -35,7 +35,7 @@ use Rattle.fp_type_sizes.specs.declared.written.Own.{Own}
 use Rattle.fp_type_forms.specs.declared.resolving.Resolution.{Resolution}
 use Rattle.fp_type_forms.specs.declared.resolving.Resolution.TheVariants as resolution
 use Rattle.fp_type_forms.specs.Written.{IsOnly, AllAt, TypeHere, is_kind, types_before, primitive, NumberIs, IsSizeTo, IsStringSize, KindIs, ConstantIs, EnumeratedIs, FormIs, OwnIs, IsWritten}
-use Rattle.fp_type_forms.specs.Resolved.{IsMarkOf, AreResolved, AreWrittenIn, Takes, Moves, UseMeans, WhereWritten, constant_with, kind_resolved, marked_value, number_given, number_meant, use_resolved, value_resolved, own_with, one_more, both_there}
+use Rattle.fp_type_forms.specs.Resolved.{IsMarkOf, AreResolved, AreWrittenIn, Takes, Moves, UseMeans, constant_with, kind_resolved, marked_value, number_given, number_meant, use_resolved, value_resolved, own_with, one_more, both_there}
 use Rattle.fp_type_forms.proofs.Only.{only_same, only_mapped, only_then, only_both, only_nothing, only_more}
 use Rattle.fp_type_sizes.proofs.Places.{no_some}
 
@@ -55,13 +55,6 @@ module _ (source : Source) (marks : List (Option Value)) (rs : List Resolution) 
 
   pub taken_nothing : {P : Type 0} (a : ℕ) → P → Takes source marks rs [] a a P
   taken_nothing a p others h = (p, h)
-
-  -- where a part is left out
-  pub taken_unwritten : {A B : Type 0} (f : A → List Item) (P : A → B → Type 0) (o : Option A) (a : ℕ) → o ≡ None
-      → Takes source marks rs (in_optional f o) a a (IsOnly (WhereWritten P o) None)
-  taken_unwritten f P o a is =
-      subst (λ x. Takes source marks rs (in_optional f x) a a (IsOnly (WhereWritten P x) None)) (sym is)
-      (taken_nothing a (record { holds = λ y e. no_some e; only = λ y h. absurd h }))
 
   -- all of it
   pub taken_all : {P : Type 0} (xs : List Item) (a b : ℕ) → Takes source marks rs xs a b P → AreResolved source marks rs xs a → P

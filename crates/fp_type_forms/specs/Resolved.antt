@@ -145,11 +145,6 @@ abbrev pub own_with : Option Value → Own
 own_with None = own.NoValue
 own_with (Some v) = own.Has v
 
--- of a part that may be left out
-abbrev pub WhereWritten : {A B : Type 0} → (A → B → Type 0) → Option A → B → Type 0
-WhereWritten P None y = ⊥
-WhereWritten P (Some x) y = P x y
-
 -- of two that are both there
 abbrev pub both_there : {A B C : Type 0} → (A → B → C) → Option A → Option B → Option C
 both_there f (Some x) (Some y) = Some (f x y)

@@ -23,9 +23,6 @@ pub use checking::{form_faults, form_faults_in, part_faults};
 pub use faults::{formals_fault, if_no_number, name_fault, optional_name};
 pub use kinds::kind_taken;
 pub use laws::{one_form, one_written};
-pub use reading::{
-    meant_taken, number_taken, optional_meant_taken, optional_number_taken, own_taken, size_taken,
-    taken, value_of,
-};
+pub use reading::{meant_taken, number_taken, own_taken, size_taken, taken, value_of};
 pub use resolving::{Resolution, resolve_items};
 pub use writing::{types_written, types_written_in};

@@ -3,20 +3,18 @@ ghost use Rattle.std.specs.Option.{option_copied};
 ghost use Rattle.fp_base.specs.declared.value.Value.{Value as Data};
 ghost use Rattle.fp_tree.specs.declared.expression.Expr.{Expr as Whole};
 ghost use Rattle.fp_tree.specs.declared.source.Source.{Source};
-ghost use Rattle.fp_meaning.specs.declared.group.Group.{Group};
 ghost use Rattle.fp_meaning.specs.declared.item.Item.TheVariants as item;
-ghost use Rattle.fp_meaning.specs.Meaning.{Means};
-ghost use Rattle.fp_meaning.specs.Layout.{expression_items, use_items};
-ghost use Rattle.fp_meaning.specs.Names.{Path, definitions, in_optional};
+ghost use Rattle.fp_meaning.specs.Layout.{expression_items};
+ghost use Rattle.fp_meaning.specs.Names.{Path, in_optional};
 ghost use Rattle.fp_meaning.specs.Sites.{Naming};
-ghost use Rattle.fp_meaning.specs.Values.{names_of, number_in};
-ghost use Rattle.fp_type_forms.specs.Resolved.{Moves, Takes, UseMeans, WhereWritten, marked_value, number_meant, own_with, value_resolved};
+ghost use Rattle.fp_meaning.specs.Values.{number_in};
+ghost use Rattle.fp_type_forms.specs.Resolved.{Moves, Takes, UseMeans, marked_value, number_meant, own_with, value_resolved};
 ghost use Rattle.fp_type_forms.specs.Written.{IsOnly, IsSizeTo, NumberIs, OwnIs, is_kind};
 
 use crate::resolving::Resolution;
 use fp_base::{NoMemory, Value};
 use fp_consts::number_with;
-use fp_tree::{Expr, Qual};
+use fp_tree::Expr;
 use fp_type_sizes::Own;
 use std::alloc::Global;
 
@@ -79,21 +77,6 @@ pub fn number_taken(
     number_of(value_of(found, marks))
 }
 
-/// The same where an expression may be left out.
-pub fn optional_number_taken(
-    expression: &Option<Expr>,
-    resolutions: &[Resolution],
-    marks: &[Option<Value>],
-    next: &mut usize,
-) -> Option<i128>
-    ensures { (source : Source) (scope : Path) (since : ℕ) → Takes source marks.now resolutions.now (in_optional (expression_items since scope) expression.now) next.old next.new (IsOnly (WhereWritten (NumberIs source scope) expression.now) result) }
-{
-    match expression {
-        Some(_) => number_taken(resolutions, marks, next),
-        None => None,
-    }
-}
-
 /// What the next use means, by its number among the definitions; the use is passed. It isn't one of a type.
 pub fn meant_taken(resolutions: &[Resolution], next: &mut usize) -> Option<u32>
     ensures { (source : Source) (marks : List (Option Data)) (since : ℕ) (n : Naming) → is_kind n.group ≡ false → Takes source marks resolutions.now (item.Used since n ∷ []) next.old next.new (IsOnly (UseMeans source n) result) }
@@ -109,20 +92,6 @@ fn meant_of(found: Option<Resolution>) -> Option<u32>
         Some(Resolution::Type(_)) => None,
         Some(Resolution::Expression(_)) => None,
         Some(Resolution::Nothing) => None,
-        None => None,
-    }
-}
-
-/// The same where a name may be left out.
-pub fn optional_meant_taken(
-    name: &Option<Qual>,
-    resolutions: &[Resolution],
-    next: &mut usize,
-) -> Option<u32>
-    ensures { (source : Source) (marks : List (Option Data)) (group : Group) (scope : Path) → is_kind group ≡ false → Takes source marks resolutions.now (in_optional (use_items group scope) name.now) next.old next.new (IsOnly (WhereWritten (λ q. Means (definitions source) scope (names_of q) group) name.now) result) }
-{
-    match name {
-        Some(_) => meant_taken(resolutions, next),
         None => None,
     }
 }
