@@ -37,7 +37,7 @@ fn signed(number: i128) -> i32
 }
 
 /// The priority that is written, else 0.
-pub fn priority_of(given: Option<Given>) -> i32
+pub fn priority_given(given: Option<Given>) -> i32
     ensures { IsGivenWithin (negsuc (2 ^ 31 - 1)) (pos (2 ^ 31 - 1)) given → IsNumber (pos 0) given result }
 {
     match given {

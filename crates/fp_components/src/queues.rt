@@ -2,7 +2,7 @@ ghost use Rattle.std.specs.Prelude.{◌≡◌};
 ghost use Rattle.fp_components.specs.Resolved.{IsLater, IsRole, IsWay, full_of};
 ghost use Rattle.fp_components.specs.Whole.{IsWholeCommand, IsWholeQueue, IsWholeRole};
 
-use crate::numbers::priority_of;
+use crate::numbers::priority_given;
 use fp_tables::{Full, Role, Way};
 use fp_tree::CommandKind;
 use fp_written_parts::{QueueWords, WrittenRole};
@@ -21,7 +21,7 @@ pub fn later(queue: QueueWords) -> Way
     ensures { IsWholeQueue queue → IsLater queue result }
 {
     Way::Later {
-        priority: priority_of(queue.priority),
+        priority: priority_given(queue.priority),
         full: full_of(queue.full),
     }
 }

@@ -15,14 +15,14 @@ use Rattle.fp_actor.specs.Acting.{Acting, due_of_actor}
 use Rattle.fp_plant.specs.declared.plant.Stepped.{Stepped}
 use Rattle.fp_plant.specs.declared.plant.Stepped.TheVariants.{Took, NotYet, AtLimit, AtEnd, Halted}
 use Rattle.fp_plant.specs.Noted.{items}
-use Rattle.fp_plant.specs.Planted.{Handed, Answers, Rests, HasNoStep, Met, IsUntouched, part}
+use Rattle.fp_plant.specs.Planted.{Handed, StepAnswers, Rests, HasNoStep, Met, IsUntouched, part}
 
 stays : (old new : Handed) → IsUntouched old new → IsPrefix old.actor.trace new.actor.trace
 stays old new same = ([], append-nil old.actor.trace ∙ sym same.trace)
 
 -- the trace goes on
-pub goes_on : (old : Handed) (r : Stepped) (new : Handed) → Answers old r new → IsPrefix old.actor.trace new.actor.trace
-unfolding Answers
+pub goes_on : (old : Handed) (r : Stepped) (new : Handed) → StepAnswers old r new → IsPrefix old.actor.trace new.actor.trace
+unfolding StepAnswers
 goes_on old Took new a = (a.1.entry ∷ [], sym a.1.trace)
 goes_on old (NotYet why) new a = stays old new a.3
 goes_on old AtLimit new a = stays old new a.2
@@ -70,8 +70,8 @@ unfolding due
 halted_due a is = rw is refl
 
 -- whoever takes no step rests
-pub rests : (old : Handed) (r : Stepped) (new : Handed) → Answers old r new → r ≢ Took → Rests new
-unfolding Answers Rests
+pub rests : (old : Handed) (r : Stepped) (new : Handed) → StepAnswers old r new → r ≢ Took → Rests new
+unfolding StepAnswers Rests
 rests old Took new a n = absurd (n refl)
 rests old (NotYet why) new a n = inr (no_step old new a.3 a.0 (λ e u is. absurd (not_both (e, u) (sym a.1 ∙ is))))
 rests old AtLimit new a n =

@@ -42,7 +42,7 @@ use Rattle.fp_plant.specs.declared.plant.Stepped.{Stepped}
 use Rattle.fp_plant.specs.declared.plant.Stepped.TheVariants.{Took, NotYet, AtLimit}
 use Rattle.fp_plant.specs.Hands.{passing, IsHand, IsOwn, HasTurned, Replies}
 use Rattle.fp_plant.specs.Noted.{noted, items}
-use Rattle.fp_plant.specs.Planted.{Passing, Handed, Met, IsUntouched, Answers, lefts}
+use Rattle.fp_plant.specs.Planted.{Passing, Handed, Met, IsUntouched, StepAnswers, lefts}
 use Rattle.fp_plant.proofs.Dealing.{set_here, set_there, all_get, get_all}
 
 -- ---- the instances of a sound topology stand at one place each
@@ -188,13 +188,13 @@ module _ (h : Handed) (place i : ℕ) (before after : Passing) (passes : List Pa
       saw = saw;
     }
 
-    pub not_yet : (why : Why) → Replies h.actor i ask (reply.NotYet why) before after → Answers h (NotYet why) (record { actor = h.actor; passes = passes })
-    unfolding Answers
+    pub not_yet : (why : Why) → Replies h.actor i ask (reply.NotYet why) before after → StepAnswers h (NotYet why) (record { actor = h.actor; passes = passes })
+    unfolding StepAnswers
     not_yet why r =
         (met h.actor r.state r.saw, no_step h.actor.tables h.actor.program i r.state h.actor.number h.actor.state.last ask why r.says.0, r.says.0, still_untouched r.says.1)
 
-    pub at_limit : Replies h.actor i ask reply.AtLimit before after → Answers h AtLimit (record { actor = h.actor; passes = passes })
-    unfolding Answers
+    pub at_limit : Replies h.actor i ask reply.AtLimit before after → StepAnswers h AtLimit (record { actor = h.actor; passes = passes })
+    unfolding StepAnswers
     at_limit r =
         let says = r.says in
         (met h.actor r.state r.saw, record { entry = says.0; leaves = says.1; part = says.2; above = says.3 }, still_untouched says.4)
@@ -251,8 +251,8 @@ module _ (h : Handed) (place i : ℕ) (before after : Passing) (passes : List Pa
             j n q (subst (λ (t : Described). slice_get (placed t) j ≡ Some n) same.tables at) its;
       }
 
-      pub took : actor_part h.actor.tables h.actor.program h.actor.number h.actor.state e ≡ Some b.state → Answers h Took (record { actor = b; passes = passes })
-      unfolding Answers
+      pub took : actor_part h.actor.tables h.actor.program h.actor.number h.actor.state e ≡ Some b.state → StepAnswers h Took (record { actor = b; passes = passes })
+      unfolding StepAnswers
       took accepted = (
         met b r.state r.saw,
         record { entry = e; leaves = r.says.0; part = r.says.1; within = r.says.2; accepted = accepted; trace = more; actor = same; left = r.says.3 },

@@ -24,7 +24,7 @@ use Rattle.fp_plant.specs.declared.held.CellName.{CellName}
 use Rattle.fp_plant.specs.declared.plant.Stepped.{Stepped}
 use Rattle.fp_plant.specs.declared.plant.Stepped.TheVariants.{Took, NotYet, AtLimit, AtEnd, Halted}
 use Rattle.fp_plant.specs.Hands.{IsHand}
-use Rattle.fp_plant.specs.Planted.{Passing, Handed, Planted, Gives, Met, IsUntouched, Answers}
+use Rattle.fp_plant.specs.Planted.{Passing, Handed, Planted, Gives, Met, IsUntouched, StepAnswers}
 
 -- ---- room for an entry changes nothing that is said of a step
 
@@ -60,8 +60,8 @@ module _ (h new : Handed) (room : Bool) where
     lefts = s.lefts;
   }
 
-  answers_too : (r : Stepped) → Answers (with_room h room) r new → Answers h r new
-  unfolding Answers
+  answers_too : (r : Stepped) → StepAnswers (with_room h room) r new → StepAnswers h r new
+  unfolding StepAnswers
   answers_too Took a = (
     met_too a.0,
     record {
@@ -92,8 +92,8 @@ module _ (old mid : Handed) (actor : mid.actor ≡ record old.actor { has_room =
   mid_is : mid ≡ with_room old mid.actor.has_room
   mid_is = ap₂ the_hand actor passes
 
-  pub answers_before : (r : Stepped) (new : Handed) → Answers mid r new → Answers old r new
-  answers_before r new a = answers_too old new mid.actor.has_room r (subst (λ (z : Handed). Answers z r new) mid_is a)
+  pub answers_before : (r : Stepped) (new : Handed) → StepAnswers mid r new → StepAnswers old r new
+  answers_before r new a = answers_too old new mid.actor.has_room r (subst (λ (z : Handed). StepAnswers z r new) mid_is a)
 
   pub untouched_before : (new : Handed) → IsUntouched mid new → IsUntouched old new
   untouched_before new s = untouched_too old new mid.actor.has_room (subst (λ (z : Handed). IsUntouched z new) mid_is s)
@@ -135,12 +135,12 @@ module _ (h : Handed) where
   itself : IsUntouched h h
   itself = record { actor = record { tables = refl; program = refl; number = refl }; state = refl; trace = refl; lefts = refl }
 
-  pub at_end : (n : Next) → n ≡ next.AtEnd → n ≡ next_of h.actor.state.thread.halted (due_of_actor h.actor) → Answers h AtEnd h
-  unfolding Answers
+  pub at_end : (n : Next) → n ≡ next.AtEnd → n ≡ next_of h.actor.state.thread.halted (due_of_actor h.actor) → StepAnswers h AtEnd h
+  unfolding StepAnswers
   at_end n is of = let e = ends_at h.actor.state.thread.halted (due_of_actor h.actor) (sym is ∙ of) in (e.0, e.1, itself)
 
-  pub halted : (n : Next) → n ≡ next.Halted → n ≡ next_of h.actor.state.thread.halted (due_of_actor h.actor) → Answers h Halted h
-  unfolding Answers
+  pub halted : (n : Next) → n ≡ next.Halted → n ≡ next_of h.actor.state.thread.halted (due_of_actor h.actor) → StepAnswers h Halted h
+  unfolding StepAnswers
   halted n is of = (halts_at h.actor.state.thread.halted (due_of_actor h.actor) (sym is ∙ of), itself)
 
   pub asked : (n : Next) (i : ℕ) (q : Ask) → n ≡ next.Ask i q → n ≡ next_of h.actor.state.thread.halted (due_of_actor h.actor) → due_of_actor h.actor ≡ Some (i, q)

@@ -107,12 +107,12 @@ module _ {old new : Handed} where
     pub above : old.actor.program.steps < entry.stamp
 
 -- what a step that answers so does to the hand
-unfoldable pub Answers : Handed → Stepped → Handed → Type 0
-Answers old Took new = (m : Met old new) × IsTaken m
-Answers old (NotYet why) new = (m : Met old new) × (part m ≡ None) × (cause m ≡ Some why) × IsUntouched old new
-Answers old AtLimit new = (m : Met old new) × IsAbove m × IsUntouched old new
-Answers old AtEnd new = (due_of_actor old.actor ≡ None) × (old.actor.state.thread.halted ≡ false) × IsUntouched old new
-Answers old Halted new = (old.actor.state.thread.halted ≡ true) × IsUntouched old new
+unfoldable pub StepAnswers : Handed → Stepped → Handed → Type 0
+StepAnswers old Took new = (m : Met old new) × IsTaken m
+StepAnswers old (NotYet why) new = (m : Met old new) × (part m ≡ None) × (cause m ≡ Some why) × IsUntouched old new
+StepAnswers old AtLimit new = (m : Met old new) × IsAbove m × IsUntouched old new
+StepAnswers old AtEnd new = (due_of_actor old.actor ≡ None) × (old.actor.state.thread.halted ≡ false) × IsUntouched old new
+StepAnswers old Halted new = (old.actor.state.thread.halted ≡ true) × IsUntouched old new
 
 -- the due ask has no step within the limit after the history that the hand's pass there last saw
 pub record HasNoStep (h : Handed) : Type 0 where

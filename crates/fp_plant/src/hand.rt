@@ -7,7 +7,7 @@ ghost use Rattle.fp_actor.specs.Acting.{due_of_actor, AnswersDue, IsSameActor, I
 ghost use Rattle.fp_actor.specs.Next.{next_of};
 ghost use Rattle.fp_gate.specs.Locks.{id_of, lock_of, IsIdle};
 ghost use Rattle.fp_plant.specs.Hands.{passing, IsHand, IsOwn, HasTurned, Replies};
-ghost use Rattle.fp_plant.specs.Planted.{Passing, Answers, IsUntouched};
+ghost use Rattle.fp_plant.specs.Planted.{Passing, StepAnswers, IsUntouched};
 
 use crate::held::Held;
 use crate::passage::Passage;
@@ -129,7 +129,7 @@ pub fn take_ask<'a, R: Wait, P: Passage>(
     requires askable { ask_fits hand.old.actor.tables hand.old.actor.program instance ask.now ≡ true }
     ensures same { IsSameActor hand.old.actor hand.new.actor }
     ensures locks { map (λ (q : Passing). q.lock) hand.new.passes ≡ map (λ (q : Passing). q.lock) hand.old.passes }
-    ensures answered { IfOk result (λ r. Answers hand.old r hand.new) }
+    ensures answered { IfOk result (λ r. StepAnswers hand.old r hand.new) }
     ensures failed { OnErr result (IsUntouched hand.old hand.new) }
 {
     let pass = &mut hand.passes[place];

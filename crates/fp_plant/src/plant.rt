@@ -1,7 +1,7 @@
 ghost use Rattle.std.specs.Prelude.{◌≡◌, true, Some, IfOk, OnErr, slice_get};
 ghost use Rattle.fp_tables.specs.Acts.{is_placed};
 ghost use Rattle.fp_tables.specs.Lookup.{placed};
-ghost use Rattle.fp_plant.specs.Planted.{Gives, Answers, IsUntouched};
+ghost use Rattle.fp_plant.specs.Planted.{Gives, StepAnswers, IsUntouched};
 
 use crate::hand::{Hand, take_ask};
 use crate::held::Held;
@@ -83,7 +83,7 @@ impl<'a> Plant<'a> {
         requires gave { Gives self.now hand.old }
         ensures gave { Gives self.now hand.new }
         ensures number { hand.new.actor.number ≡ hand.old.actor.number }
-        ensures answered { IfOk result (λ r. Answers hand.old r hand.new) }
+        ensures answered { IfOk result (λ r. StepAnswers hand.old r hand.new) }
         ensures failed { OnErr result (IsUntouched hand.old hand.new) }
     {
         self.step_past(rt, alloc, hand, gate)
@@ -100,7 +100,7 @@ impl<'a> Plant<'a> {
         requires gave { Gives self.now hand.old }
         ensures gave { Gives self.now hand.new }
         ensures number { hand.new.actor.number ≡ hand.old.actor.number }
-        ensures answered { IfOk result (λ r. Answers hand.old r hand.new) }
+        ensures answered { IfOk result (λ r. StepAnswers hand.old r hand.new) }
         ensures failed { OnErr result (IsUntouched hand.old hand.new) }
     {
         hand.reserve()?;
@@ -119,7 +119,7 @@ impl<'a> Plant<'a> {
         requires room { hand.old.actor.has_room ≡ true }
         ensures gave { Gives self.now hand.new }
         ensures number { hand.new.actor.number ≡ hand.old.actor.number }
-        ensures answered { IfOk result (λ r. Answers hand.old r hand.new) }
+        ensures answered { IfOk result (λ r. StepAnswers hand.old r hand.new) }
         ensures failed { OnErr result (IsUntouched hand.old hand.new) }
     {
         due_asks();

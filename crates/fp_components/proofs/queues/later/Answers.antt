@@ -7,5 +7,5 @@ use Rattle.fp_components.proofs.queues.later.Goals as goal
 
 pub returns : goal.returns
 returns c whole =
-    let fits : SFits w32 c.priority_of.result = search rules in
-    later_is c.args.queue c.priority_of.result _ c.full_of.result (to_z-of_z w32 c.priority_of.result fits) (c.priority_of.ensures whole) c.full_of.ensures
+    let fits : SFits w32 c.priority_given.result = search rules in
+    later_is c.args.queue c.priority_given.result _ c.full_of.result (to_z-of_z w32 c.priority_given.result fits) (c.priority_given.ensures whole) c.full_of.ensures

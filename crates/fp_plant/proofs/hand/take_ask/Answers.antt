@@ -7,7 +7,7 @@ use Rattle.fp_cell.specs.declared.cell.Reply.TheVariants as reply
 use Rattle.fp_gate.specs.Locks.{IsIdle}
 use Rattle.fp_plant.specs.declared.plant.Stepped.TheVariants.{Took, NotYet, AtLimit}
 use Rattle.fp_plant.specs.Hands.{passing, Replies}
-use Rattle.fp_plant.specs.Planted.{Handed, Passing, IsUntouched, Answers}
+use Rattle.fp_plant.specs.Planted.{Handed, Passing, IsUntouched, StepAnswers}
 use Rattle.fp_plant.proofs.Dealing.{all_get}
 use Rattle.fp_plant.proofs.Handing.{item_there, was_there, turned_hand, IsTurned, idle_set, on_err, still_hand, still_untouched, same_locks, not_yet, at_limit, acceptable, next_hand, took}
 use Rattle.fp_plant.proofs.hand.take_ask.Goals as goal
@@ -196,7 +196,7 @@ returns-in-Stepped-clause-answered g c =
     subst (λ (z : Handed). due_of_actor z.actor ≡ Some (c.args.instance, c.args.ask.now)) (sym c.hand.view_is) c.requires.due in
     let r : Replies h.actor c.args.instance c.args.ask.now (reply.Stepped c.in-Stepped.entry) before after =
     subst (λ (x : Reply). Replies h.actor c.args.instance c.args.ask.now x before after) c.in-Stepped.is c.in_ok-entry.ensures.replies in
-    subst (λ (z : Handed). Answers z Took (record { actor = c.go_on.new.actor; passes = passes })) c.hand.view_is (took h c.args.place c.args.instance before after passes k c.args.ask.now due c.in-Stepped.entry r c.go_on.new.actor c.go_on.ensures.same c.go_on.ensures.trace c.go_on.ensures.state)
+    subst (λ (z : Handed). StepAnswers z Took (record { actor = c.go_on.new.actor; passes = passes })) c.hand.view_is (took h c.args.place c.args.instance before after passes k c.args.ask.now due c.in-Stepped.entry r c.go_on.new.actor c.go_on.ensures.same c.go_on.ensures.trace c.go_on.ensures.state)
 
 pub returns-in-NotYet-clause-answered : goal.returns-in-NotYet-clause-answered
 returns-in-NotYet-clause-answered g c =
@@ -212,7 +212,7 @@ returns-in-NotYet-clause-answered g c =
     subst (λ (z : Handed). due_of_actor z.actor ≡ Some (c.args.instance, c.args.ask.now)) (sym c.hand.view_is) c.requires.due in
     let r : Replies h.actor c.args.instance c.args.ask.now (reply.NotYet c.in-NotYet.why) before after =
     subst (λ (x : Reply). Replies h.actor c.args.instance c.args.ask.now x before after) c.in-NotYet.is c.in_ok-entry.ensures.replies in
-    subst (λ (z : Handed). Answers z (NotYet c.in-NotYet.why) (record { actor = h.actor; passes = passes })) c.hand.view_is (not_yet h c.args.place c.args.instance before after passes k c.args.ask.now due c.in-NotYet.why r)
+    subst (λ (z : Handed). StepAnswers z (NotYet c.in-NotYet.why) (record { actor = h.actor; passes = passes })) c.hand.view_is (not_yet h c.args.place c.args.instance before after passes k c.args.ask.now due c.in-NotYet.why r)
 
 pub returns-in-AtLimit-clause-answered : goal.returns-in-AtLimit-clause-answered
 returns-in-AtLimit-clause-answered g c =
@@ -228,4 +228,4 @@ returns-in-AtLimit-clause-answered g c =
     subst (λ (z : Handed). due_of_actor z.actor ≡ Some (c.args.instance, c.args.ask.now)) (sym c.hand.view_is) c.requires.due in
     let r : Replies h.actor c.args.instance c.args.ask.now (reply.AtLimit) before after =
     subst (λ (x : Reply). Replies h.actor c.args.instance c.args.ask.now x before after) c.in-AtLimit.is c.in_ok-entry.ensures.replies in
-    subst (λ (z : Handed). Answers z AtLimit (record { actor = h.actor; passes = passes })) c.hand.view_is (at_limit h c.args.place c.args.instance before after passes k c.args.ask.now due r)
+    subst (λ (z : Handed). StepAnswers z AtLimit (record { actor = h.actor; passes = passes })) c.hand.view_is (at_limit h c.args.place c.args.instance before after passes k c.args.ask.now due r)
