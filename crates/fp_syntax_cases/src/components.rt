@@ -4,29 +4,28 @@ use crate::machines::add_machine;
 use crate::members::place_and_note;
 use crate::ports::{add_general, add_internal, add_match, add_running, add_special};
 use crate::tree::Tree;
-use fp_base::{NoMemory, Span, Text};
-use fp_case_texts::push_span;
+use fp_base::{Span, Text};
 use fp_tree::{Component, ComponentKind, Import, Include, Interface, InterfacePart, Part};
 use std::alloc::Global;
 
 /// Begins a line: where a part stands.
-fn begin(alloc: Global, at: Span, tree: &mut Tree) -> Result<(), NoMemory> {
-    tree.add("\n")?;
-    push_span(alloc, at, &mut tree.shape)?;
-    tree.add(" ")
+fn begin(alloc: Global, at: Span, tree: &mut Tree) {
+    tree.add("\n");
+    tree.add_span(alloc, at);
+    tree.add(" ");
 }
 
-fn add_include(alloc: Global, include: &Include, tree: &mut Tree) -> Result<(), NoMemory> {
-    tree.add_place(alloc, include.at)?;
-    tree.add("include ")?;
-    tree.add_quoted(&include.file.text)?;
-    tree.add_place(alloc, include.file.at)
+fn add_include(alloc: Global, include: &Include, tree: &mut Tree) {
+    tree.add_place(alloc, include.at);
+    tree.add("include ");
+    tree.add_quoted(&include.file.text);
+    tree.add_place(alloc, include.file.at);
 }
 
-fn add_import(alloc: Global, import: &Import, tree: &mut Tree) -> Result<(), NoMemory> {
-    tree.add_place(alloc, import.at)?;
-    tree.add("import ")?;
-    tree.add_qualified(alloc, &import.of)
+fn add_import(alloc: Global, import: &Import, tree: &mut Tree) {
+    tree.add_place(alloc, import.at);
+    tree.add("import ");
+    tree.add_qualified(alloc, &import.of);
 }
 
 /// Where a part stands, and its annotation.
@@ -49,7 +48,7 @@ pub fn at_and_note(part: &Part) -> (Span, &Text) {
 }
 
 /// Adds a part, without its annotation.
-pub fn add_part(alloc: Global, part: &Part, tree: &mut Tree) -> Result<(), NoMemory> {
+pub fn add_part(alloc: Global, part: &Part, tree: &mut Tree) {
     match part {
         Part::Def(definition) => add_definition(alloc, definition, tree),
         Part::Machine(machine) => add_machine(alloc, machine.get(), tree),
@@ -68,62 +67,48 @@ pub fn add_part(alloc: Global, part: &Part, tree: &mut Tree) -> Result<(), NoMem
 }
 
 /// Adds a component: its parts, one a line, each behind where it stands, with its annotation.
-pub fn add_component(
-    alloc: Global,
-    component: &Component,
-    tree: &mut Tree,
-) -> Result<(), NoMemory> {
-    tree.add_place(alloc, component.at)?;
+pub fn add_component(alloc: Global, component: &Component, tree: &mut Tree) {
+    tree.add_place(alloc, component.at);
     tree.add(match component.kind {
         ComponentKind::Active => "active component ",
         ComponentKind::Passive => "passive component ",
         ComponentKind::Queued => "queued component ",
-    })?;
-    tree.add_name(alloc, &component.name)?;
+    });
+    tree.add_name(alloc, &component.name);
     for part in component.parts.as_slice() {
         let (at, note) = at_and_note(part);
-        begin(alloc, at, tree)?;
-        add_part(alloc, part, tree)?;
-        tree.add_note(note)?;
+        begin(alloc, at, tree);
+        add_part(alloc, part, tree);
+        tree.add_note(note);
     }
-    Ok(())
 }
 
-fn add_interface_part(
-    alloc: Global,
-    part: &InterfacePart,
-    tree: &mut Tree,
-) -> Result<(), NoMemory> {
+fn add_interface_part(alloc: Global, part: &InterfacePart, tree: &mut Tree) {
     match part {
         InterfacePart::General(port) => {
-            begin(alloc, port.get().at, tree)?;
-            add_general(alloc, port.get(), tree)?;
-            tree.add_note(&port.get().note)
+            begin(alloc, port.get().at, tree);
+            add_general(alloc, port.get(), tree);
+            tree.add_note(&port.get().note);
         }
         InterfacePart::Special(port) => {
-            begin(alloc, port.at, tree)?;
-            add_special(alloc, port, tree)?;
-            tree.add_note(&port.note)
+            begin(alloc, port.at, tree);
+            add_special(alloc, port, tree);
+            tree.add_note(&port.note);
         }
         InterfacePart::Import(import) => {
-            begin(alloc, import.at, tree)?;
-            add_import(alloc, import, tree)?;
-            tree.add_note(&import.note)
+            begin(alloc, import.at, tree);
+            add_import(alloc, import, tree);
+            tree.add_note(&import.note);
         }
     }
 }
 
 /// Adds an interface, as a component.
-pub fn add_interface(
-    alloc: Global,
-    interface: &Interface,
-    tree: &mut Tree,
-) -> Result<(), NoMemory> {
-    tree.add_place(alloc, interface.at)?;
-    tree.add("interface ")?;
-    tree.add_name(alloc, &interface.name)?;
+pub fn add_interface(alloc: Global, interface: &Interface, tree: &mut Tree) {
+    tree.add_place(alloc, interface.at);
+    tree.add("interface ");
+    tree.add_name(alloc, &interface.name);
     for part in interface.parts.as_slice() {
-        add_interface_part(alloc, part, tree)?;
+        add_interface_part(alloc, part, tree);
     }
-    Ok(())
 }

@@ -3,7 +3,7 @@ use crate::members::add_members;
 use crate::topologies::add_member;
 use crate::tree::Tree;
 use fp_base::{NoMemory, Row, Stop, Text};
-use fp_case_texts::{Case, push_line, push_span};
+use fp_case_texts::{Case, push_line};
 use fp_lexer::lex;
 use fp_parse_parts::{Inside, Members, parse};
 use fp_tree::{Part, Unit};
@@ -24,11 +24,11 @@ fn unit(alloc: Global, source: &[u8]) -> Result<Unit, Stop> {
 fn push_part(alloc: Global, part: &Part, out: &mut Text) -> Result<(), NoMemory> {
     let (at, note) = at_and_note(part);
     let mut tree = Tree::new(alloc);
-    push_span(alloc, at, &mut tree.shape)?;
-    tree.add(" ")?;
-    add_part(alloc, part, &mut tree)?;
-    tree.add_note(note)?;
-    push_line(out, tree.shape.as_str())
+    tree.add_span(alloc, at);
+    tree.add(" ");
+    add_part(alloc, part, &mut tree);
+    tree.add_note(note);
+    push_line(out, tree.shape()?)
 }
 
 /// The parts of a file that is included in a component.
@@ -50,8 +50,8 @@ pub fn topology_members(alloc: Global, case: &Case) -> Result<Text, Stop> {
     if let Members::Topology(members) = parse(alloc, &tokens, Inside::Topology)? {
         for member in members.as_slice() {
             let mut tree = Tree::new(alloc);
-            add_member(alloc, member, &mut tree)?;
-            push_line(&mut out, tree.shape.as_str())?;
+            add_member(alloc, member, &mut tree);
+            push_line(&mut out, tree.shape()?)?;
         }
     }
     Ok(out)

@@ -26,13 +26,13 @@ pub enum View {
 }
 
 /// What is told of a tree.
-pub fn viewed(alloc: Global, tree: Tree, to: u32, view: View) -> Result<Text, NoMemory> {
+pub fn viewed(alloc: Global, tree: &Tree, to: u32, view: View) -> Result<Text, NoMemory> {
     match view {
-        View::Places => Ok(tree.places),
+        View::Places => Text::from_str(alloc, tree.places()?),
         View::Shape => {
             let mut text = Text::from_str(alloc, "to token ")?;
             let number = numeral(alloc, to as u64)?;
-            push_all(&mut text, &[number.as_str(), "\n", tree.shape.as_str()])?;
+            push_all(&mut text, &[number.as_str(), "\n", tree.shape()?])?;
             Ok(text)
         }
     }
@@ -52,8 +52,8 @@ pub fn parsed_expression(alloc: Global, case: &Case) -> Result<(Expr, u32), Stop
 pub fn expression(alloc: Global, case: &Case, view: View) -> Result<Text, Stop> {
     let mut tree = Tree::new(alloc);
     let (expression, to) = parsed_expression(alloc, case)?;
-    add_expression(alloc, &expression, &mut tree)?;
-    Ok(viewed(alloc, tree, to, view)?)
+    add_expression(alloc, &expression, &mut tree);
+    Ok(viewed(alloc, &tree, to, view)?)
 }
 
 /// What a definition spells.
@@ -65,8 +65,8 @@ pub fn definition(alloc: Global, case: &Case, view: View) -> Result<Text, Stop> 
         return Err(Stop::NoMemory);
     }
     let (definition, to) = parse_def(alloc, &tokens, from)?;
-    add_definition(alloc, &definition, &mut tree)?;
-    Ok(viewed(alloc, tree, to, view)?)
+    add_definition(alloc, &definition, &mut tree);
+    Ok(viewed(alloc, &tree, to, view)?)
 }
 
 fn parsed_machine(alloc: Global, case: &Case) -> Result<(Machine, u32), Stop> {
@@ -82,8 +82,8 @@ fn parsed_machine(alloc: Global, case: &Case) -> Result<(Machine, u32), Stop> {
 pub fn machine(alloc: Global, case: &Case, view: View) -> Result<Text, Stop> {
     let mut tree = Tree::new(alloc);
     let (machine, to) = parsed_machine(alloc, case)?;
-    add_machine(alloc, &machine, &mut tree)?;
-    Ok(viewed(alloc, tree, to, view)?)
+    add_machine(alloc, &machine, &mut tree);
+    Ok(viewed(alloc, &tree, to, view)?)
 }
 
 fn parsed_instance(alloc: Global, case: &Case) -> Result<(Instance, u32), Stop> {
@@ -99,8 +99,8 @@ fn parsed_instance(alloc: Global, case: &Case) -> Result<(Instance, u32), Stop> 
 pub fn instance(alloc: Global, case: &Case, view: View) -> Result<Text, Stop> {
     let mut tree = Tree::new(alloc);
     let (instance, to) = parsed_instance(alloc, case)?;
-    add_instance(alloc, &instance, &mut tree)?;
-    Ok(viewed(alloc, tree, to, view)?)
+    add_instance(alloc, &instance, &mut tree);
+    Ok(viewed(alloc, &tree, to, view)?)
 }
 
 fn parsed_topology(alloc: Global, case: &Case) -> Result<(Topology, u32), Stop> {
@@ -116,6 +116,6 @@ fn parsed_topology(alloc: Global, case: &Case) -> Result<(Topology, u32), Stop> 
 pub fn topology(alloc: Global, case: &Case, view: View) -> Result<Text, Stop> {
     let mut tree = Tree::new(alloc);
     let (topology, to) = parsed_topology(alloc, case)?;
-    add_topology(alloc, &topology, &mut tree)?;
-    Ok(viewed(alloc, tree, to, view)?)
+    add_topology(alloc, &topology, &mut tree);
+    Ok(viewed(alloc, &tree, to, view)?)
 }

@@ -36,7 +36,7 @@ fn add_line(
     }
     push_span(alloc, at, out)?;
     out.push_str(" ")?;
-    out.push_str(tree.shape.as_str())
+    out.push_str(tree.shape()?)
 }
 
 /// Adds a member, and behind it those of a module.
@@ -50,9 +50,9 @@ fn add_member(
     let mut tree = Tree::new(alloc);
     match member {
         Member::Module(module) => {
-            tree.add("module ")?;
-            tree.add_name(alloc, &module.name)?;
-            tree.add_note(&module.note)?;
+            tree.add("module ");
+            tree.add_name(alloc, &module.name);
+            tree.add_note(&module.note);
             add_line(alloc, depth, module.at, &tree, out)?;
             add_members(
                 alloc,
@@ -63,47 +63,47 @@ fn add_member(
         }
         Member::Def(definition) => {
             let (at, note) = place_and_note(definition);
-            add_definition(alloc, definition, &mut tree)?;
-            tree.add_note(note)?;
+            add_definition(alloc, definition, &mut tree);
+            tree.add_note(note);
             add_line(alloc, depth, at, &tree, out)
         }
         Member::Machine(machine) => {
-            add_machine(alloc, machine, &mut tree)?;
-            tree.add_note(&machine.note)?;
+            add_machine(alloc, machine, &mut tree);
+            tree.add_note(&machine.note);
             add_line(alloc, depth, machine.at, &tree, out)
         }
         Member::Component(component) => {
-            add_component(alloc, component, &mut tree)?;
-            tree.add_note(&component.note)?;
+            add_component(alloc, component, &mut tree);
+            tree.add_note(&component.note);
             add_line(alloc, depth, component.at, &tree, out)
         }
         Member::Interface(interface) => {
-            add_interface(alloc, interface, &mut tree)?;
-            tree.add_note(&interface.note)?;
+            add_interface(alloc, interface, &mut tree);
+            tree.add_note(&interface.note);
             add_line(alloc, depth, interface.at, &tree, out)
         }
         Member::Instance(instance) => {
-            add_instance(alloc, instance, &mut tree)?;
-            tree.add_note(&instance.note)?;
+            add_instance(alloc, instance, &mut tree);
+            tree.add_note(&instance.note);
             add_line(alloc, depth, instance.at, &tree, out)
         }
         Member::Topology(topology) => {
-            add_topology(alloc, topology, &mut tree)?;
-            tree.add_note(&topology.note)?;
+            add_topology(alloc, topology, &mut tree);
+            tree.add_note(&topology.note);
             add_line(alloc, depth, topology.at, &tree, out)
         }
         Member::Include(include) => {
-            tree.add("include ")?;
-            tree.add_quoted(&include.file.text)?;
-            tree.add_note(&include.note)?;
+            tree.add("include ");
+            tree.add_quoted(&include.file.text);
+            tree.add_note(&include.note);
             add_line(alloc, depth, include.at, &tree, out)
         }
         Member::Locate(locate) => {
-            tree.add("locate ")?;
-            tree.add_qualified(alloc, &locate.of)?;
-            tree.add(" at ")?;
-            tree.add_quoted(&locate.file.text)?;
-            tree.add_note(&locate.note)?;
+            tree.add("locate ");
+            tree.add_qualified(alloc, &locate.of);
+            tree.add(" at ");
+            tree.add_quoted(&locate.file.text);
+            tree.add_note(&locate.note);
             add_line(alloc, depth, locate.at, &tree, out)
         }
     }

@@ -30,14 +30,14 @@ fn parsed_interface(alloc: Global, case: &Case) -> Result<(Interface, u32), Stop
 pub fn component(alloc: Global, case: &Case, view: View) -> Result<Text, Stop> {
     let mut tree = Tree::new(alloc);
     let (component, to) = parsed_component(alloc, case)?;
-    add_component(alloc, &component, &mut tree)?;
-    Ok(viewed(alloc, tree, to, view)?)
+    add_component(alloc, &component, &mut tree);
+    Ok(viewed(alloc, &tree, to, view)?)
 }
 
 /// What an interface spells.
 pub fn interface(alloc: Global, case: &Case, view: View) -> Result<Text, Stop> {
     let mut tree = Tree::new(alloc);
     let (interface, to) = parsed_interface(alloc, case)?;
-    add_interface(alloc, &interface, &mut tree)?;
-    Ok(viewed(alloc, tree, to, view)?)
+    add_interface(alloc, &interface, &mut tree);
+    Ok(viewed(alloc, &tree, to, view)?)
 }
