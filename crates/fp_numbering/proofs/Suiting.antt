@@ -5,6 +5,8 @@ use Rattle.std.specs.List.{list_all, Contains}
 use Rattle.std.specs.Option.{option_and_then, option_map}
 use Rattle.fp_base.proofs.Bools.{both}
 use Rattle.fp_base.proofs.Lists.{all_get}
+use Rattle.fp_base.proofs.Options.{then_some}
+use Rattle.fp_tables.specs.Lookup.{component_of}
 use Rattle.fp_tables.specs.Positions.{positions_lie, component_lies, topology_lies, link_lies}
 use Rattle.fp_tables.specs.declared.component.Port.{Port}
 use Rattle.fp_tables.specs.declared.component.Component.{Component}
@@ -30,9 +32,6 @@ module _ (m : Model) (lies : positions_lie m ≡ true) where
   links_lie None t e = refl
   links_lie (Some o) t e = (both _ _ (both _ _ (all_get (topology_lies m) m.topologies t o topologies_lie e)).0).1
 
-abbrev component_at : Model → Option Instance → Option Component
-component_at m o = option_and_then (λ (x : Instance). slice_get m.components x.component) o
-
 abbrev matches_in : Option Component → List (ℕ × ℕ)
 matches_in o = unwrap_or (option_map (λ (c : Component). c.matches) o) []
 
@@ -43,16 +42,14 @@ module _ (m : Model) (one : matched_ports_have_one_size m ≡ true) where
   in_component : (c : Component) (q : ℕ × ℕ) → list_all (has_one_size c.ports) c.matches ≡ true → Contains c.matches q → has_one_size c.ports q ≡ true
   in_component c q h k = all_member (has_one_size c.ports) c.matches q h (of_contains c.matches q k.0 k.1 k.2)
 
-  sizes_by : (j : ℕ) (o : Option Component) (q : ℕ × ℕ) → slice_get m.components j ≡ o → Contains (matches_in o) q → size_by o q.0 ≡ size_by o q.1
-  sizes_by j None q e k = refl
-  sizes_by j (Some c) q e k = same_number _ _ (in_component c q (all_get (λ (x : Component). list_all (has_one_size x.ports) x.matches) m.components j c one e) k)
-
-  sizes_at : (o : Option Instance) (q : ℕ × ℕ) → Contains (matches_in (component_at m o)) q → size_by (component_at m o) q.0 ≡ size_by (component_at m o) q.1
-  sizes_at None q k = refl
-  sizes_at (Some x) q k = sizes_by x.component (slice_get m.components x.component) q refl k
-
   sizes : (i : ℕ) (q : ℕ × ℕ) → Contains (matches_of m i) q → size_of m i q.0 ≡ size_of m i q.1
-  sizes i q k = sizes_at (slice_get m.instances i) q k
+  sizes i q k = by (component_of m i) refl k
+    where
+      by : (o : Option Component) → component_of m i ≡ o → Contains (matches_in o) q → size_by o q.0 ≡ size_by o q.1
+      by None e f = refl
+      by (Some c) e f =
+          let x = then_some (λ (y : Instance). slice_get m.components y.component) (slice_get m.instances i) c e in
+          in_component c q (all_get (λ (d : Component). list_all (has_one_size d.ports) d.matches) m.components x.0.component c one x.2) f
 
 pub are_sound : (m : Model) (t : ℕ) → positions_lie m ≡ true → matched_ports_have_one_size m ≡ true → AreSound m (links_of m t)
 are_sound m t lies one = record { matched = matched m lies; sizes = sizes m one; ends = links_lie m lies (slice_get m.topologies t) t refl }

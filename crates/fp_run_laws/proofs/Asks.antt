@@ -3,7 +3,7 @@ use Rattle.std.proofs.Common.{◌≡◌, ℕ, true, false, ◌&&◌, nat_lt, nat
 use Rattle.std.proofs.lemmas.Bool.Decides.{nat_tests}
 use Rattle.fp_base.specs.declared.value.Value.{Value}
 use Rattle.fp_base.proofs.Bools.{both, join}
-use Rattle.fp_tables.specs.Acts.{bound_to, command_of, machine_at, has_role, component_at, is_placed}
+use Rattle.fp_tables.specs.Acts.{bound_to, command_of, machine_at, has_role, component_passes, is_placed}
 use Rattle.fp_tables.specs.Arguments.{Scope, with_bound, kinds_of, arguments_suit}
 use Rattle.fp_tables.specs.Lists.{some_and}
 use Rattle.fp_tables.specs.Lookup.{Described, component_of, wire_from}
@@ -337,7 +337,7 @@ module _ (t : Described) (program : Program) (sound : IsSoundFor t.model (Some t
           binds = (inside, refl, λ scope. untyped given scope);
         }
     inside_suits o result place verb.Read subject name with given inside here may h =
-        let b = both (component_at t subject.instance (λ c. is_some (slice_get c.params name))) (is_some given) h in
+        let b = both (component_passes t subject.instance (λ c. is_some (slice_get c.params name))) (is_some given) h in
         let c = some_and_of (λ (c : Component). is_some (slice_get c.params name)) (component_of t.model subject.instance) b.0 in
         let e = some_of (slice_get c.0.params name) c.2 in
         let n = some_of given b.1 in

@@ -10,7 +10,7 @@ use Rattle.fp_base.proofs.Sameness.{nat_same}
 use Rattle.fp_base.specs.Names.{is_name}
 use Rattle.fp_base.specs.Same.{same_bool}
 use Rattle.fp_tables.specs.Acts as acts
-use Rattle.fp_tables.specs.Acts.{has_role, command_of, machine_at, result_at, bound_to, binds, suit_in_turn, takes, takes_one, component_at}
+use Rattle.fp_tables.specs.Acts.{has_role, command_of, machine_at, result_at, bound_to, binds, suit_in_turn, takes, takes_one, component_passes}
 use Rattle.fp_tables.specs.Arguments.{Scope, kinds_of, arguments_suit}
 use Rattle.fp_tables.specs.Lists.{some_and}
 use Rattle.fp_tables.specs.Lookup.{Described, component_of, wire_from}
@@ -61,7 +61,7 @@ module _ (t : Described) (sound : IsSoundFor t.model (Some t.topology)) (i : ℕ
   port_is : (p : ℕ) → port_of t.model i p ≡ slice_get c.ports p
   port_is p = ap (option_and_then (λ (d : Component). slice_get d.ports p)) there
 
-  component_is : (test : Component → Bool) → test c ≡ true → component_at t i test ≡ true
+  component_is : (test : Component → Bool) → test c ≡ true → component_passes t i test ≡ true
   component_is test h = tested test (component_of t.model i) c there h
 
   machine_runs : (o : Option Running) → option_and_then (slice_get t.model.machines) (option_map (λ (x : Running). x.machine) o) ≡ option_and_then (λ (x : Running). slice_get t.model.machines x.machine) o
@@ -139,7 +139,7 @@ module _ (t : Described) (sound : IsSoundFor t.model (Some t.topology)) (i : ℕ
     emit_suits plan =
         let kinds = sym (ap (λ o. option_map (λ (y : Event). kinds_of y.formals) (option_and_then (λ n. slice_get c.events n) o)) plan.name) ∙ plan.arguments.1 in
         let x = mapped_some (λ (y : Event). kinds_of y.formals) (slice_get c.events act.name) plan.arguments.0 kinds in
-        ap (λ (e : End). component_at t e.instance (λ (d : Component). some_and (λ (y : Event). takes t scope y.formals act) (slice_get d.events act.name))) (sym (same_some plan.subject))
+        ap (λ (e : End). component_passes t e.instance (λ (d : Component). some_and (λ (y : Event). takes t scope y.formals act) (slice_get d.events act.name))) (sym (same_some plan.subject))
         ∙ component_is (λ (d : Component). some_and (λ (y : Event). takes t scope y.formals act) (slice_get d.events act.name))
         (tested (λ (y : Event). takes t scope y.formals act) (slice_get c.events act.name) x.0 x.1 (subst Suit (sym x.2) (suit key.Emit plan)))
 
@@ -147,7 +147,7 @@ module _ (t : Described) (sound : IsSoundFor t.model (Some t.topology)) (i : ℕ
     write_suits plan =
         let kinds = sym (ap (λ o. option_map (λ (y : Channel). y.kind ∷ []) (option_and_then (λ n. slice_get c.channels n) o)) plan.name) ∙ plan.arguments.1 in
         let x = mapped_some (λ (y : Channel). y.kind ∷ []) (slice_get c.channels act.name) plan.arguments.0 kinds in
-        ap (λ (e : End). component_at t e.instance (λ (d : Component). some_and (λ (y : Channel). takes_one t scope y.kind act) (slice_get d.channels act.name))) (sym (same_some plan.subject))
+        ap (λ (e : End). component_passes t e.instance (λ (d : Component). some_and (λ (y : Channel). takes_one t scope y.kind act) (slice_get d.channels act.name))) (sym (same_some plan.subject))
         ∙ component_is (λ (d : Component). some_and (λ (y : Channel). takes_one t scope y.kind act) (slice_get d.channels act.name))
         (tested (λ (y : Channel). takes_one t scope y.kind act) (slice_get c.channels act.name) x.0 x.1 (subst Suit (sym x.2) (suit key.Write plan)))
 
@@ -155,7 +155,7 @@ module _ (t : Described) (sound : IsSoundFor t.model (Some t.topology)) (i : ℕ
     read_suits plan bound =
         let x = position_passes (λ (y : Param). bytes_eq y.name a.first) c.params act.name plan.name in
         join _ _
-        (ap (λ (e : End). component_at t e.instance (λ (d : Component). is_some (slice_get d.params act.name))) (sym (same_some plan.subject))
+        (ap (λ (e : End). component_passes t e.instance (λ (d : Component). is_some (slice_get d.params act.name))) (sym (same_some plan.subject))
         ∙ component_is (λ (d : Component). is_some (slice_get d.params act.name)) (there_some (slice_get c.params act.name) x.0 x.1))
         (ap is_some plan.bind ∙ bound)
 
@@ -201,7 +201,7 @@ module _ (t : Described) (sound : IsSoundFor t.model (Some t.topology)) (i : ℕ
 
     dispatch_suits : Planned key.Dispatch → programs.dispatches t act ≡ true
     dispatch_suits plan =
-        ap (λ (e : End). component_at t e.instance (λ (d : Component). is_queued d.queueing)) (sym (same_some plan.subject)) ∙ component_is (λ (d : Component). is_queued d.queueing) plan.dispatched
+        ap (λ (e : End). component_passes t e.instance (λ (d : Component). is_queued d.queueing)) (sym (same_some plan.subject)) ∙ component_is (λ (d : Component). is_queued d.queueing) plan.dispatched
 
     return_suits : Planned key.Return → programs.returns t place scope act ≡ true
     return_suits plan =

@@ -15,7 +15,7 @@ use Rattle.fp_tree.specs.declared.topology.Pattern.{Pattern}
 use Rattle.fp_tree.specs.declared.topology.Pattern.TheVariants as pattern
 use Rattle.fp_tables.specs.Components.{definition_of, same_special, suits_its_role}
 use Rattle.fp_tables.specs.Lists.{some_and}
-use Rattle.fp_tables.specs.Lookup.{is_input, is_output}
+use Rattle.fp_tables.specs.Lookup.{component_of, is_input, is_output}
 use Rattle.fp_tables.specs.Positions.{port_of}
 use Rattle.fp_tables.specs.Programs.{is_general_input, is_general_output}
 use Rattle.fp_tables.specs.Sound.{each_port}
@@ -35,7 +35,7 @@ use Rattle.fp_topologies.specs.declared.sorts.Join.{Join}
 use Rattle.fp_topologies.specs.declared.sorts.Join.TheVariants.{BackFrom, OutTo, PingOut, PingBack}
 use Rattle.fp_topologies.specs.declared.sorts.Sort.{Sort}
 use Rattle.fp_topologies.specs.Patterns.{definition_name, is_of, is_sort, joined, joins_of, leaves, one, only_port, only_position, other}
-use Rattle.fp_topologies.specs.Ports.{component_at, ports_at}
+use Rattle.fp_topologies.specs.Ports.{ports_at}
 use Rattle.fp_sound_parts.specs.Premises.{DefinitionsDiffer, HasSuitingPorts}
 
 pub record Goes (m : Model) (l : Link) : Type 0 where
@@ -69,7 +69,7 @@ some_passes test (Some x) h = (x, refl, h)
 
 module _ (m : Model) where
   pub port_there : (i p : ℕ) (q : Port) → slice_get (ports_at m.components m.instances i) p ≡ Some q → port_of m i p ≡ Some q
-  port_there i p q e = by (component_at m.components m.instances i) e
+  port_there i p q e = by (component_of m i) e
     where
       by : (o : Option Component) → slice_get (unwrap_or (option_map (λ (c : Component). c.ports) o) []) p ≡ Some q → option_and_then (λ (c : Component). slice_get c.ports p) o ≡ Some q
       by None f = absurd (cc)
@@ -78,7 +78,7 @@ module _ (m : Model) where
   -- what holds of each port holds of an instance's
   port_passes : (test : Port → Bool) → each_port test m ≡ true → (i p : ℕ) (q : Port) → port_of m i p ≡ Some q → test q ≡ true
   port_passes test h i p q e =
-      let c = then_some (λ (d : Component). slice_get d.ports p) (component_at m.components m.instances i) q e in
+      let c = then_some (λ (d : Component). slice_get d.ports p) (component_of m i) q e in
       let x = then_some (λ (y : Instance). slice_get m.components y.component) (slice_get m.instances i) c.0 c.1 in
       all_get test c.0.ports p q (all_get (λ (d : Component). list_all test d.ports) m.components x.0.component c.0 h x.2) c.2
 

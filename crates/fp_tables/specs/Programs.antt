@@ -7,7 +7,7 @@ use Rattle.fp_base.specs.Names.{is_name}
 use Rattle.fp_tables.specs.Positions.{port_of}
 use Rattle.fp_tables.specs.Specials.{is_special}
 use Rattle.fp_tables.specs.Arguments.{Scope, nothing_bound, with_bound, formals_bound, arguments_suit}
-use Rattle.fp_tables.specs.Acts.{is_placed, component_at, command_of, definition_at, has_role, machine_at, takes, takes_one, suit_in_turn, result_at}
+use Rattle.fp_tables.specs.Acts.{is_placed, component_passes, command_of, definition_at, has_role, machine_at, takes, takes_one, suit_in_turn, result_at}
 use Rattle.fp_tables.specs.Lookup.{Described, component_of, wire_from}
 use Rattle.fp_tables.specs.declared.kind.Kind.{Kind}
 use Rattle.fp_tables.specs.declared.kind.PortDef.{PortDef}
@@ -141,13 +141,13 @@ module _ (t : Described) where
       some_and (λ (p : Port). is_general_output p.role && takes t scope p.formals a) (port_of t.model a.subject.instance a.subject.port) && leads_to is_general_input a.subject
 
   abbrev pub emits : Scope → Act → Bool
-  emits scope a = component_at t a.subject.instance (λ c. some_and (λ (e : Event). takes t scope e.formals a) (slice_get c.events a.name))
+  emits scope a = component_passes t a.subject.instance (λ c. some_and (λ (e : Event). takes t scope e.formals a) (slice_get c.events a.name))
 
   abbrev pub writes : Scope → Act → Bool
-  writes scope a = component_at t a.subject.instance (λ c. some_and (λ (x : Channel). takes_one t scope x.kind a) (slice_get c.channels a.name))
+  writes scope a = component_passes t a.subject.instance (λ c. some_and (λ (x : Channel). takes_one t scope x.kind a) (slice_get c.channels a.name))
 
   abbrev pub reads : Act → Bool
-  reads a = component_at t a.subject.instance (λ c. is_some (slice_get c.params a.name)) && is_some a.bind
+  reads a = component_passes t a.subject.instance (λ c. is_some (slice_get c.params a.name)) && is_some a.bind
 
   -- a signal's value, or none
   abbrev pub signals : Scope → Act → Bool
@@ -159,7 +159,7 @@ module _ (t : Described) where
   posts scope a = some_and (λ (p : Port). is_internal p.role && takes t scope p.formals a) (port_of t.model a.subject.instance a.subject.port)
 
   abbrev pub dispatches : Act → Bool
-  dispatches a = component_at t a.subject.instance (λ c. is_queued c.queueing)
+  dispatches a = component_passes t a.subject.instance (λ c. is_queued c.queueing)
 
   -- in a command's handler or hook handler, at number 0 of a resp port, which is wired
   abbrev pub responds : Spot → Act → Bool

@@ -24,7 +24,7 @@ use Rattle.fp_tables.specs.declared.program.Caller.{Caller}
 use Rattle.fp_tables.specs.declared.program.Handler.{Handler}
 use Rattle.fp_tables.specs.declared.program.Answers.{Answers}
 use Rattle.fp_tables.specs.declared.program.Program.{Program}
-use Rattle.fp_tables.specs.Acts.{component_at}
+use Rattle.fp_tables.specs.Acts.{component_passes}
 use Rattle.fp_tables.specs.Programs.{caller_acts_suit, handler_suits, answers_suit}
 
 abbrev pub priority_of : Way → List ℤ
@@ -49,7 +49,7 @@ count_different (p ∷ ps) = cond (list_any (same_int p) ps) 0 1 + count_differe
 
 module _ (t : Described) where
   abbrev pub is_active_at : ℕ → Bool
-  is_active_at i = component_at t i (λ c. of_queueing c.queueing)
+  is_active_at i = component_passes t i (λ c. of_queueing c.queueing)
     where
       of_queueing : Queueing → Bool
       of_queueing Active = true

@@ -8,7 +8,7 @@ use Rattle.fp_tables.specs.declared.component.Component.{Component}
 use Rattle.fp_tables.specs.declared.component.Port.{Port}
 use Rattle.fp_tables.specs.declared.topology.Instance.{Instance}
 use Rattle.fp_topologies.specs.Firsts.{FindsInEach, FindsPorts, named_in}
-use Rattle.fp_topologies.specs.Ports.{component_at, port_named, ports_at}
+use Rattle.fp_topologies.specs.Ports.{port_named, ports_at}
 
 pub each_push : (cs : List Component) (ms : List (BTreeMap (Bor (List ℕ)) ℕ)) (c : Component) (m : BTreeMap (Bor (List ℕ)) ℕ) → FindsInEach cs ms → FindsPorts c.ports m → FindsInEach (cs ++ c ∷ []) (ms ++ m ∷ [])
 each_push [] [] c m h f = (f, tt)

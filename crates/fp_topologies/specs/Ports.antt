@@ -1,6 +1,7 @@
 -- The ports of instances, by their names, and the connections that are written. FPP Language Specification, "Connection Graph Specifiers".
 use Rattle.std.specs.Prelude.{ℕ, ℤ, List, [], filter_map, position, slice_get, Option, option_map, option_and_then, unwrap_or}
 use Rattle.std.specs.Str.{bytes_eq}
+use Rattle.fp_tables.specs.Lookup.{component_among}
 use Rattle.fp_tables.specs.declared.component.Component.{Component}
 use Rattle.fp_tables.specs.declared.component.Port.{Port}
 use Rattle.fp_tables.specs.declared.topology.Instance.{Instance}
@@ -37,13 +38,9 @@ link_between c from_port to_port =
     }
 
 module _ (cs : List Component) (is : List Instance) where
-  -- the component of an instance
-  abbrev pub component_at : ℕ → Option Component
-  component_at i = option_and_then (λ (x : Instance). slice_get cs x.component) (slice_get is i)
-
-  -- its ports
+  -- the ports of an instance
   abbrev pub ports_at : ℕ → List Port
-  ports_at i = unwrap_or (option_map (λ (c : Component). c.ports) (component_at i)) []
+  ports_at i = unwrap_or (option_map (λ (c : Component). c.ports) (component_among cs is i)) []
 
   -- names of ports differ in a component that breaks no rule; else the first counts
   abbrev pub port_named : ℕ → List ℕ → Option ℕ

@@ -1,7 +1,8 @@
 ghost use Rattle.std.specs.Prelude.{◌≡◌, ◌<◌, ◌^◌, length, slice_get, IfOk};
 ghost use Rattle.std.specs.Option.{option_copied};
 ghost use Rattle.fp_topologies.specs.Firsts.{FindsInEach, FindsPorts, named_in};
-ghost use Rattle.fp_topologies.specs.Ports.{component_at, port_used, ports_at};
+ghost use Rattle.fp_tables.specs.Lookup.{component_among};
+ghost use Rattle.fp_topologies.specs.Ports.{port_used, ports_at};
 
 use fp_base::NoMemory;
 use fp_tables::{Component, Instance, Port, PortDef};
@@ -121,7 +122,7 @@ impl<'a> PortIndex<'a> {
     }
 
     fn component_of(&self, instance: u32) -> Option<&Component>
-        ensures { option_copied result ≡ component_at self.now.components self.now.instances instance }
+        ensures { option_copied result ≡ component_among self.now.components self.now.instances instance }
     {
         let instance = self.instances.get(instance as usize)?;
         self.components.get(instance.component as usize)
