@@ -1,7 +1,8 @@
 -- The flat machines of an instance, by their numbers.
 use Rattle.std.proofs.Common.{◌≡◌, ℕ, zero, suc, List, [], ◌∷◌, map, Option, Some, None, option_map, option_and_then, unwrap_or, slice_get, refl, sym, ap, ◌∙◌}
 use Rattle.fp_tables.specs.Specials.{no_parts}
-use Rattle.fp_tables.specs.Lookup.{Described, component_of}
+use Rattle.fp_tables.specs.Lookup.{Described}
+use Rattle.fp_tables.specs.Positions.{component_of}
 use Rattle.fp_tables.specs.Sound.{IsSound}
 use Rattle.fp_tables.specs.declared.component.Component.{Component}
 use Rattle.fp_tables.specs.declared.component.Running.{Running}

@@ -4,8 +4,8 @@ use Rattle.std.specs.List.{list_all}
 use Rattle.fp_base.proofs.Options.{then_some}
 use Rattle.fp_base.proofs.Bools.{both}
 use Rattle.fp_tables.specs.Components as components
-use Rattle.fp_tables.specs.Lookup.{Described, component_of}
-use Rattle.fp_tables.specs.Positions.{formals_lie, part_lies, command_lies, component_lies, port_lies, event_lies, channel_lies, kind_lies, machine_lies, topology_lies, item_lies}
+use Rattle.fp_tables.specs.Lookup.{Described}
+use Rattle.fp_tables.specs.Positions.{component_of, formals_lie, part_lies, command_lies, component_lies, port_lies, event_lies, channel_lies, kind_lies, machine_lies, topology_lies, item_lies}
 use Rattle.fp_tables.specs.declared.component.Running.{Running}
 use Rattle.fp_tables.specs.Sound.{IsSound}
 use Rattle.fp_tables.specs.Types.{has_kind, have_kinds}

@@ -1,9 +1,10 @@
 -- The types that the commands, parameters, events and telemetry channels of a topology's instances use, directly or through other types.
 -- F Prime GDS JSON Dictionary Specification, "Type Definitions". This profile: they stand by their qualified names, as bytes.
-use Rattle.std.specs.Prelude.{◌≡◌, ℕ, ◌<◌, Bool, true, false, List, ◌++◌, flat_map, map, option_map, option_and_then, option_to_list, slice_get, Some, unwrap_or, []}
+use Rattle.std.specs.Prelude.{◌≡◌, ℕ, ◌<◌, Bool, true, false, List, ◌++◌, flat_map, map, option_map, option_to_list, slice_get, Some, unwrap_or, []}
 use Rattle.std.specs.List.{list_any}
 use Rattle.std.specs.Cmp.Lexicographic.{slice_cmp}
 use Rattle.std.specs.Ordering.{nat_cmp, is_lt}
+use Rattle.fp_tables.specs.Positions.{component_of}
 use Rattle.fp_tables.specs.Types.{form_at, is_named, is_use}
 use Rattle.fp_tables.specs.declared.kind.Formal.{Formal}
 use Rattle.fp_tables.specs.declared.kind.Form.{Form}
@@ -16,7 +17,6 @@ use Rattle.fp_tables.specs.declared.component.Component.{Component}
 use Rattle.fp_tables.specs.declared.component.Event.{Event}
 use Rattle.fp_tables.specs.declared.component.Param.{Param}
 use Rattle.fp_tables.specs.declared.model.Model.{Model}
-use Rattle.fp_tables.specs.declared.topology.Instance.{Instance}
 use Rattle.fp_tables.specs.declared.topology.Topology.{Topology}
 
 abbrev pub kinds_of_formals : List Formal → List Kind
@@ -30,7 +30,7 @@ kinds_of_component c =
 
 -- of the instance at a position
 abbrev pub kinds_of_instance : Model → ℕ → List Kind
-kinds_of_instance m i = flat_map kinds_of_component (option_to_list (option_and_then (λ (x : Instance). slice_get m.components x.component) (slice_get m.instances i)))
+kinds_of_instance m i = flat_map kinds_of_component (option_to_list (component_of m i))
 
 abbrev pub kinds_listed : Model → Topology → List Kind
 kinds_listed m o = flat_map (kinds_of_instance m) o.instances

@@ -4,8 +4,8 @@ use Rattle.fp_base.proofs.Options.{then_some}
 use Rattle.fp_base.proofs.Lists.{all_get, get_below}
 use Rattle.fp_base.proofs.Bools.{both}
 use Rattle.fp_tables.specs.Components.{set_parameter, saved_parameter}
-use Rattle.fp_tables.specs.Lookup.{Described, component_of}
-use Rattle.fp_tables.specs.Positions.{command_lies, part_lies}
+use Rattle.fp_tables.specs.Lookup.{Described}
+use Rattle.fp_tables.specs.Positions.{component_of, command_lies, part_lies}
 use Rattle.fp_tables.specs.Sound.{IsSound}
 use Rattle.fp_tables.specs.declared.component.Command.{Command}
 use Rattle.fp_tables.specs.declared.component.Component.{Component}

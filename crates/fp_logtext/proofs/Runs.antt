@@ -10,7 +10,8 @@ use Rattle.fp_system.proofs.Local.{actor_law}
 use Rattle.fp_base.proofs.Bools.{both, join}
 use Rattle.fp_tables.specs.Components.{takes_its_value}
 use Rattle.fp_tables.specs.Lists.{if_some}
-use Rattle.fp_tables.specs.Lookup.{Described, component_of}
+use Rattle.fp_tables.specs.Lookup.{Described}
+use Rattle.fp_tables.specs.Positions.{component_of}
 use Rattle.fp_tables.specs.Sound.{IsSoundFor}
 use Rattle.fp_tables.specs.SoundPrograms.{IsSoundProgram}
 use Rattle.fp_tables.specs.Types.{have_kinds}

@@ -2,8 +2,7 @@
 use Rattle.std.specs.Prelude.{ℕ, Bool, codes, List, [], ◌++◌, flat_map, reverse, Option, None, option_map, option_and_then, unwrap_or, slice_get}
 use Rattle.fp_tables.specs.Components.{set_parameter, saved_parameter}
 use Rattle.fp_tables.specs.Lists.{some_and}
-use Rattle.fp_tables.specs.Lookup.{component_of}
-use Rattle.fp_tables.specs.Positions.{port_of}
+use Rattle.fp_tables.specs.Positions.{component_of, port_of}
 use Rattle.fp_tables.specs.declared.component.Port.{Port}
 use Rattle.fp_tables.specs.declared.component.Command.{Command}
 use Rattle.fp_tables.specs.declared.component.Event.{Event}

@@ -6,8 +6,7 @@ use Rattle.std.specs.Option.{option_and_then, option_map}
 use Rattle.fp_base.proofs.Bools.{both}
 use Rattle.fp_base.proofs.Lists.{all_get}
 use Rattle.fp_base.proofs.Options.{then_some}
-use Rattle.fp_tables.specs.Lookup.{component_of}
-use Rattle.fp_tables.specs.Positions.{positions_lie, component_lies, topology_lies, link_lies}
+use Rattle.fp_tables.specs.Positions.{component_of, positions_lie, component_lies, topology_lies, link_lies}
 use Rattle.fp_tables.specs.declared.component.Port.{Port}
 use Rattle.fp_tables.specs.declared.component.Component.{Component}
 use Rattle.fp_tables.specs.declared.topology.Instance.{Instance}

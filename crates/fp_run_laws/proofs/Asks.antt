@@ -6,8 +6,8 @@ use Rattle.fp_base.proofs.Bools.{both, join}
 use Rattle.fp_tables.specs.Acts.{bound_to, command_of, machine_at, has_role, component_passes, is_placed}
 use Rattle.fp_tables.specs.Arguments.{Scope, with_bound, kinds_of, arguments_suit}
 use Rattle.fp_tables.specs.Lists.{some_and}
-use Rattle.fp_tables.specs.Lookup.{Described, component_of, wire_from}
-use Rattle.fp_tables.specs.Positions.{port_of}
+use Rattle.fp_tables.specs.Lookup.{Described, wire_from}
+use Rattle.fp_tables.specs.Positions.{component_of, port_of}
 use Rattle.fp_tables.specs.Programs as programs
 use Rattle.fp_tables.specs.Programs.{is_general_input, is_general_output, is_internal, caller_act_suits, act_suits, verb_suits, returned_at}
 use Rattle.fp_tables.specs.Sound.{IsSoundFor}

@@ -7,8 +7,8 @@ use Rattle.fp_base.proofs.Lists.{all_get}
 use Rattle.fp_base.proofs.Options.{then_some, some_of}
 use Rattle.fp_tables.specs.Acts.{has_role}
 use Rattle.fp_tables.specs.Lists.{some_and}
-use Rattle.fp_tables.specs.Lookup.{Described, component_of}
-use Rattle.fp_tables.specs.Positions.{port_of}
+use Rattle.fp_tables.specs.Lookup.{Described}
+use Rattle.fp_tables.specs.Positions.{component_of, port_of}
 use Rattle.fp_tables.specs.Programs.{is_general_output}
 use Rattle.fp_tables.specs.Sound.{IsSound, component_has_names}
 use Rattle.fp_tables.specs.Specials.{component, is_special, special_wire}

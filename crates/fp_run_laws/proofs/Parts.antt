@@ -4,8 +4,8 @@ use Rattle.std.specs.List.{list_all}
 use Rattle.fp_base.proofs.Options.{then_some}
 use Rattle.fp_base.proofs.Bools.{both}
 use Rattle.fp_tables.specs.Components as components
-use Rattle.fp_tables.specs.Lookup.{Described, component_of, placed}
-use Rattle.fp_tables.specs.Positions.{component_lies, command_lies, topology_lies}
+use Rattle.fp_tables.specs.Lookup.{Described, placed}
+use Rattle.fp_tables.specs.Positions.{component_of, component_lies, command_lies, topology_lies}
 use Rattle.fp_tables.specs.Sound.{IsSound, IsSoundAt, IsSoundFor}
 use Rattle.fp_tables.specs.declared.component.Component.{Component}
 use Rattle.fp_tables.specs.declared.topology.Instance.{Instance}

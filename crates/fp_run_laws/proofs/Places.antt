@@ -13,8 +13,8 @@ use Rattle.fp_tables.specs.Acts as acts
 use Rattle.fp_tables.specs.Arguments.{kinds_of}
 use Rattle.fp_tables.specs.Components as components
 use Rattle.fp_tables.specs.Lists.{some_and}
-use Rattle.fp_tables.specs.Lookup.{Described, component_of, wire_from, is_input, is_output}
-use Rattle.fp_tables.specs.Positions.{port_of}
+use Rattle.fp_tables.specs.Lookup.{Described, wire_from, is_input, is_output}
+use Rattle.fp_tables.specs.Positions.{component_of, port_of}
 use Rattle.fp_tables.specs.Programs.{is_general_input, is_internal}
 use Rattle.fp_tables.specs.Sound.{IsSoundFor}
 use Rattle.fp_tables.specs.Types.{have_kinds}

@@ -8,8 +8,8 @@ use Rattle.fp_base.proofs.Bools.{both}
 use Rattle.fp_tables.specs.Acts.{has_role}
 use Rattle.fp_tables.specs.Components as components
 use Rattle.fp_tables.specs.Lists.{apart}
-use Rattle.fp_tables.specs.Lookup.{Described, component_of, wire_from}
-use Rattle.fp_tables.specs.Positions.{port_of}
+use Rattle.fp_tables.specs.Lookup.{Described, wire_from}
+use Rattle.fp_tables.specs.Positions.{component_of, port_of}
 use Rattle.fp_tables.specs.Sound.{IsSoundFor}
 use Rattle.fp_tables.specs.declared.component.Component.{Component}
 use Rattle.fp_tables.specs.declared.component.Port.{Port as PortOf}

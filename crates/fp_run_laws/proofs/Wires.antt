@@ -10,8 +10,8 @@ use Rattle.fp_tables.specs.Arguments.{kinds_of}
 use Rattle.fp_tables.specs.Components as components
 use Rattle.fp_tables.specs.Instances as instances
 use Rattle.fp_tables.specs.Lists.{if_some, some_and, is_in}
-use Rattle.fp_tables.specs.Lookup.{Described, component_of, placed, wire_from, same_end, is_input, is_output}
-use Rattle.fp_tables.specs.Positions.{port_of, port_lies}
+use Rattle.fp_tables.specs.Lookup.{Described, placed, wire_from, same_end, is_input, is_output}
+use Rattle.fp_tables.specs.Positions.{component_of, port_of, port_lies}
 use Rattle.fp_tables.specs.Sound.{IsSoundWith, IsSoundAt, IsSoundFor, each_port}
 use Rattle.fp_tables.specs.declared.kind.Formal.{Formal}
 use Rattle.fp_tables.specs.declared.kind.Kind.{Kind}

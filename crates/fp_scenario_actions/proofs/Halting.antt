@@ -6,9 +6,9 @@ use Rattle.serde_json.specs.View.{view}
 use Rattle.fp_scenario_actions.specs.Arguments.{AreArguments}
 use Rattle.fp_base.specs.declared.rule.Rule.{Rule}
 use Rattle.fp_base.specs.declared.rule.Rule.TheVariants.{UnknownName, BadArgument}
-use Rattle.fp_tables.specs.Lookup.{Described, component_of}
+use Rattle.fp_tables.specs.Lookup.{Described}
+use Rattle.fp_tables.specs.Positions.{component_of, lists_are_short, is_short, machine_is_short, component_is_short}
 use Rattle.fp_tables.specs.declared.topology.Instance.{Instance}
-use Rattle.fp_tables.specs.Positions.{lists_are_short, is_short, machine_is_short, component_is_short}
 use Rattle.fp_tables.specs.Arguments.{Scope, kinds_of}
 use Rattle.fp_tables.specs.Programs.{is_general_output, is_internal}
 use Rattle.fp_base.proofs.Bools.{both}

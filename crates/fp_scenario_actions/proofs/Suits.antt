@@ -13,8 +13,8 @@ use Rattle.fp_tables.specs.Acts as acts
 use Rattle.fp_tables.specs.Acts.{has_role, command_of, machine_at, result_at, bound_to, binds, suit_in_turn, takes, takes_one, component_passes}
 use Rattle.fp_tables.specs.Arguments.{Scope, kinds_of, arguments_suit}
 use Rattle.fp_tables.specs.Lists.{some_and}
-use Rattle.fp_tables.specs.Lookup.{Described, component_of, wire_from}
-use Rattle.fp_tables.specs.Positions.{port_of}
+use Rattle.fp_tables.specs.Lookup.{Described, wire_from}
+use Rattle.fp_tables.specs.Positions.{component_of, port_of}
 use Rattle.fp_tables.specs.Programs as programs
 use Rattle.fp_tables.specs.Programs.{is_general_output, is_general_input, is_internal, is_command, is_queued, is_of_commands, leads_to, returned_at, verb_suits, act_suits, return_stands}
 use Rattle.fp_tables.specs.Sound.{IsSoundFor}

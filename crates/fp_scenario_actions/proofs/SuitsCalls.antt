@@ -8,8 +8,8 @@ use Rattle.fp_tables.specs.Acts as acts
 use Rattle.fp_tables.specs.Acts.{command_of, is_placed, result_at, bound_to, binds, suit_in_turn, takes}
 use Rattle.fp_tables.specs.Arguments.{Scope, kinds_of, arguments_suit}
 use Rattle.fp_tables.specs.Lists.{is_in, some_and}
-use Rattle.fp_tables.specs.Lookup.{Described, component_of, instance_named, place_of, placed}
-use Rattle.fp_tables.specs.Positions.{port_of}
+use Rattle.fp_tables.specs.Lookup.{Described, instance_named, place_of, placed}
+use Rattle.fp_tables.specs.Positions.{component_of, port_of}
 use Rattle.fp_tables.specs.Programs.{is_general_input, caller_act_suits}
 use Rattle.fp_tables.specs.Sound.{IsSoundFor}
 use Rattle.fp_tables.specs.declared.kind.Kind.{Kind}

@@ -7,7 +7,8 @@ use Rattle.serde_json.specs.declared.value.Value.{Value as Json}
 use Rattle.fp_base.specs.declared.rule.Rule.{Rule}
 use Rattle.fp_base.specs.declared.rule.Rule.TheVariants.{UnknownName, BadArgument, NoWire, BadReturn, BadDispatch, ActionNotAllowed}
 use Rattle.fp_tables.specs.Lists.{if_some, some_and}
-use Rattle.fp_tables.specs.Lookup.{Described, component_of, wire_from}
+use Rattle.fp_tables.specs.Lookup.{Described, wire_from}
+use Rattle.fp_tables.specs.Positions.{component_of}
 use Rattle.fp_tables.specs.Arguments.{Scope, kinds_of}
 use Rattle.fp_tables.specs.Acts.{has_role, result_at, bound_to}
 use Rattle.fp_tables.specs.Programs.{is_general_output, is_internal, is_command, is_queued, returned_at}

@@ -4,9 +4,9 @@ use Rattle.serde_json.specs.View.{view}
 use Rattle.fp_base.specs.declared.rule.Rule.{Rule}
 use Rattle.fp_base.specs.declared.rule.Rule.TheVariants.{UnknownName, BadArgument, NoWire, BadReturn, BadDispatch, ActionNotAllowed}
 use Rattle.fp_tables.specs.Lists.{if_some}
-use Rattle.fp_tables.specs.Lookup.{Described, component_of}
+use Rattle.fp_tables.specs.Lookup.{Described}
+use Rattle.fp_tables.specs.Positions.{component_of, port_of}
 use Rattle.fp_tables.specs.Arguments.{Scope, kinds_of}
-use Rattle.fp_tables.specs.Positions.{port_of}
 use Rattle.fp_tables.specs.Acts.{result_at, bound_to}
 use Rattle.fp_tables.specs.Programs.{is_general_input}
 use Rattle.fp_tables.specs.declared.kind.Kind.{Kind}

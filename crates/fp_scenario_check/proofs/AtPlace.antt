@@ -4,7 +4,8 @@ use Rattle.std.specs.Prelude.{option_and_then}
 use Rattle.fp_base.specs.declared.rule.Rule.{Rule}
 use Rattle.fp_base.specs.declared.rule.Rule.TheVariants.{UnknownName, BadReturn}
 use Rattle.fp_tables.specs.Arguments.{Scope}
-use Rattle.fp_tables.specs.Lookup.{Described, component_of}
+use Rattle.fp_tables.specs.Lookup.{Described}
+use Rattle.fp_tables.specs.Positions.{component_of}
 use Rattle.fp_tables.specs.declared.component.Component.{Component}
 use Rattle.fp_tables.specs.declared.program.Spot.{Spot}
 use Rattle.fp_scenario.specs.Checked.{Stops}

@@ -6,8 +6,8 @@ use Rattle.fp_base.proofs.Options.{mapped_some, then_some}
 use Rattle.fp_tables.specs.Acts.{command_of, machine_at}
 use Rattle.fp_tables.specs.Arguments.{Scope, formals_bound, nothing_bound}
 use Rattle.fp_tables.specs.Lists.{some_and}
-use Rattle.fp_tables.specs.Lookup.{Described, component_of}
-use Rattle.fp_tables.specs.Positions.{port_of}
+use Rattle.fp_tables.specs.Lookup.{Described}
+use Rattle.fp_tables.specs.Positions.{component_of, port_of}
 use Rattle.fp_tables.specs.Programs.{bound_at, command_bound, command_way, hook_bound, is_general_input, is_hooked, is_internal, port_bound, port_way, signal_way, value_bound, way_in, way_written}
 use Rattle.fp_tables.specs.declared.component.Command.{Command}
 use Rattle.fp_tables.specs.declared.component.Component.{Component}

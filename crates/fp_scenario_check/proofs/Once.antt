@@ -1,7 +1,8 @@
 -- A scenario stands for one program.
 use Rattle.std.proofs.Common.{◌≡◌, ℕ, Bool, List, [], ◌∷◌, Some, refl, sym, ap₂, ◌∙◌, subst}
 use Rattle.fp_base.proofs.Options.{one_some}
-use Rattle.fp_tables.specs.Lookup.{Described, component_of}
+use Rattle.fp_tables.specs.Lookup.{Described}
+use Rattle.fp_tables.specs.Positions.{component_of}
 use Rattle.fp_tables.specs.Arguments.{Scope, nothing_bound}
 use Rattle.fp_tables.specs.Programs.{bound_at}
 use Rattle.fp_tables.specs.declared.component.Component.{Component}

@@ -14,7 +14,8 @@ use Rattle.fp_tables.specs.Acts.{is_placed, machine_at, suit_in_turn}
 use Rattle.fp_tables.specs.Arguments.{Scope, nothing_bound}
 use Rattle.fp_tables.specs.Components.{is_from_1_to}
 use Rattle.fp_tables.specs.Lists.{some_and}
-use Rattle.fp_tables.specs.Lookup.{Described, component_of, placed}
+use Rattle.fp_tables.specs.Lookup.{Described, placed}
+use Rattle.fp_tables.specs.Positions.{component_of}
 use Rattle.fp_tables.specs.Programs.{act_suits, answers_suit, bound_at, caller_acts_suit, handler_suits, return_stands, returned_at}
 use Rattle.fp_tables.specs.Sound.{IsSoundFor}
 use Rattle.fp_tables.specs.SoundPrograms as programs

@@ -9,7 +9,8 @@ use Rattle.fp_base.proofs.Options.{one_some}
 use Rattle.fp_base.proofs.Sameness.{nat_same}
 use Rattle.fp_tables.specs.Acts.{is_placed}
 use Rattle.fp_tables.specs.Lists.{some_and}
-use Rattle.fp_tables.specs.Lookup.{Described, component_of, placed}
+use Rattle.fp_tables.specs.Lookup.{Described, placed}
+use Rattle.fp_tables.specs.Positions.{component_of}
 use Rattle.fp_tables.specs.Sound.{IsSoundAt}
 use Rattle.fp_tables.specs.declared.component.Component.{Component}
 use Rattle.fp_tables.proofs.Optional.{some_and_of}

@@ -7,7 +7,8 @@ use Rattle.fp_base.proofs.Bools.{both}
 use Rattle.fp_base.proofs.Options.{same_some}
 use Rattle.fp_base.specs.declared.rule.Rule.{Rule}
 use Rattle.fp_tables.specs.Lists.{some_and}
-use Rattle.fp_tables.specs.Lookup.{Described, component_of, placed}
+use Rattle.fp_tables.specs.Lookup.{Described, placed}
+use Rattle.fp_tables.specs.Positions.{component_of}
 use Rattle.fp_tables.specs.Arguments.{Scope, nothing_bound}
 use Rattle.fp_tables.specs.Programs.{bound_at}
 use Rattle.fp_tables.specs.declared.component.Component.{Component}

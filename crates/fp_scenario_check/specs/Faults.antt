@@ -2,7 +2,8 @@
 use Rattle.std.specs.Prelude.{◌≡◌, ◌⊎◌, ℕ, suc, true, decimal, length, map, List, [], ◌∷◌, ◌++◌, replicate, Option, Some, None, slice_get, ⊤}
 use Rattle.fp_base.specs.declared.rule.Rule.{Rule}
 use Rattle.fp_base.specs.declared.rule.Rule.TheVariants.{UnknownName, BadReturn}
-use Rattle.fp_tables.specs.Lookup.{Described, component_of}
+use Rattle.fp_tables.specs.Lookup.{Described}
+use Rattle.fp_tables.specs.Positions.{component_of}
 use Rattle.fp_tables.specs.Arguments.{Scope, nothing_bound}
 use Rattle.fp_tables.specs.Programs.{bound_at}
 use Rattle.fp_tables.specs.declared.component.Component.{Component}

@@ -5,7 +5,8 @@ use Rattle.std.specs.Str.{bytes_eq}
 use Rattle.fp_base.specs.declared.rule.Rule.{Rule}
 use Rattle.fp_base.specs.declared.rule.Rule.TheVariants.{PastSize, UnknownName, ScenarioRepeated, BadReturn}
 use Rattle.fp_tables.specs.Lists.{some_and}
-use Rattle.fp_tables.specs.Lookup.{Described, component_of, placed}
+use Rattle.fp_tables.specs.Lookup.{Described, placed}
+use Rattle.fp_tables.specs.Positions.{component_of}
 use Rattle.fp_tables.specs.Arguments.{Scope, nothing_bound}
 use Rattle.fp_tables.specs.Acts.{machine_at}
 use Rattle.fp_tables.specs.Programs.{bound_at}

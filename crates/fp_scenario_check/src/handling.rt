@@ -1,7 +1,6 @@
 ghost use Rattle.std.specs.Prelude.{◌≡◌, true, false, Some, map, is_some, IfOk, IfErr};
 ghost use Rattle.fp_tables.specs.Bound.{scope_of};
-ghost use Rattle.fp_tables.specs.Lookup.{component_of};
-ghost use Rattle.fp_tables.specs.Positions.{component_is_short, lists_are_short};
+ghost use Rattle.fp_tables.specs.Positions.{component_of, component_is_short, lists_are_short};
 ghost use Rattle.fp_tables.specs.Programs.{bound_at};
 ghost use Rattle.fp_scenario_actions.specs.Listing.{ActsPlan, lacks_return};
 ghost use Rattle.fp_scenario_check.specs.Planned.{Pairwise, PlansHandler};

@@ -15,8 +15,8 @@ use Rattle.fp_tree.specs.declared.topology.Pattern.{Pattern}
 use Rattle.fp_tree.specs.declared.topology.Pattern.TheVariants as pattern
 use Rattle.fp_tables.specs.Components.{definition_of, same_special, suits_its_role}
 use Rattle.fp_tables.specs.Lists.{some_and}
-use Rattle.fp_tables.specs.Lookup.{component_of, is_input, is_output}
-use Rattle.fp_tables.specs.Positions.{port_of}
+use Rattle.fp_tables.specs.Lookup.{is_input, is_output}
+use Rattle.fp_tables.specs.Positions.{component_of, port_of}
 use Rattle.fp_tables.specs.Programs.{is_general_input, is_general_output}
 use Rattle.fp_tables.specs.Sound.{each_port}
 use Rattle.fp_tables.specs.Specials.{is_special}

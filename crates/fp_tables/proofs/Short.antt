@@ -5,8 +5,7 @@ use Rattle.std.proofs.lemmas.Bool.Decides.{nat_tests}
 use Rattle.fp_base.proofs.Bools.{both}
 use Rattle.fp_base.proofs.Options.{then_some}
 use Rattle.fp_base.proofs.Lists.{all_get}
-use Rattle.fp_tables.specs.Positions.{component_is_short, machine_is_short, is_short, lists_are_short}
-use Rattle.fp_tables.specs.Lookup.{component_of}
+use Rattle.fp_tables.specs.Positions.{component_is_short, machine_is_short, is_short, lists_are_short, component_of}
 use Rattle.fp_tables.specs.declared.component.Component.{Component}
 use Rattle.fp_tables.specs.declared.topology.Instance.{Instance}
 use Rattle.fp_tables.specs.declared.topology.Topology.{Topology}

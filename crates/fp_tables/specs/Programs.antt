@@ -4,11 +4,11 @@ use Rattle.std.specs.Str.{bytes_eq}
 use Rattle.fp_base.specs.Same.{same_bool}
 use Rattle.fp_tables.specs.Lists.{some_and}
 use Rattle.fp_base.specs.Names.{is_name}
-use Rattle.fp_tables.specs.Positions.{port_of}
+use Rattle.fp_tables.specs.Positions.{port_of, component_of}
 use Rattle.fp_tables.specs.Specials.{is_special}
 use Rattle.fp_tables.specs.Arguments.{Scope, nothing_bound, with_bound, formals_bound, arguments_suit}
 use Rattle.fp_tables.specs.Acts.{is_placed, component_passes, command_of, definition_at, has_role, machine_at, takes, takes_one, suit_in_turn, result_at}
-use Rattle.fp_tables.specs.Lookup.{Described, component_of, wire_from}
+use Rattle.fp_tables.specs.Lookup.{Described, wire_from}
 use Rattle.fp_tables.specs.declared.kind.Kind.{Kind}
 use Rattle.fp_tables.specs.declared.kind.PortDef.{PortDef}
 use Rattle.fp_tables.specs.declared.component.Full.TheVariants.{Hook}

@@ -6,7 +6,8 @@ use Rattle.fp_tables.specs.Lists.{apart}
 use Rattle.fp_base.specs.Names.{is_name}
 use Rattle.fp_tables.specs.Names.{texts_differ}
 use Rattle.fp_tables.specs.Components.{is_from_1_to}
-use Rattle.fp_tables.specs.Lookup.{Described, component_of, placed}
+use Rattle.fp_tables.specs.Lookup.{Described, placed}
+use Rattle.fp_tables.specs.Positions.{component_of}
 use Rattle.fp_tables.specs.declared.component.Way.{Way}
 use Rattle.fp_tables.specs.declared.component.Way.TheVariants.{Later}
 use Rattle.fp_tables.specs.declared.component.Role.{Role}

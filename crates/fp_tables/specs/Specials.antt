@@ -1,7 +1,8 @@
 -- The special ports of an instance, and what of it is found whatever it is.
 use Rattle.std.specs.Prelude.{ℕ, Bool, false, [], position, Option, option_map, option_and_then, unwrap_or}
 use Rattle.fp_tables.specs.Components.{same_special}
-use Rattle.fp_tables.specs.Lookup.{Described, component_of, wire_from}
+use Rattle.fp_tables.specs.Lookup.{Described, wire_from}
+use Rattle.fp_tables.specs.Positions.{component_of}
 use Rattle.fp_tables.specs.declared.component.Component.{Component}
 use Rattle.fp_tables.specs.declared.component.Role.{Role}
 use Rattle.fp_tables.specs.declared.component.Role.TheVariants as role

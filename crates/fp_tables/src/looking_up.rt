@@ -1,7 +1,7 @@
 ghost use Rattle.std.specs.Prelude.{◌≡◌};
 ghost use Rattle.std.specs.Option.{option_copied};
-ghost use Rattle.fp_tables.specs.Positions.{port_of};
-ghost use Rattle.fp_tables.specs.Lookup.{component_of, placed};
+ghost use Rattle.fp_tables.specs.Positions.{port_of, component_of};
+ghost use Rattle.fp_tables.specs.Lookup.{placed};
 ghost use Rattle.fp_tables.specs.Acts.{is_placed, command_of, definition_at, result_at, machine_at};
 
 use crate::component::{Command, Component, Port};

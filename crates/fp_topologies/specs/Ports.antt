@@ -1,7 +1,7 @@
 -- The ports of instances, by their names, and the connections that are written. FPP Language Specification, "Connection Graph Specifiers".
 use Rattle.std.specs.Prelude.{ℕ, ℤ, List, [], filter_map, position, slice_get, Option, option_map, option_and_then, unwrap_or}
 use Rattle.std.specs.Str.{bytes_eq}
-use Rattle.fp_tables.specs.Lookup.{component_among}
+use Rattle.fp_tables.specs.Positions.{component_among}
 use Rattle.fp_tables.specs.declared.component.Component.{Component}
 use Rattle.fp_tables.specs.declared.component.Port.{Port}
 use Rattle.fp_tables.specs.declared.topology.Instance.{Instance}

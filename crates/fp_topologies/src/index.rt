@@ -1,7 +1,7 @@
 ghost use Rattle.std.specs.Prelude.{◌≡◌, ◌<◌, ◌^◌, length, slice_get, IfOk};
 ghost use Rattle.std.specs.Option.{option_copied};
 ghost use Rattle.fp_topologies.specs.Firsts.{FindsInEach, FindsPorts, named_in};
-ghost use Rattle.fp_tables.specs.Lookup.{component_among};
+ghost use Rattle.fp_tables.specs.Positions.{component_among};
 ghost use Rattle.fp_topologies.specs.Ports.{port_used, ports_at};
 
 use fp_base::NoMemory;

@@ -3,7 +3,7 @@ use Rattle.std.specs.Prelude.{option_and_then, unwrap_or}
 use Rattle.fp_tables.specs.declared.component.Component.{Component}
 use Rattle.fp_tables.specs.declared.component.Port.{Port}
 use Rattle.fp_topologies.specs.Indexed.{Indexed}
-use Rattle.fp_tables.specs.Lookup.{component_among}
+use Rattle.fp_tables.specs.Positions.{component_among}
 use Rattle.fp_topologies.proofs.Finding.{short_at}
 use Rattle.fp_topologies.proofs.index.PortIndex.ports_at.Goals as goal
 
