@@ -2,7 +2,7 @@
 use Rattle.std.proofs.Common.{◌≡◌, ℕ, zero, suc, ◌+◌, ◌-◌, ◌^◌, ◌≤◌, ◌⊎◌, min, max, true, false, List, [], ◌∷◌, ◌++◌, length, map, flat_map, sum, slice_get, take, Option, Some, None, refl, inl, inr, sym, ap, subst, ◌∙◌, arith, length-append}
 use Rattle.std.specs.List.{sum_by}
 use Rattle.std.proofs.lemmas.List.Sums.{sum-map, sum_by-append}
-use Rattle.fp_base.proofs.Lists.{take_next}
+use Rattle.fp_base.proofs.Lists.{get_last, take_next}
 use Rattle.fp_base.specs.declared.refusal.Refusal.{Refusal}
 use Rattle.fp_base.specs.declared.value.Value.{Value}
 use Rattle.fp_tree.specs.declared.source.Source.{Source}
@@ -74,10 +74,6 @@ stays [] x k y e = cc
 stays (z ∷ xs) x zero y e = e
 stays (z ∷ xs) x (suc k) y e = stays xs x k y e
 
-pub last_there : {A : Type 0} (xs : List A) (x : A) → slice_get (xs ++ x ∷ []) (length xs) ≡ Some x
-last_there [] x = refl
-last_there (z ∷ xs) x = last_there xs x
-
 module _ (source : Source) (scope : Path) where
   parts_more : (es : List Expr) (e : Expr) (o q : Option Refusal) → IsLeast (PartsBroken source scope es) o → IsLeast (BrokenIn source scope e) q
       → IsLeast (PartsBroken source scope (es ++ e ∷ [])) (lesser_of o q)
@@ -85,7 +81,7 @@ module _ (source : Source) (scope : Path) where
     where
       to : (f : Refusal) → Either (PartsBroken source scope es) (BrokenIn source scope e) f → PartsBroken source scope (es ++ e ∷ []) f
       to f (inl t) = (t.0, t.1, stays es e t.0 t.1 t.2, t.3)
-      to f (inr h) = (length es, e, last_there es e, h)
+      to f (inr h) = (length es, e, get_last es e, h)
 
       split : (f : Refusal) (t : PartsBroken source scope (es ++ e ∷ []) f) → (slice_get es t.0 ≡ Some t.1) ⊎ (e ≡ t.1)
           → Either (PartsBroken source scope es) (BrokenIn source scope e) f

@@ -3,7 +3,7 @@ use Rattle.std.proofs.Common.{◌≡◌, ℕ, zero, suc, ◌+◌, ◌≤◌, ◌
 use Rattle.std.proofs.lemmas.List.{append-nil, take_all}
 use Rattle.std.proofs.lemmas.Grind.{flat_map-append}
 use Rattle.std.proofs.lemmas.Option.{slice_get_within}
-use Rattle.fp_base.proofs.Lists.{take_next}
+use Rattle.fp_base.proofs.Lists.{get_last, take_next}
 use Rattle.fp_base.specs.declared.value.Value.{Value}
 use Rattle.fp_base.specs.declared.refusal.Refusal.{Refusal}
 use Rattle.fp_tree.specs.declared.source.Source.{Source}
@@ -22,7 +22,7 @@ use Rattle.fp_consts.specs.declared.marking.Marking.{Marking}
 use Rattle.fp_consts.specs.Examined.{AreGiven, IsFound, Examines, plain}
 use Rattle.fp_consts.specs.Marked.{AreValues, SomeBroken, AddsMarks, MarksExpression, MarksItem, AddsFound, Counts, IsMarked, Marks}
 use Rattle.fp_consts.proofs.Given.{given_split}
-use Rattle.fp_consts.proofs.Gathering.{stays, last_there}
+use Rattle.fp_consts.proofs.Gathering.{stays}
 
 -- what stands in a list with one more, by its place
 by_place : {A : Type 0} (xs : List A) (x : A) (k : ℕ) (y : A) → slice_get (xs ++ x ∷ []) k ≡ Some y → (slice_get xs k ≡ Some y) ⊎ ((k ≡ length xs) × (x ≡ y))
@@ -60,7 +60,7 @@ module _ (source : Source) where
     where
       to : (f : Refusal) → Either (SomeBroken source ps) (BrokenIn source p.scope p.expression) f → SomeBroken source (ps ++ p ∷ []) f
       to f (inl t) = (t.0, t.1, stays ps p t.0 t.1 t.2, t.3)
-      to f (inr h) = (length ps, p, last_there ps p, h)
+      to f (inr h) = (length ps, p, get_last ps p, h)
 
       split : (f : Refusal) (t : SomeBroken source (ps ++ p ∷ []) f) → (slice_get ps t.0 ≡ Some t.1) ⊎ ((t.0 ≡ length ps) × (p ≡ t.1))
           → Either (SomeBroken source ps) (BrokenIn source p.scope p.expression) f

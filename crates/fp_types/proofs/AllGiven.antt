@@ -42,7 +42,7 @@ named_is j kind.I64 e = absurd (cc)
 named_is j kind.Bool e = absurd (cc)
 named_is j (kind.Str size) e = absurd (cc)
 
-any_named : (j : ℕ) (ks : List Kind) → list_any (is_named j) ks ≡ true → (n : ℕ) × (slice_get ks n ≡ Some (kind.Named j))
+pub any_named : (j : ℕ) (ks : List Kind) → list_any (is_named j) ks ≡ true → (n : ℕ) × (slice_get ks n ≡ Some (kind.Named j))
 any_named j [] e = absurd (cc)
 any_named j (k ∷ ks) e = go (is_named j k) refl e (λ h. any_named j ks h)
   where
