@@ -48,7 +48,7 @@ module _ (m : Model) (one : matched_ports_have_one_size m ≡ true) where
       by None e f = refl
       by (Some c) e f =
           let x = then_some (λ (y : Instance). slice_get m.components y.component) (slice_get m.instances i) c e in
-          in_component c q (all_get (λ (d : Component). list_all (has_one_size d.ports) d.matches) m.components x.0.component c one x.2) f
+          same_number _ _ (in_component c q (all_get (λ (d : Component). list_all (has_one_size d.ports) d.matches) m.components x.0.component c one x.2) f)
 
 pub are_sound : (m : Model) (t : ℕ) → positions_lie m ≡ true → matched_ports_have_one_size m ≡ true → AreSound m (links_of m t)
 are_sound m t lies one = record { matched = matched m lies; sizes = sizes m one; ends = links_lie m lies (slice_get m.topologies t) t refl }
