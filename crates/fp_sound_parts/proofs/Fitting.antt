@@ -47,8 +47,7 @@ use Rattle.fp_source_parts.proofs.Members.{interface_member_known, member_known}
 use Rattle.fp_source_parts.proofs.Places.{second_read}
 use Rattle.fp_sound_parts.specs.Ready.{HasFittingLimits, LimitsFit, OfEachMember}
 use Rattle.fp_sound_parts.proofs.Good.{ConvertedHasKind, all_given}
-use Rattle.fp_types.proofs.AllGiven.{given_at}
-use Rattle.fp_sound_parts.proofs.Well.{sound_well}
+use Rattle.fp_sound_parts.proofs.Well.{given_at, sound_well}
 
 -- the laws on parts that are cited here
 abbrev pub PartNumbersStand : Type 0

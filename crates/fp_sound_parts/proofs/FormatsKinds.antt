@@ -5,6 +5,7 @@ use Rattle.std.specs.List.{list_any}
 use Rattle.std.proofs.lemmas.List.{length-map, length-replicate}
 use Rattle.std.proofs.lemmas.Option.{slice_get-map, slice_get_within}
 use Rattle.fp_base.proofs.Options.{same_some}
+use Rattle.fp_base.proofs.Sameness.{nat_same}
 use Rattle.fp_base.proofs.Spots.{item_below}
 use Rattle.fp_base.specs.declared.rule.Rule.TheVariants.{ChainTooLong, Cycle}
 use Rattle.fp_base.specs.declared.value.Value.{Value}
@@ -19,7 +20,6 @@ use Rattle.fp_tree.specs.declared.name.Qual.{Qual}
 use Rattle.fp_tree.specs.declared.type_name.TypeForm.{TypeForm}
 use Rattle.fp_tree.specs.declared.type_name.TypeForm.TheVariants as type
 use Rattle.fp_tables.specs.Lists.{some_and}
-use Rattle.fp_types.proofs.AllGiven.{any_named}
 use Rattle.fp_tables.specs.Types as shapes
 use Rattle.fp_tables.specs.Types.{Leads, again, is_integer, is_named, is_use, kinds_in, of_form, once, shape}
 use Rattle.fp_tables.specs.declared.kind.Form.{Form}
@@ -220,6 +220,19 @@ alias_uses source p s d q used at is names low means =
     by_name o.k m low (o.owner ∙ ap (λ (n : ℕ). Some n) owner) o.mentioned means
 
 -- ---- no type that is given uses itself
+
+named_is : (j : ℕ) (k : Kind) → is_named j k ≡ true → k ≡ kind.Named j
+named_is j (kind.Named i) e = ap (λ (n : ℕ). kind.Named n) (nat_same.equal i j e)
+named_is j _ e = absurd (cc)
+
+any_named : (j : ℕ) (ks : List Kind) → list_any (is_named j) ks ≡ true → (n : ℕ) × (slice_get ks n ≡ Some (kind.Named j))
+any_named j [] e = absurd (cc)
+any_named j (k ∷ ks) e = go (is_named j k) refl e (any_named j ks)
+  where
+    go : (b : Bool) → is_named j k ≡ b → (b || list_any (is_named j) ks) ≡ true → (list_any (is_named j) ks ≡ true → (n : ℕ) × (slice_get ks n ≡ Some (kind.Named j)))
+        → (n : ℕ) × (slice_get (k ∷ ks) n ≡ Some (kind.Named j))
+    go true is h rest = (0, ap (λ (x : Kind). Some x) (named_is j k is))
+    go false is h rest = let p = rest h in (suc p.0, p.1)
 
 module _ (source : Source) (ts : List TypeDef) (given : AreTypesOf source (map (λ (d : TypeDef). Some d) ts))
     (size_of_default : (ws : List WrittenType) (i : ℕ) (v : Value) → DefaultIs ws (kind.Named i) v → IsOfSize ws (kind.Named i)) where
