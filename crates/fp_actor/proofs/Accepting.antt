@@ -16,15 +16,16 @@ use Rattle.fp_events.specs.Fits.{fits}
 use Rattle.fp_events.specs.Due.{due, due_of}
 use Rattle.fp_events.specs.Follows.{follows}
 use Rattle.fp_events.specs.Step.{core, answers_due, taken_by, actor_part}
+use Rattle.fp_events.specs.Ends.{is_asserted}
+use Rattle.fp_events.proofs.Halting.{follows_halted}
 use Rattle.fp_actor.specs.declared.level.Level.{Level}
 use Rattle.fp_actor.specs.declared.level.Binding.{Binding}
 use Rattle.fp_actor.specs.Stacked.{frames}
 use Rattle.fp_actor.specs.Placed.{AreKept, Goes}
-use Rattle.fp_actor.specs.Awaited.{IsAwaited, is_assert}
+use Rattle.fp_actor.specs.Awaited.{IsAwaited}
 use Rattle.fp_actor.proofs.Awaiting.{awaited}
 use Rattle.fp_actor.proofs.Growing.{frames_grown}
 use Rattle.fp_actor.proofs.Keeping.{before_all}
-use Rattle.fp_actor.proofs.Closing.{follows_halted}
 use Rattle.fp_base.proofs.Lists.{get_last}
 
 pub rooms : (a b c d e f : ℕ) → (nat_lt a b && nat_lt c d && nat_lt e f) ≡ true → (a < b) × (c < d) × (e < f)
@@ -90,7 +91,7 @@ module _ (t : Described) (program : Program) (number : ℕ) (trace : List Entry)
 
       pub accepted : (cs : List Binding) (ms : List Level) → Goes t program number (trace ++ e ∷ []) e bs ls cs ms →
           actor_part t program number state e
-          ≡ Some (record { thread = record { frames = frames t program number (trace ++ e ∷ []) cs ms; halted = is_assert e.what }; last = e.stamp })
+          ≡ Some (record { thread = record { frames = frames t program number (trace ++ e ∷ []) cs ms; halted = is_asserted e.what }; last = e.stamp })
       accepted cs ms goes =
           let frames_are = goes.follow state.thread (sym (grown_same (e ∷ []))) in
           let halts = follows_halted t program e.instance state.thread e.what (going t program number e state.thread takes).0 in
@@ -101,7 +102,7 @@ module _ (t : Described) (program : Program) (number : ℕ) (trace : List Entry)
         abbrev pub after : ActorState
         after = record { thread = record { frames = frames t program number grown cs ms; halted = asserts }; last = e.stamp }
 
-        module _ (pushed : grown ≡ trace ++ e ∷ []) (same : seen ≡ grown) (end : at ≡ length trace) (asserts_is : asserts ≡ is_assert e.what) where
+        module _ (pushed : grown ≡ trace ++ e ∷ []) (same : seen ≡ grown) (end : at ≡ length trace) (asserts_is : asserts ≡ is_asserted e.what) where
           module _ (follow : (entry : Entry) → slice_get seen at ≡ Some entry → IsAwaited (frames t program number seen bs ls) entry.what → Goes t program number seen entry bs ls cs ms) where
             went : Goes t program number (trace ++ e ∷ []) e bs ls cs ms
             went =

@@ -1,9 +1,10 @@
 -- What a binding that is made in the level on top changes.
-use Rattle.std.proofs.Common.{◌≡◌, ℕ, zero, suc, ◌+◌, ◌≤◌, true, is_some, List, [], ◌∷◌, ◌++◌, length, map, reverse, drop, take, Option, Some, None, option_map, unwrap_or, refl, sym, ap, ◌∙◌, arith}
+use Rattle.std.proofs.Common.{◌≡◌, ℕ, suc, ◌+◌, ◌≤◌, true, is_some, List, [], ◌∷◌, ◌++◌, length, map, reverse, drop, take, Option, Some, None, option_map, unwrap_or, refl, sym, ap, ◌∙◌, arith}
 use Rattle.std.specs.List.{slice_get}
 use Rattle.std.specs.Option.{option_and_then}
 use Rattle.std.proofs.lemmas.List.{reverse-append, length-take-le, length-append, take_all, take-take, take-append-le, drop-append-le}
 use Rattle.fp_base.specs.declared.value.Value.{Value, Opaque}
+use Rattle.fp_base.proofs.Lists.{drop_next}
 use Rattle.fp_tables.specs.Lookup.{Described}
 use Rattle.fp_tables.specs.declared.program.Program.{Program}
 use Rattle.fp_events.specs.declared.event.Entry.{Entry}
@@ -26,18 +27,9 @@ use Rattle.fp_actor.specs.Entries.{value_given, IsReading, IsReturning}
 use Rattle.fp_actor.specs.Stacked.{lists_in, with_nothing, given_at, binding, made, bindings_of, left, over, framed, frames, stacked, IsFirst, IsBindable, action_of, called, default_in, opened_in, IsBottom}
 use Rattle.fp_actor.proofs.Stacking.{snoc}
 
-start_of : {A : Type 0} (xs : List A) (k : ℕ) (y : A) → slice_get xs k ≡ Some y → drop k xs ≡ y ∷ drop (suc k) xs
-start_of [] k y e = absurd (cc)
-start_of (x ∷ xs) zero y e = let s : x ≡ y = cc in ap (λ z. z ∷ xs) s
-start_of (x ∷ xs) (suc k) y e = start_of xs k y e
-
 pub some_of : {A : Type 0} (o : Option A) (x : A) → is_some o ≡ true → o ≡ Some (unwrap_or o x)
 some_of None x e = absurd (cc)
 some_of (Some y) x e = refl
-
-pub nothing_in : {A : Type 0} (xs : List A) → length xs ≡ 0 → xs ≡ []
-nothing_in [] e = refl
-nothing_in (x ∷ xs) e = absurd (omega (arith, e))
 
 module _ (t : Described) (program : Program) (number : ℕ) (trace : List Entry) where
   abbrev named : Binding → List ℕ × Value
@@ -113,7 +105,7 @@ module _ (t : Described) (program : Program) (number : ℕ) (trace : List Entry)
     pub bind_top : (xs : List Level) (d : Doing) → AreUpTo l.past xs → slice_get (lists l) l.next.list ≡ Some d →
         frames t program number trace now (xs ++ raised l ∷ []) ≡ in_frame (bind (named b).0 (named b).1) (frames t program number trace bs (xs ++ l ∷ []))
     bind_top xs d up e =
-        let h = start_of (lists l) l.next.list d e in
+        let h = drop_next (lists l) l.next.list d e in
         snoc t program number trace now [] xs (raised l)
         ∙ ap (over t program number trace now l.base (raised l)) (sym (same_stacked bs now l.past [] xs same_start up))
         ∙ bind_over bs now (named b) l.base l _ _ (frames t program number trace bs xs) (ap (begun l.next.action (made t program number trace bs l)) h) (bind_left d _ h)

@@ -18,7 +18,7 @@ use Rattle.fp_actor.specs.Stacked.{called, call_in, default_in, opened_in, over,
 use Rattle.fp_actor.specs.Entries.{IsReturning, IsStarting, IsMoving}
 use Rattle.fp_actor.specs.declared.step.Change.{Change}
 use Rattle.fp_actor.specs.declared.step.Change.TheVariants as change
-use Rattle.fp_actor.specs.Awaited.{acts, advances, is_assert, IsChange, IsStaying, IsClosing}
+use Rattle.fp_actor.specs.Awaited.{acts, advances, IsChange, IsStaying, IsClosing}
 use Rattle.fp_actor.proofs.Stacking.{snoc}
 use Rattle.fp_actor.proofs.Keeping.{with_last}
 
@@ -169,26 +169,6 @@ module _ (t : Described) (program : Program) where
   staying_follows i x (what.Read param v) o = absurd o
   staying_follows i x (what.Start running actions leaf) o = absurd o
   staying_follows i x (what.Move running signal actions leaf) o = absurd o
-
-  pub follows_halted : (i : ℕ) (x : Thread) (w : What) → x.halted ≡ false → (follows t program i x w).halted ≡ is_assert w
-  unfolding follows
-  follows_halted i x (what.Enter r) h = h
-  follows_halted i x (what.Guard r) h = h
-  follows_halted i x (what.Set r) h = h
-  follows_halted i x (what.Save r value) h = h
-  follows_halted i x (what.Put number r) h = h
-  follows_halted i x (what.Dropped r) h = h
-  follows_halted i x (what.Hooked r) h = h
-  follows_halted i x (what.Asserted r) h = refl
-  follows_halted i x (what.Leave v) h = h
-  follows_halted i x what.Done h = h
-  follows_halted i x (what.Take number point with) h = h
-  follows_halted i x what.Empty h = h
-  follows_halted i x (what.Emit event fate text) h = h
-  follows_halted i x (what.Write channel fate v) h = h
-  follows_halted i x (what.Read param v) h = h
-  follows_halted i x (what.Start running actions leaf) h = h
-  follows_halted i x (what.Move running signal actions leaf) h = h
 
 module _ (t : Described) (program : Program) (number : ℕ) (trace : List Entry) where
   bound_unnamed : (b : Base) (s : Source) (v : Value) (fs : List Frame) → is_some (call_in t program number trace b) ≡ false → bound_below (opened_in t program number trace b s) (Some v) fs ≡ fs

@@ -12,12 +12,13 @@ use Rattle.fp_tables.specs.declared.program.Spot.TheVariants as spot
 use Rattle.fp_base.proofs.Bools.{both}
 use Rattle.fp_tables.specs.SoundPrograms.{same_spot}
 use Rattle.fp_tables.proofs.Spots.{spot_equal}
-use Rattle.fp_actor.specs.Found.{is_at, pair_cmp, triple_cmp}
+use Rattle.fp_tables.specs.Found.{key_cmp, pair_cmp}
+use Rattle.fp_actor.specs.Found.{is_at}
 
 pair_keys : (i n : ℕ) (q : ℕ × ℕ) → is_key (pair_cmp (i, n)) q ≡ (eqb i q.0 && eqb n q.1)
 pair_keys i n q = grind (arith, nat_tests)
 
-triple_keys : (i n m : ℕ) (q : ℕ × ℕ × ℕ) → is_key (triple_cmp (i, n, m)) q ≡ (eqb i q.0 && (eqb n q.1 && eqb m q.2))
+triple_keys : (i n m : ℕ) (q : ℕ × ℕ × ℕ) → is_key (key_cmp (i, n, m)) q ≡ (eqb i q.0 && (eqb n q.1 && eqb m q.2))
 triple_keys i n m q = grind (arith, nat_tests)
 
 pub same_port : (h : Handler) (n : ℕ) (q : ℕ × ℕ) → h.place ≡ spot.Port n → is_key (pair_cmp (h.instance, n)) q ≡ is_at q.0 (spot.Port q.1) h
@@ -26,7 +27,7 @@ same_port h n q e = pair_keys h.instance n q ∙ ap (λ (s : Spot). eqb h.instan
 pub same_command : (h : Handler) (n : ℕ) (q : ℕ × ℕ) → h.place ≡ spot.Command n → is_key (pair_cmp (h.instance, n)) q ≡ is_at q.0 (spot.Command q.1) h
 same_command h n q e = pair_keys h.instance n q ∙ ap (λ (s : Spot). eqb h.instance q.0 && same_spot s (spot.Command q.1)) (sym e)
 
-pub same_action : (h : Handler) (n m : ℕ) (q : ℕ × ℕ × ℕ) → h.place ≡ spot.Action n m → is_key (triple_cmp (h.instance, n, m)) q ≡ is_at q.0 (spot.Action q.1 q.2) h
+pub same_action : (h : Handler) (n m : ℕ) (q : ℕ × ℕ × ℕ) → h.place ≡ spot.Action n m → is_key (key_cmp (h.instance, n, m)) q ≡ is_at q.0 (spot.Action q.1 q.2) h
 same_action h n m q e = triple_keys h.instance n m q ∙ ap (λ (s : Spot). eqb h.instance q.0 && same_spot s (spot.Action q.1 q.2)) (sym e)
 
 pub same_hook_port : (h : Handler) (n : ℕ) (q : ℕ × ℕ) → h.place ≡ spot.HookPort n → is_key (pair_cmp (h.instance, n)) q ≡ is_at q.0 (spot.HookPort q.1) h
@@ -44,7 +45,7 @@ pair_key i n q h =
     let b : n ≡ q.1 = grind (arith, nat_tests) in
     λ j. (a j, b j)
 
-pub triple_key : (i n m : ℕ) (q : ℕ × ℕ × ℕ) → is_key (triple_cmp (i, n, m)) q ≡ true → ◌≡◌ {A = ℕ × ℕ × ℕ} (i, n, m) q
+pub triple_key : (i n m : ℕ) (q : ℕ × ℕ × ℕ) → is_key (key_cmp (i, n, m)) q ≡ true → ◌≡◌ {A = ℕ × ℕ × ℕ} (i, n, m) q
 triple_key i n m q h =
     let a : i ≡ q.0 = grind (arith, nat_tests) in
     let b : n ≡ q.1 = grind (arith, nat_tests) in

@@ -1,9 +1,10 @@
 -- An entry more in the trace changes no frames whose places are before it.
-use Rattle.std.proofs.Common.{◌≡◌, ℕ, zero, suc, ◌<◌, List, [], ◌∷◌, ◌++◌, length, map, reverse, drop, take, Option, Some, None, option_map, unwrap_or, refl, sym, ap, ◌∙◌, arith}
+use Rattle.std.proofs.Common.{◌≡◌, ℕ, suc, ◌<◌, List, [], ◌∷◌, ◌++◌, length, map, reverse, drop, take, Option, Some, None, option_map, unwrap_or, refl, sym, ap, ◌∙◌}
 use Rattle.std.specs.List.{slice_get}
 use Rattle.std.specs.Option.{option_and_then}
 use Rattle.std.proofs.lemmas.List.{reverse-append, map-append, take-map, drop-map}
 use Rattle.fp_base.specs.declared.value.Value.{Opaque}
+use Rattle.fp_base.proofs.Lists.{get_before}
 use Rattle.fp_tables.specs.Lookup.{Described}
 use Rattle.fp_tables.specs.declared.program.Program.{Program}
 use Rattle.fp_events.specs.declared.event.Entry.{Entry}
@@ -20,11 +21,6 @@ use Rattle.fp_actor.specs.Levels.{begun}
 use Rattle.fp_actor.specs.Entries.{lists_of, signal_value, value_given, default_of}
 use Rattle.fp_actor.specs.Stacked.{lists_in, value_at, default_in, instance_of, opened_in, called, action_at, given_at, binding, made, left, over, framed, frames, stacked}
 use Rattle.fp_actor.specs.Placed.{IsBefore, IsBaseBefore, AreBefore, AreBoundBefore}
-
-before_end : {A : Type 0} (xs ys : List A) (k : ℕ) → k < length xs → slice_get (xs ++ ys) k ≡ slice_get xs k
-before_end [] ys k lt = absurd (omega arith)
-before_end (x ∷ xs) ys zero lt = refl
-before_end (x ∷ xs) ys (suc k) lt = before_end xs ys k (omega arith)
 
 module _ {A B : Type 0} (f g : A → B) where
   all_same : (xs : List A) → ((k : ℕ) (x : A) → slice_get xs k ≡ Some x → f x ≡ g x) → map f xs ≡ map g xs
@@ -49,19 +45,19 @@ module _ (t : Described) (program : Program) (number : ℕ) (trace more : List E
   grown = trace ++ more
 
   value_grown : (m : ℕ) → m < length trace → value_at t program number grown m ≡ value_at t program number trace m
-  value_grown m lt = ap (option_and_then (λ (e : Entry). signal_value e.what)) (before_end trace more m lt)
+  value_grown m lt = ap (option_and_then (λ (e : Entry). signal_value e.what)) (get_before trace more m lt)
 
   pub lists_grown : (s : Source) → IsBefore (length trace) s → lists_in t program number grown s ≡ lists_in t program number trace s
   lists_grown source.Own h = refl
-  lists_grown (source.Entry n m) h = λ j. unwrap_or (option_map (λ (e : Entry). lists_of t program (value_grown m h.1 j) e.instance e.what) (before_end trace more n h.0 j)) []
+  lists_grown (source.Entry n m) h = λ j. unwrap_or (option_map (λ (e : Entry). lists_of t program (value_grown m h.1 j) e.instance e.what) (get_before trace more n h.0 j)) []
 
   instance_grown : (s : Source) → IsBefore (length trace) s → instance_of t program number grown s ≡ instance_of t program number trace s
   instance_grown source.Own h = refl
-  instance_grown (source.Entry n m) h = ap (λ (o : Option Entry). unwrap_or (option_map (λ (e : Entry). e.instance) o) 0) (before_end trace more n h.0)
+  instance_grown (source.Entry n m) h = ap (λ (o : Option Entry). unwrap_or (option_map (λ (e : Entry). e.instance) o) 0) (get_before trace more n h.0)
 
   default_grown : (s : Source) → IsBefore (length trace) s → default_in t program number grown s ≡ default_in t program number trace s
   default_grown source.Own h = refl
-  default_grown (source.Entry n m) h = ap (option_and_then (λ (e : Entry). default_of t program e.instance e.what)) (before_end trace more n h.0)
+  default_grown (source.Entry n m) h = ap (option_and_then (λ (e : Entry). default_of t program e.instance e.what)) (get_before trace more n h.0)
 
   action_grown : (p : Position) → IsBefore (length trace) p.source → action_at t program number grown p ≡ action_at t program number trace p
   action_grown p h = ap (λ (ls : List Doing). option_and_then (λ (d : Doing). slice_get d.actions p.action) (slice_get ls p.list)) (lists_grown p.source h)
@@ -77,7 +73,7 @@ module _ (t : Described) (program : Program) (number : ℕ) (trace more : List E
   opened_grown base.Taken s h i = refl
 
   given_grown : (n : ℕ) → n < length trace → given_at t program number grown n ≡ given_at t program number trace n
-  given_grown n lt = ap (λ (o : Option Entry). unwrap_or (option_map (λ (e : Entry). value_given e.what) o) Opaque) (before_end trace more n lt)
+  given_grown n lt = ap (λ (o : Option Entry). unwrap_or (option_map (λ (e : Entry). value_given e.what) o) Opaque) (get_before trace more n lt)
 
   binding_grown : (b : Binding) → IsBefore (length trace) b.name.source → b.value < length trace → binding t program number grown b ≡ binding t program number trace b
   binding_grown b h lt = λ j. (bound_name t program (option_map (λ (x : Action). (x, [])) (action_grown b.name h j)), given_grown b.value lt j)

@@ -4,6 +4,7 @@ use Rattle.std.specs.Prelude.{codes}
 use Rattle.std.specs.List.{find, slice_get}
 use Rattle.std.specs.Option.{option_or}
 use Rattle.std.proofs.lemmas.Option.{slice_get-map}
+use Rattle.std.proofs.lemmas.List.Folds.{find-append}
 use Rattle.fp_base.specs.Same.{same_text}
 use Rattle.fp_base.specs.declared.value.Value.{Value, Opaque}
 use Rattle.fp_tables.specs.declared.machine.Named.{Named}
@@ -12,7 +13,6 @@ use Rattle.fp_events.specs.Follows.{with_value}
 use Rattle.fp_tables.specs.Lookup.{Described}
 use Rattle.fp_tables.specs.declared.program.Program.{Program}
 use Rattle.fp_actor.specs.Entries.{has_kind_at}
-use Rattle.fp_actor.proofs.Names.{find_either}
 
 abbrev pub looked : List ℕ → Bindings → Option Value
 looked name bs = option_map (λ (b : List ℕ × Value). b.1) (find (λ (b : List ℕ × Value). same_text b.0 name) bs)
@@ -56,7 +56,7 @@ or_of (Some x) b = refl
 
 looked_either : (name : List ℕ) (xs ys : Bindings) → looked name (xs ++ ys) ≡ option_or (looked name xs) (looked name ys)
 looked_either name xs ys =
-    ap (λ (o : Option (List ℕ × Value)). option_map (λ (b : List ℕ × Value). b.1) o) (find_either (λ (b : List ℕ × Value). same_text b.0 name) xs ys)
+    ap (λ (o : Option (List ℕ × Value)). option_map (λ (b : List ℕ × Value). b.1) o) (find-append (λ (b : List ℕ × Value). same_text b.0 name) xs ys)
     ∙ or_of (find (λ (b : List ℕ × Value). same_text b.0 name) xs) (find (λ (b : List ℕ × Value). same_text b.0 name) ys)
 
 pub found_made : (name : List ℕ) (xs ys : Bindings) (v : Value) → Some v ≡ looked name xs → v ≡ unwrap_or (looked name (xs ++ ys)) Opaque

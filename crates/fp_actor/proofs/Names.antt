@@ -1,7 +1,5 @@
 -- Names that are looked up among bindings.
-use Rattle.std.proofs.Common.{◌≡◌, ℕ, Bool, true, false, cond, eqb, IsTrue, ◌↔◌, List, [], ◌∷◌, ◌++◌, map, reverse, Some, refl, sym, ◌∙◌, subst, arith}
-use Rattle.std.specs.List.{find}
-use Rattle.std.specs.Option.{option_or}
+use Rattle.std.proofs.Common.{◌≡◌, ℕ, Bool, true, false, eqb, IsTrue, ◌↔◌, List, [], ◌∷◌, ◌++◌, map, reverse, refl, sym, ◌∙◌, subst, arith}
 use Rattle.std.proofs.lemmas.Bool.Decides.{nat_tests}
 use Rattle.std.proofs.lemmas.List.{reverse-append}
 use Rattle.fp_base.proofs.Bools.{both}
@@ -30,13 +28,6 @@ is_same_text r xs ys h = go r (same_text xs ys) refl refl
         let same : xs ≡ ys = h.0 e in
         let told : same_text xs ys ≡ true = subst (λ (zs : List ℕ). same_text xs zs ≡ true) same (same_self xs) in absurd (cc)
     go false true e f = let told : r ≡ true = h.1 (same_means xs ys f) in absurd (cc)
-
-module _ {A : Type 0} (p : A → Bool) where
-  pub find_either : (xs ys : List A) → find p (xs ++ ys) ≡ option_or (find p xs) (find p ys)
-  find_either [] ys = refl
-  find_either (x ∷ xs) ys =
-      let rest = find_either xs ys in
-      elim (p x) as (λ b. cond b (Some x) (find p (xs ++ ys)) ≡ option_or (cond b (Some x) (find p xs)) (find p ys)) [ true ↦ refl | false ↦ rest ]
 
 pub latest_first : {A B : Type 0} (f : A → B) (xs : List A) (x : A) → map f (reverse (xs ++ x ∷ [])) ≡ f x ∷ map f (reverse xs)
 latest_first f xs x = rw reverse-append refl

@@ -8,10 +8,6 @@ use Rattle.fp_actor.specs.Levels.{reached}
 abbrev actions_in : Option Doing → Option (List Action)
 actions_in o = option_map (λ (d : Doing). d.actions) o
 
-pub not_some : {A : Type 0} (o : Option A) → ((x : A) → o ≡ Some x → ⊥) → o ≡ None
-not_some None h = refl
-not_some (Some x) h = absurd (h x refl)
-
 pub mapped_none : {A B : Type 0} (f : A → B) (o : Option A) (p : Option B) → option_map f o ≡ p → o ≡ None → p ≡ None
 mapped_none f o p e n = sym e ∙ ap (option_map f) n
 

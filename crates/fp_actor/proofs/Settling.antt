@@ -2,21 +2,12 @@
 use Rattle.std.proofs.Common.{◌≡◌, ℕ, zero, suc, ◌+◌, ◌≤◌, ◌<◌, Bool, true, false, cond, eqb, List, [], ◌∷◌, ◌++◌, drop, Option, Some, None, option_map, unwrap_or, refl, sym, ap, ◌∙◌, subst, arith, add-one}
 use Rattle.std.specs.List.{slice_get}
 use Rattle.std.proofs.lemmas.Bool.Decides.{nat_tests}
+use Rattle.fp_base.proofs.Lists.{drop_next, drop_past}
+use Rattle.fp_base.proofs.Numbers.{number_itself}
 use Rattle.fp_events.specs.Actor.{Action, Bindings, Doing}
 use Rattle.fp_events.specs.Due.{first_action}
 use Rattle.fp_events.specs.Follows.{without_first}
 use Rattle.fp_actor.specs.Levels.{reached, begun}
-
-drop_there : {A : Type 0} (xs : List A) (a : ℕ) (x : A) → slice_get xs a ≡ Some x → drop a xs ≡ x ∷ drop (suc a) xs
-drop_there [] a x e = absurd (cc)
-drop_there (y ∷ ys) zero x e = let s : y ≡ x = cc in ap (λ z. z ∷ ys) s
-drop_there (y ∷ ys) (suc a) x e = drop_there ys a x e
-
-drop_past : {A : Type 0} (xs : List A) (a : ℕ) → slice_get xs a ≡ None → drop a xs ≡ []
-drop_past [] zero e = refl
-drop_past [] (suc a) e = refl
-drop_past (y ∷ ys) zero e = absurd (cc)
-drop_past (y ∷ ys) (suc a) e = drop_past ys a e
 
 there_of : {A : Type 0} (xs : List A) (k : ℕ) (y : A) (ys : List A) → drop k xs ≡ y ∷ ys → (slice_get xs k ≡ Some y) × (drop (suc k) xs ≡ ys)
 there_of [] zero y ys e = absurd (cc)
@@ -27,9 +18,6 @@ there_of (x ∷ xs) (suc k) y ys e = there_of xs k y ys e
 pub begun_nothing : (ds : List Doing) → begun 0 [] ds ≡ ds
 begun_nothing [] = refl
 begun_nothing (d ∷ ds) = refl
-
-is_it : (k : ℕ) → eqb k k ≡ true
-is_it k = grind (arith, nat_tests)
 
 is_other : (k m : ℕ) → k < m → eqb m k ≡ false
 is_other k m h = grind (arith, nat_tests)
@@ -83,15 +71,15 @@ module _ (lists old : List Doing) (m b : ℕ) (x : Action) where
   at_head : (d : Doing) (ds : List Doing) (k a : ℕ) (more : Bindings) (y : Action) → drop k lists ≡ d ∷ ds → slice_get d.actions a ≡ Some y →
       Settled lists old k more k a y (begun a more (d ∷ ds) ++ old)
   at_head d ds k a more y h e =
-      let opened = drop_there d.actions a y e in
+      let opened = drop_next d.actions a y e in
       record {
         d = d;
         there = (there_of lists k d ds h).0;
         action = e;
         first =
-            rw (is_it k) (ap (λ (l : List Action). first_action (record { actions = l; bound = more ++ d.bound } ∷ (ds ++ old))) opened);
+            rw (number_itself k) (ap (λ (l : List Action). first_action (record { actions = l; bound = more ++ d.bound } ∷ (ds ++ old))) opened);
         rest =
-            rw (is_it k, h, add-one)
+            rw (number_itself k, h, add-one)
             (ap (λ (l : List Action). without_first (record { actions = l; bound = more ++ d.bound } ∷ (ds ++ old))) opened);
       }
 

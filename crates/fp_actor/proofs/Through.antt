@@ -3,6 +3,7 @@ use Rattle.std.proofs.Common.{◌≡◌, ◌≢◌, ℕ, zero, suc, Bool, true, 
 use Rattle.std.specs.Prelude.{is_none}
 use Rattle.std.specs.List.{slice_get}
 use Rattle.std.specs.Option.{MatchOption}
+use Rattle.fp_base.proofs.Lists.{take_none}
 use Rattle.fp_tables.specs.Lookup.{Described}
 use Rattle.fp_tables.specs.declared.program.Program.{Program}
 use Rattle.fp_events.specs.declared.event.Entry.{Entry}
@@ -29,10 +30,6 @@ none_found None x P some h true is = ap is_none (sym h)
 none_found None x P some h false is = absurd (cc)
 none_found (Some a) x P some h true is = absurd (cc)
 none_found (Some a) x P some h false is = some_there x (some a h)
-
-none_taken : {A : Type 0} (xs : List A) → take 0 xs ≡ []
-none_taken [] = refl
-none_taken (x ∷ xs) = refl
 
 not_first : (n : ℕ) → suc n ≢ 0
 not_first n e = omega (arith, e)
@@ -76,7 +73,7 @@ module _ (t : Described) (program : Program) (number : ℕ) (trace : List Entry)
     at_level : (n : ℕ) → slice_get ls n ≡ Some b.level → of ls ≡ framed t program number trace b.level h.doing ∷ of (take n ls) → (eqb n 0 && own && done) ≡ is_through (of ls)
     at_level zero there is =
         let one : of ls ≡ framed t program number trace b.level h.doing ∷ [] =
-        is ∙ ap (λ (ms : List Level). framed t program number trace b.level h.doing ∷ of ms) (none_taken ls) in
+        is ∙ ap (λ (ms : List Level). framed t program number trace b.level h.doing ∷ of ms) (take_none ls) in
         ap₂ (λ (x : Bool) (y : Bool). x && y) own_is (done_is ∙ ap (λ (fs : List Frame). is_none (first_action (doing fs))) one) ∙ sym (ap is_through one)
     at_level (suc n) there is =
         let below = some_below n ls b.level there in

@@ -15,10 +15,6 @@ abbrev pub is_advance : Option (Action × Bindings) → Bool
 is_advance (Some (advance running signal v, bound)) = true
 is_advance _ = false
 
-abbrev pub is_assert : What → Bool
-is_assert (what.Asserted r) = true
-is_assert _ = false
-
 -- an entry that changes no frame
 abbrev pub IsStaying : What → Type 0
 IsStaying (what.Asserted r) = Unit {0}

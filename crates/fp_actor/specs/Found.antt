@@ -1,13 +1,12 @@
 -- What finds handlers by instance and place.
 use Rattle.std.specs.Prelude.{◌≡◌, ℕ, Bool, ◌&&◌, ◌==◌, List, [], find, position, option_map, unwrap_or}
-use Rattle.std.specs.Ordering.{nat_cmp, ordering_then}
-use Rattle.std.specs.declared.cmp.Ordering.{Ordering}
 use Rattle.std.specs.BTreeMap.{BTreeMap, get_by}
 use Rattle.fp_tables.specs.declared.program.Act.{Act}
 use Rattle.fp_tables.specs.declared.program.Handler.{Handler}
 use Rattle.fp_tables.specs.declared.program.Spot.{Spot}
 use Rattle.fp_tables.specs.declared.program.Spot.TheVariants as spot
 use Rattle.fp_tables.specs.SoundPrograms.{same_spot}
+use Rattle.fp_tables.specs.Found.{key_cmp, pair_cmp}
 
 abbrev pub is_at : ℕ → Spot → Handler → Bool
 is_at i place h = (h.instance == i) && same_spot h.place place
@@ -16,13 +15,6 @@ is_at i place h = (h.instance == i) && same_spot h.place place
 abbrev pub handler_in : List Handler → ℕ → Spot → List Act
 handler_in handlers i place = unwrap_or (option_map (λ (h : Handler). h.acts) (find (is_at i place) handlers)) []
 
--- keys in the order of their numbers
-abbrev pub pair_cmp : ℕ × ℕ → ℕ × ℕ → Ordering
-pair_cmp a b = ordering_then (nat_cmp a.0 b.0) (nat_cmp a.1 b.1)
-
-abbrev pub triple_cmp : ℕ × ℕ × ℕ → ℕ × ℕ × ℕ → Ordering
-triple_cmp a b = ordering_then (ordering_then (nat_cmp a.0 b.0) (nat_cmp a.1 b.1)) (nat_cmp a.2 b.2)
-
 abbrev pub FindsPorts : List Handler → BTreeMap (ℕ × ℕ) ℕ → Type 0
 FindsPorts handlers ports = (key : ℕ × ℕ) → get_by (pair_cmp key) ports ≡ position (is_at key.0 (spot.Port key.1)) handlers
 
@@ -30,7 +22,7 @@ abbrev pub FindsCommands : List Handler → BTreeMap (ℕ × ℕ) ℕ → Type 0
 FindsCommands handlers commands = (key : ℕ × ℕ) → get_by (pair_cmp key) commands ≡ position (is_at key.0 (spot.Command key.1)) handlers
 
 abbrev pub FindsActions : List Handler → BTreeMap (ℕ × ℕ × ℕ) ℕ → Type 0
-FindsActions handlers actions = (key : ℕ × ℕ × ℕ) → get_by (triple_cmp key) actions ≡ position (is_at key.0 (spot.Action key.1 key.2)) handlers
+FindsActions handlers actions = (key : ℕ × ℕ × ℕ) → get_by (key_cmp key) actions ≡ position (is_at key.0 (spot.Action key.1 key.2)) handlers
 
 abbrev pub FindsHookPorts : List Handler → BTreeMap (ℕ × ℕ) ℕ → Type 0
 FindsHookPorts handlers ports = (key : ℕ × ℕ) → get_by (pair_cmp key) ports ≡ position (is_at key.0 (spot.HookPort key.1)) handlers

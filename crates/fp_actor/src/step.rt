@@ -1,7 +1,8 @@
 ghost use Rattle.std.specs.Prelude.{◌≡◌, ℕ, List};
 ghost use Rattle.fp_base.specs.declared.value.Value.{Value};
 ghost use Rattle.fp_events.specs.declared.event.What.TheVariants as what;
-ghost use Rattle.fp_actor.specs.Awaited.{IsChange, IsStep, is_assert as is_assert_of};
+ghost use Rattle.fp_events.specs.Ends.{is_asserted};
+ghost use Rattle.fp_actor.specs.Awaited.{IsChange, IsStep};
 
 use fp_events::{Fate, What};
 
@@ -67,7 +68,7 @@ pub fn step_of(what: &What) -> Step
 }
 
 pub fn is_assert(what: &What) -> bool
-    ensures { result ≡ is_assert_of what.now }
+    ensures { result ≡ is_asserted what.now }
 {
     matches!(what, What::Asserted(_))
 }

@@ -1,8 +1,9 @@
 -- The least of a union, of two phases, and of what a test tells.
-use Rattle.std.proofs.Common.{◌≡◌, Bool, true, false, cond, MatchBool, Option, Some, None, refl, inl, inr, sym, subst}
+use Rattle.std.proofs.Common.{◌≡◌, ◌↔◌, Bool, true, false, cond, MatchBool, Option, Some, None, refl, inl, inr, sym, subst}
 use Rattle.fp_base.specs.declared.refusal.Refusal.{Refusal}
 use Rattle.fp_base.specs.Least.{NoLater, no_later}
 use Rattle.fp_base.specs.Least.{IsLeast, lesser_of, earlier_of, Either, Phased}
+use Rattle.fp_base.proofs.Bools.{not_both, told_true, told_false}
 use Rattle.fp_base.proofs.Ordering.{no_later_same, no_later_through, no_later_true, no_later_false}
 
 -- nothing is broken
@@ -65,13 +66,13 @@ least_only {P = P} g p only =
     }
 
 -- of one refusal under a flag that tells a fact
-flag_yes : (Q : Type 0) (b : Bool) → MatchBool b Q (Q → ⊥) → b ≡ true → Q
-flag_yes Q true h e = h
-flag_yes Q false h e = cc
-
-flag_no : (Q : Type 0) (b : Bool) → MatchBool b Q (Q → ⊥) → b ≡ false → Q → ⊥
-flag_no Q true h e = cc
-flag_no Q false h e = h
-
 pub least_flag : (Q : Type 0) (b : Bool) (f : Refusal) → MatchBool b Q (Q → ⊥) → IsLeast (λ g. (g ≡ f) × Q) (cond b (Some f) None)
-least_flag Q b f h = least_if b f (flag_yes Q b h) (flag_no Q b h)
+least_flag Q b f h = least_if b f (told_true b Q h) (told_false b Q h)
+
+-- of one refusal by a test
+pub least_told : (Q : Type 0) (b : Bool) (f : Refusal) (o : Option Refusal) → (b ≡ true) ↔ Q → o ≡ cond b (Some f) None → IsLeast (λ g. (g ≡ f) × Q) o
+least_told Q b f o h is = least_along (sym is) (least_if b f h.0 (λ e q. not_both (h.1 q) e))
+
+-- of two phases, where the earlier has one
+pub least_first : {P Q : Refusal → Type 0} (f : Refusal) → IsLeast P (Some f) → IsLeast (Phased P Q) (Some f)
+least_first f l = record { holds = λ g e. inl (l.holds g e); least = λ g. elim [ inl p ↦ l.least g p | inr q ↦ absurd (q.1 f (l.holds f refl)) ] }

@@ -1,9 +1,10 @@
 -- What a list has at an index, and what holds of each of its items.
-use Rattle.std.proofs.Common.{◌≡◌, ℕ, zero, suc, ◌+◌, ◌<◌, Bool, true, List, [], ◌∷◌, ◌++◌, length, map, flat_map, take, slice_get, Option, Some, None, refl, sym, ap, ◌∙◌, subst, arith}
+use Rattle.std.proofs.Common.{◌≡◌, ℕ, zero, suc, ◌+◌, ◌-◌, ◌<◌, ◌≤◌, Bool, true, List, [], ◌∷◌, ◌++◌, length, map, flat_map, take, drop, get_or, slice_get, slice_range, Option, Some, None, refl, sym, ap, ◌∙◌, subst, arith}
 use Rattle.std.specs.Prelude.{is_some, nat_lt}
 use Rattle.std.specs.List.{AllByRecursion, Contains, list_all, list_any, slice_index_or}
 use Rattle.std.proofs.lemmas.Bool.Decides.{nat_tests}
 use Rattle.std.proofs.lemmas.List.Elements.{All-contains, All-from_recursion, Contains-get_or, recursion_from_All}
+use Rattle.std.proofs.lemmas.List.{drop_all, take_more}
 use Rattle.std.proofs.lemmas.Option.{get_or_from_slice_get, slice_get_within}
 use Rattle.fp_base.proofs.Bools.{both}
 use Rattle.fp_base.proofs.Options.{same_some}
@@ -35,6 +36,69 @@ take_next xs k x h = let on : suc k ≡ k + 1 = omega arith in ap (λ n. take n 
     step [] k x h = absurd (cc)
     step (y ∷ xs) zero x h = ap (λ z. z ∷ []) (same_some h)
     step (y ∷ xs) (suc k) x h = ap (λ zs. y ∷ zs) (step xs k x h)
+
+pub taken_next : {A : Type 0} (xs : List A) (k : ℕ) (x : A) → k < length xs → x ≡ get_or xs k x → take (k + 1) xs ≡ take k xs ++ x ∷ []
+taken_next xs k x low is = take_more xs k x low ∙ ap (λ y. take k xs ++ y ∷ []) (sym is)
+
+pub take_none : {A : Type 0} (xs : List A) → take 0 xs ≡ []
+take_none [] = refl
+take_none (x ∷ xs) = refl
+
+pub front_of : {A : Type 0} (xs front : List A) (at : ℕ) → front ≡ slice_range xs 0 at → front ≡ take at xs
+front_of xs front at e = let same : at - 0 ≡ at = omega arith in e ∙ ap (λ (n : ℕ). take n (drop 0 xs)) same ∙ ap (take at) (none_dropped xs)
+  where
+    none_dropped : {A : Type 0} (ys : List A) → drop 0 ys ≡ ys
+    none_dropped [] = refl
+    none_dropped (y ∷ ys) = refl
+
+pub drop_next : {A : Type 0} (xs : List A) (k : ℕ) (x : A) → slice_get xs k ≡ Some x → drop k xs ≡ x ∷ drop (suc k) xs
+drop_next [] k x e = absurd (cc)
+drop_next (y ∷ xs) zero x e = ap (λ z. z ∷ xs) (same_some e)
+drop_next (y ∷ xs) (suc k) x e = drop_next xs k x e
+
+pub drop_here : {A : Type 0} (xs : List A) (k : ℕ) (x : A) → slice_get xs k ≡ Some x → drop k xs ≡ x ∷ drop (k + 1) xs
+drop_here xs k x e = let on : suc k ≡ k + 1 = omega arith in drop_next xs k x e ∙ ap (λ n. x ∷ drop n xs) on
+
+pub drop_past : {A : Type 0} (xs : List A) (k : ℕ) → slice_get xs k ≡ None → drop k xs ≡ []
+drop_past [] zero e = refl
+drop_past [] (suc k) e = refl
+drop_past (y ∷ ys) zero e = absurd (cc)
+drop_past (y ∷ ys) (suc k) e = drop_past ys k e
+
+pub drop_over : {A : Type 0} (xs : List A) (n : ℕ) → length xs ≤ n → drop n xs ≡ []
+drop_over xs n h = drop_all n xs h
+
+pub split_at : {A : Type 0} (xs : List A) (k : ℕ) (x : A) → slice_get xs k ≡ Some x → xs ≡ take k xs ++ x ∷ drop (suc k) xs
+split_at [] k x e = absurd (cc)
+split_at (y ∷ xs) zero x e = ap (λ z. z ∷ xs) (same_some e)
+split_at (y ∷ xs) (suc k) x e = ap (λ zs. y ∷ zs) (split_at xs k x e)
+
+pub get_before : {A : Type 0} (xs ys : List A) (k : ℕ) → k < length xs → slice_get (xs ++ ys) k ≡ slice_get xs k
+get_before [] ys k l = absurd (omega arith)
+get_before (x ∷ xs) ys zero l = refl
+get_before (x ∷ xs) ys (suc k) l = let low : k < length xs = omega arith in get_before xs ys k low
+
+-- what one list has, a list that is the same has
+pub get_along : {A : Type 0} {xs ys : List A} (k : ℕ) (x : A) → xs ≡ ys → slice_get xs k ≡ Some x → slice_get ys k ≡ Some x
+get_along {A = A} k x e h = subst (λ (l : List A). slice_get l k ≡ Some x) e h
+
+pub no_item : {A B : Type 0} (k : ℕ) (x : A) → slice_get [] k ≡ Some x → B
+no_item k x e = absurd (cc)
+
+pub one_item : {A : Type 0} {x y : A} (k : ℕ) → slice_get (x ∷ []) k ≡ Some y → x ≡ y
+one_item zero e = same_some e
+one_item (suc k) e = absurd (cc)
+
+pub no_items : {A : Type 0} (xs : List A) → length xs ≡ 0 → xs ≡ []
+no_items [] e = refl
+no_items (x ∷ xs) e = absurd (omega arith)
+
+pub same_items : {A : Type 0} (xs ys : List A) → length xs ≡ length ys → ((k : ℕ) (x y : A) → slice_get xs k ≡ Some x → slice_get ys k ≡ Some y → x ≡ y) → xs ≡ ys
+same_items [] [] e h = refl
+same_items [] (y ∷ ys) e h = absurd (omega (arith, e))
+same_items (x ∷ xs) [] e h = absurd (omega (arith, e))
+same_items {A = A} (x ∷ xs) (y ∷ ys) e h =
+    ap (λ (z : A). z ∷ xs) (h 0 x y refl refl) ∙ ap (λ (zs : List A). y ∷ zs) (same_items xs ys (omega (arith, e)) (λ k a b p q. h (suc k) a b p q))
 
 pub all_get : {A : Type 0} (p : A → Bool) (xs : List A) (k : ℕ) (x : A) → list_all p xs ≡ true → slice_get xs k ≡ Some x → p x ≡ true
 all_get p [] k x h e = absurd (cc)
@@ -90,3 +154,11 @@ module _ {A : Type 0} (P : A → Type 0) where
 pub each_weaker : {A : Type 0} (P Q : A → Type 0) → ((x : A) → P x → Q x) → (xs : List A) → AllByRecursion P xs → AllByRecursion Q xs
 each_weaker P Q to [] h = tt
 each_weaker P Q to (x ∷ xs) h = (to x h.0, each_weaker P Q to xs h.1)
+
+pub each_item : {A : Type 0} (P : A → Type 0) (xs : List A) → ((k : ℕ) (x : A) → slice_get xs k ≡ Some x → P x) → AllByRecursion P xs
+each_item P [] h = tt
+each_item P (x ∷ xs) h = (h 0 x refl, each_item P xs (λ k y e. h (suc k) y e))
+
+pub each_part : {A B : Type 0} (P : A → Type 0) (f : B → List A) (xs : List B) → AllByRecursion P (flat_map f xs) → AllByRecursion (λ (x : B). AllByRecursion P (f x)) xs
+each_part P f [] h = tt
+each_part P f (x ∷ xs) h = (each_before P (f x) (flat_map f xs) h, each_part P f xs (each_behind P (f x) (flat_map f xs) h))

@@ -3,6 +3,7 @@ use Rattle.std.proofs.Common.{◌≡◌, ℕ, ◌<◌, ◌≤◌, ◌⊎◌, Boo
 use Rattle.std.specs.Prelude.{nat_eq, nat_lt, nat_le}
 use Rattle.std.proofs.lemmas.Bool.Decides.{nat_tests}
 use Rattle.fp_base.specs.Rules.{row}
+use Rattle.fp_base.proofs.Numbers.{at_most}
 use Rattle.fp_base.specs.declared.refusal.Refusal.{Refusal}
 use Rattle.fp_base.specs.Least.{NoLater, no_later}
 
@@ -54,16 +55,13 @@ then_false m n b P told e = elim (equal_or_not m n) [
   | inr h ↦ let l : nat_lt m n ≡ false = rw h.1 at e in let d = h.0 in inl (grind (arith, nat_tests))
 ]
 
-rows_true : (m n : ℕ) → nat_le m n ≡ true → m ≤ n
-rows_true m n e = grind (arith, nat_tests)
-
 rows_false : (m n : ℕ) → nat_le m n ≡ false → n ≤ m
 rows_false m n e = grind (arith, nat_tests)
 
 pub no_later_true : (f g : Refusal) → no_later f g ≡ true → NoLater f g
 no_later_true f g =
     then_true f.place.file g.place.file _ _
-    (then_true f.place.line g.place.line _ _ (then_true f.place.column g.place.column _ _ (rows_true (row f.rule) (row g.rule))))
+    (then_true f.place.line g.place.line _ _ (then_true f.place.column g.place.column _ _ (at_most (row f.rule) (row g.rule))))
 
 pub no_later_false : (f g : Refusal) → no_later f g ≡ false → NoLater g f
 no_later_false f g =

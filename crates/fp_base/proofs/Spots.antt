@@ -1,5 +1,5 @@
 -- Elements of a list by their places, where one is replaced or added.
-use Rattle.std.proofs.Common.{◌≡◌, ◌≢◌, ℕ, zero, suc, ◌+◌, ◌<◌, ◌≤◌, ◌⊎◌, List, [], ◌∷◌, ◌++◌, length, set, Some, slice_get, refl, inl, inr, arith}
+use Rattle.std.proofs.Common.{◌≡◌, ◌≢◌, ℕ, zero, suc, ◌+◌, ◌<◌, ◌≤◌, ◌⊎◌, List, [], ◌∷◌, ◌++◌, length, set, Some, slice_get, refl, sym, inl, inr, arith}
 
 pub get_set_same : {A : Type 0} (xs : List A) (i : ℕ) (v : A) → i < length xs → slice_get (set xs i v) i ≡ Some v
 get_set_same [] i v h = absurd (omega arith)
@@ -36,3 +36,6 @@ get_push (z ∷ xs) x y (suc k) e = go (get_push xs x y k e)
 
 pub below_or_at : (k n : ℕ) → k < n + 1 → (k < n) ⊎ (k ≡ n)
 below_or_at k n h = grind arith
+
+pub push_cases : {A : Type 0} (xs : List A) (x : A) (k : ℕ) (y : A) → slice_get (xs ++ x ∷ []) k ≡ Some y → (slice_get xs k ≡ Some y) ⊎ ((k ≡ length xs) × (y ≡ x))
+push_cases xs x k y e = elim (get_push xs x y k e) [ inl h ↦ inl h | inr t ↦ inr (t.0, sym t.1) ]

@@ -7,11 +7,11 @@ use Rattle.fp_base.specs.declared.value.Value.TheViews.{Array, Struct}
 use Rattle.fp_base.specs.declared.value.Value.TheBlock as block
 use Rattle.fp_base.specs.declared.value.MemberValue.{MemberValue}
 
-abbrev items_of : Value → (n : Count) × Row_of-Value n
+abbrev pub items_of : Value → (n : Count) × Row_of-Value n
 items_of (Array' _ row) = (_, row)
 items_of _ = (_, end_of-Value)
 
-abbrev parts_of : Value → (n : Count) × block.Row_of-MemberValue n
+abbrev pub parts_of : Value → (n : Count) × block.Row_of-MemberValue n
 parts_of (Struct' _ row) = (_, row)
 parts_of _ = (_, block.end_of-MemberValue)
 

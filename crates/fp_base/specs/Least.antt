@@ -4,6 +4,8 @@ use Rattle.fp_base.specs.Rules.{row}
 use Rattle.fp_base.specs.declared.place.Place.{Place}
 use Rattle.fp_base.specs.declared.rule.Rule.{Rule}
 use Rattle.fp_base.specs.declared.refusal.Refusal.{Refusal}
+use Rattle.fp_base.specs.declared.refusal.Stop.{Stop}
+use Rattle.fp_base.specs.declared.refusal.Stop.TheVariants.{Broken, NoMemory}
 
 -- a rule that is broken at a place
 abbrev pub broken_at : Rule → Place → Refusal
@@ -78,3 +80,8 @@ InSome {A = A} P xs f = (k : ℕ) × (x : A) × (slice_get xs k ≡ Some x) × P
 -- nothing is broken
 abbrev pub IsUnbroken : (Refusal → Type 0) → Type 0
 IsUnbroken broken = (f : Refusal) → broken f → ⊥
+
+-- a stop names the least of what is broken; for want of memory it may come at any time
+abbrev pub IsStop : (Refusal → Type 0) → Stop → Type 0
+IsStop broken (Broken f) = IsLeast broken (Some f)
+IsStop broken NoMemory = Unit {0}

@@ -2,6 +2,8 @@ pub mod formers
 pub mod Formats
 pub mod Least
 pub mod Names
+pub mod NameSets
+pub mod Numbers
 pub mod Places
 pub mod Rendered
 pub mod Rules

@@ -3,7 +3,8 @@ use native.Mathlib.Numerals.{unary_clauses}
 use Rattle.std.proofs.lemmas.Bool.Decides.{nat_tests}
 use Rattle.std.proofs.lemmas.Option.{slice_get_read}
 use Rattle.std.specs.Option.{unwrap_or}
-use Rattle.std.proofs.Common.{◌≡◌, ℕ, zero, suc, ◌-◌, ◌≤◌, ◌<◌, nat_lt, get_or, Bool, true, false, List, [], ◌∷◌, length, Some, slice_get, refl, arith}
+use Rattle.std.proofs.Common.{◌≡◌, ℕ, zero, suc, ◌-◌, ◌≤◌, nat_lt, get_or, Bool, true, false, List, [], ◌∷◌, length, Some, slice_get, refl, arith}
+use Rattle.fp_base.proofs.Numbers.{is_below}
 use Rattle.fp_events.specs.Machine.{answer_at}
 
 pub within : (given : List Bool) (k : ℕ) (b : Bool) → slice_get given k ≡ Some b → b ≡ answer_at given k
@@ -19,11 +20,8 @@ past (x ∷ []) k h = refl
 past (x ∷ y ∷ rest) zero h = absurd (omega (arith, h))
 past (x ∷ y ∷ rest) (suc k) h = simp unary_clauses (simp unary_clauses at (past (y ∷ rest) k (omega (arith, h))))
 
-less : (a b : ℕ) → true ≡ nat_lt a b → a < b
-less a b e = grind (arith, nat_tests)
-
 pub not_less : (a b : ℕ) → false ≡ nat_lt a b → b ≤ a
 not_less a b e = grind (arith, nat_tests)
 
 pub within_read : (given : List Bool) (k : ℕ) (b : Bool) → true ≡ nat_lt k (length given) → b ≡ get_or given k b → b ≡ answer_at given k
-within_read given k b e h = within given k b (slice_get_read given (length given) k b refl (less k (length given) e) h)
+within_read given k b e h = within given k b (slice_get_read given (length given) k b refl (is_below k (length given) e) h)

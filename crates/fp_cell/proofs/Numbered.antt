@@ -1,9 +1,10 @@
 -- The numbers of pending calls rise, however calls are put and taken.
-use Rattle.std.proofs.Common.{◌≡◌, ℕ, ℤ, suc, ◌<◌, ◌≤◌, Bool, true, false, cond, ◌==◌, List, [], ◌∷◌, ◌++◌, map, Some, refl, sym, ap, arith, ⊎_elim, eq-eqb}
+use Rattle.std.proofs.Common.{◌≡◌, ℕ, ℤ, suc, ◌<◌, ◌≤◌, Bool, true, false, cond, ◌==◌, List, [], ◌∷◌, ◌++◌, map, Some, refl, sym, ap, arith, ⊎_elim}
 use Rattle.std.proofs.lemmas.Bool.Decides.{nat_tests}
 use Rattle.fp_events.specs.Instance.{Pending}
 use Rattle.std.specs.Ordering.{int_eq}
 use Rattle.std.proofs.lemmas.Bool.{cases_Bool}
+use Rattle.fp_base.proofs.Numbers.{number_same}
 use Rattle.fp_queue.specs.declared.pending.Pending.{Pending as Queued}
 use Rattle.fp_queue.specs.Taking.{first_of, without_first}
 use Rattle.fp_events.specs.Queue.{without}
@@ -40,9 +41,6 @@ here k low high (p ∷ ps) q n e = by (λ g. here k p.item.number high ps q n.2 
     by later true g = let same : p ≡ q = cc in record { above = rw (sym same) n.0; twice = rw (sym same) n.1 }
     by later false g = let h = later g in record { above = omega (arith, h.above, n.0); twice = h.twice }
 
-own : (a b : ℕ) → a ≡ b → (a == b) ≡ true
-own a b e = eq-eqb a b e
-
 apart : (a b : ℕ) → a < b → (a == b) ≡ false
 apart a b h = grind (arith, nat_tests)
 
@@ -55,7 +53,7 @@ without_number k low high (p ∷ ps) q n e = by (λ g. without_number k p.item.n
     by : (first_of k ps ≡ Some q → without q.item.number (map pending_of ps) ≡ map pending_of (without_first k ps)) →
         (b : Bool) → cond b (Some p) (first_of k ps) ≡ Some q →
         without q.item.number (map pending_of (p ∷ ps)) ≡ map pending_of (cond b ps (p ∷ without_first k ps))
-    by later true g = let same : p ≡ q = cc in rw (own p.item.number q.item.number (ap (λ (r : Queued Call). r.item.number) same)) refl
+    by later true g = let same : p ≡ q = cc in rw (number_same p.item.number q.item.number (ap (λ (r : Queued Call). r.item.number) same)) refl
     by later false g =
         let h = here k p.item.number high ps q n.2 g in
         rw (apart p.item.number q.item.number h.above) (ap (λ (qs : List Pending). pending_of p ∷ qs) (later g))

@@ -1,9 +1,11 @@
 -- What is read of lists, one after another.
-use Rattle.std.proofs.Common.{◌≡◌, ℕ, suc, ◌+◌, ◌≤◌, List, [], ◌∷◌, ◌++◌, length, map, flat_map, take, slice_get, Option, Some, None, refl, sym, ap, ◌∙◌, subst}
+use Rattle.std.proofs.Common.{◌≡◌, ℕ, ◌+◌, ◌≤◌, List, [], ◌∷◌, ◌++◌, length, map, flat_map, take, slice_get, Option, Some, None, sym, ap, ◌∙◌, subst}
 use Rattle.std.specs.List.{AllByRecursion}
 use Rattle.std.proofs.lemmas.List.{append-nil, take_all}
 use Rattle.std.proofs.lemmas.Grind.{flat_map-append}
+use Rattle.std.specs.Option.{option_to_list}
 use Rattle.fp_base.proofs.Lists.{each_before, each_behind, of_item, take_next}
+use Rattle.fp_base.proofs.Mapped.{flat_next}
 use Rattle.fp_base.specs.declared.value.Value.{Value}
 use Rattle.fp_tree.specs.declared.source.Source.{Source}
 use Rattle.fp_meaning.specs.declared.item.Item.{Item}
@@ -14,12 +16,8 @@ use Rattle.fp_type_forms.specs.Written.{AllAt}
 use Rattle.fp_type_forms.proofs.Adding.{parts_resolved}
 use Rattle.fp_type_forms.proofs.Only.{all_joined}
 use Rattle.fp_type_forms.proofs.Taking.{taken_as, taken_nothing, taken_then}
-use Rattle.fp_component_forms.specs.Taken.{AreRead, Gives, IsGiven, row_of}
+use Rattle.fp_component_forms.specs.Taken.{AreRead, Gives, IsGiven}
 use Rattle.fp_component_forms.specs.Written.{ItemNamesStand}
-
-flat_next : {A B : Type 0} (f : A → List B) (xs : List A) (k : ℕ) (x : A) → slice_get xs k ≡ Some x → flat_map f (take (k + 1) xs) ≡ flat_map f (take k xs) ++ f x
-flat_next f xs k x at =
-    ap (flat_map f) (take_next xs k x at) ∙ flat_map-append f (take k xs) (x ∷ []) ∙ ap (λ l. flat_map f (take k xs) ++ l) (append-nil (f x))
 
 -- what holds of all that a list gives holds of what each gives
 pub each_given : {A B : Type 0} (P : B → Type 0) (f : A → List B) (xs : List A) → AllByRecursion P (flat_map f xs) → AllByRecursion (λ x. AllByRecursion P (f x)) xs
@@ -29,11 +27,6 @@ each_given P f (x ∷ xs) h = (each_before P (f x) (flat_map f xs) h, each_given
 pub each_of_map : {A B : Type 0} (P : B → Type 0) (f : A → B) (xs : List A) → AllByRecursion P (map f xs) → AllByRecursion (λ x. P (f x)) xs
 each_of_map P f [] h = tt
 each_of_map P f (x ∷ xs) h = (h.0, each_of_map P f xs h.1)
-
--- what holds at each place holds of all
-pub each_there : {A : Type 0} (P : A → Type 0) (xs : List A) → ((k : ℕ) (x : A) → slice_get xs k ≡ Some x → P x) → AllByRecursion P xs
-each_there P [] h = tt
-each_there P (x ∷ xs) h = (h 0 x refl, each_there P xs (λ k. h (suc k)))
 
 -- ---- parts
 
@@ -98,14 +91,14 @@ module _ {A B : Type 0} (R : Source → A → B → Type 0) (these_of : Item →
     pub none_given : (ws : List B) → ws ≡ [] → GivesFirst R these_of P marks rs is 0 ws
     none_given ws e source ready read = subst (λ (l : List B). AllAt (λ position. R source) 0 [] l) (sym e) tt
 
-    pub next_given : (k : ℕ) (i : Item) (old new : List B) (one : Option B) → slice_get is k ≡ Some i → new ≡ old ++ row_of one → GivesFirst R these_of P marks rs is k old
+    pub next_given : (k : ℕ) (i : Item) (old new : List B) (one : Option B) → slice_get is k ≡ Some i → new ≡ old ++ option_to_list one → GivesFirst R these_of P marks rs is k old
         → IsGiven R these_of P marks rs (k + 1) i one → GivesFirst R these_of P marks rs is (k + 1) new
     next_given k i old new one at made before here source ready read =
         let named : ItemNamesStand source i =
         of_item (ItemNamesStand source) (layout.items source) k i read.named (ap (λ (l : List Item). slice_get l k) (sym read.laid) ∙ at) in
         subst (λ (l : List A). AllAt (λ position. R source) 0 l new) (sym (flat_next these_of is k i at))
         (subst (λ (l : List B). AllAt (λ position. R source) 0 (flat_map these_of (take k is) ++ these_of i) l) (sym made)
-        (all_joined (R source) 0 0 (flat_map these_of (take k is)) (these_of i) old (row_of one) (before source ready read)
+        (all_joined (R source) 0 0 (flat_map these_of (take k is)) (these_of i) old (option_to_list one) (before source ready read)
         (here source ready named (parts_resolved source marks rs is k i read.laid at read.resolved))))
 
     pub all_given : (k : ℕ) (ws : List B) → length is ≤ k → GivesFirst R these_of P marks rs is k ws → Gives R these_of P marks rs is ws

@@ -1,5 +1,6 @@
 -- What is read of the parts of definitions, where the type names in them name types.
-use Rattle.std.specs.Prelude.{◌≡◌, ℕ, List, [], ◌∷◌, flat_map, Option, Some, None}
+use Rattle.std.specs.Prelude.{◌≡◌, ℕ, List, flat_map, Option}
+use Rattle.std.specs.Option.{option_to_list}
 use Rattle.fp_base.specs.declared.value.Value.{Value}
 use Rattle.fp_tree.specs.declared.source.Source.{Source}
 use Rattle.fp_tree.specs.declared.type_name.TypeName.{TypeName}
@@ -30,10 +31,6 @@ use Rattle.fp_written_parts.specs.declared.dictionary.WrittenParam.{WrittenParam
 use Rattle.fp_written_parts.specs.declared.port.WrittenFormal.{WrittenFormal}
 use Rattle.fp_written_parts.specs.declared.member.WrittenMember.{WrittenMember}
 use Rattle.fp_component_forms.specs.Written.{AllHaveTypes, BothOrNeither, ChannelIs, CommandIs, ComponentIs, EventIs, FormalIs, FormalsAre, HasType, InternalIs, ItemNamesStand, MemberIs, MembersAre, ParamIs, PortDefIs, Scoped, TypeNameIs, TypeNamesStand, member_part, port_type_names}
-
-abbrev pub row_of : {A : Type 0} → Option A → List A
-row_of None = []
-row_of (Some x) = x ∷ []
 
 module _ (source : Source) (scope : Path) where
   -- the kind that a type name names, where it names one
@@ -86,7 +83,7 @@ pub record AreRead (source : Source) (marks : List (Option Value)) (rs : List Re
 -- what an item gives, whose parts are read from a place on
 abbrev pub IsGiven : {A B : Type 0} → (Source → A → B → Type 0) → (Item → List A) → (Source → Type 0) → List (Option Value) → List Resolution → ℕ → Item → Option B → Type 0
 IsGiven R these_of P marks rs start i one =
-    (source : Source) → P source → ItemNamesStand source i → AreResolved source marks rs (parts_of_item i) start → AllAt (λ position. R source) 0 (these_of i) (row_of one)
+    (source : Source) → P source → ItemNamesStand source i → AreResolved source marks rs (parts_of_item i) start → AllAt (λ position. R source) 0 (these_of i) (option_to_list one)
 
 -- what all items of a source give
 abbrev pub Gives : {A B : Type 0} → (Source → A → B → Type 0) → (Item → List A) → (Source → Type 0) → List (Option Value) → List Resolution → List Item → List B → Type 0

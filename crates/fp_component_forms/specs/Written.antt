@@ -130,27 +130,27 @@ abbrev pub component_in : Path → ModelDef → List (Scoped Component)
 component_in scope (component d) = scoped scope d ∷ []
 component_in scope _ = []
 
-abbrev pub port_of : Item → List (Scoped Port)
-port_of (item.Defined s) = port_in s.scope s.definition
-port_of _ = []
+abbrev pub port_declared : Item → List (Scoped Port)
+port_declared (item.Defined s) = port_in s.scope s.definition
+port_declared _ = []
 
-abbrev pub interface_of : Item → List (Scoped Interface)
-interface_of (item.Declared d) = interface_in d.scope d.definition
-interface_of _ = []
+abbrev pub interface_declared : Item → List (Scoped Interface)
+interface_declared (item.Declared d) = interface_in d.scope d.definition
+interface_declared _ = []
 
-abbrev pub component_of : Item → List (Scoped Component)
-component_of (item.Declared d) = component_in d.scope d.definition
-component_of _ = []
+abbrev pub component_declared : Item → List (Scoped Component)
+component_declared (item.Declared d) = component_in d.scope d.definition
+component_declared _ = []
 
 -- in source order: a port definition and an interface are named by their positions here
 abbrev pub port_definitions : Source → List (Scoped Port)
-port_definitions source = flat_map port_of (items source)
+port_definitions source = flat_map port_declared (items source)
 
 abbrev pub interfaces : Source → List (Scoped Interface)
-interfaces source = flat_map interface_of (items source)
+interfaces source = flat_map interface_declared (items source)
 
 abbrev pub components : Source → List (Scoped Component)
-components source = flat_map component_of (items source)
+components source = flat_map component_declared (items source)
 
 -- the name behind those of the modules round it, with a dot between each two
 abbrev pub qualified : Path → Name → List ℕ

@@ -1,10 +1,11 @@
 ghost use Rattle.std.specs.Prelude.{flat_map, IfOk};
+ghost use Rattle.std.specs.Option.{option_to_list};
 ghost use Rattle.fp_meaning.specs.Layout.{interface_part_items};
 ghost use Rattle.fp_meaning.specs.Names.{Path};
 ghost use Rattle.fp_tree.specs.declared.source.Source.{Source};
 ghost use Rattle.fp_type_forms.specs.Resolved.{Takes};
 ghost use Rattle.fp_component_forms.specs.Positions.{ArePositions};
-ghost use Rattle.fp_component_forms.specs.Taken.{MemberWhere, row_of};
+ghost use Rattle.fp_component_forms.specs.Taken.{MemberWhere};
 ghost use Rattle.fp_component_forms.specs.Written.{InterfaceMembersAre, part_of};
 
 use crate::adding::with_optional;
@@ -43,7 +44,7 @@ fn interface_member(
     marks: &[Option<Value>],
     next: &mut usize,
 ) -> Result<Option<WrittenMember>, NoMemory>
-    ensures { IfOk result (λ one. (source : Source) (scope : Path) → ArePositions source positions.now → Takes source marks.now resolutions.now (interface_part_items scope part.now) next.old next.new (MemberWhere source scope (part_of part.now) (row_of one))) }
+    ensures { IfOk result (λ one. (source : Source) (scope : Path) → ArePositions source positions.now → Takes source marks.now resolutions.now (interface_part_items scope part.now) next.old next.new (MemberWhere source scope (part_of part.now) (option_to_list one))) }
 {
     match part {
         InterfacePart::General(port) => {

@@ -1,10 +1,11 @@
 ghost use Rattle.std.specs.Prelude.{flat_map, IfOk};
+ghost use Rattle.std.specs.Option.{option_to_list};
 ghost use Rattle.fp_meaning.specs.Layout.{own_items};
 ghost use Rattle.fp_meaning.specs.Names.{Path};
 ghost use Rattle.fp_tree.specs.declared.source.Source.{Source};
 ghost use Rattle.fp_type_forms.specs.Resolved.{Takes};
 ghost use Rattle.fp_component_forms.specs.Positions.{ArePositions};
-ghost use Rattle.fp_component_forms.specs.Taken.{MemberWhere, MembersWhere, row_of};
+ghost use Rattle.fp_component_forms.specs.Taken.{MemberWhere, MembersWhere};
 
 use crate::adding::with_optional;
 use crate::positions::Positions;
@@ -46,7 +47,7 @@ fn member_taken(
     marks: &[Option<Value>],
     next: &mut usize,
 ) -> Result<Option<WrittenMember>, NoMemory>
-    ensures { IfOk result (λ one. (source : Source) (scope : Path) → ArePositions source positions.now → Takes source marks.now resolutions.now (own_items scope part.now) next.old next.new (MemberWhere source scope part.now (row_of one))) }
+    ensures { IfOk result (λ one. (source : Source) (scope : Path) → ArePositions source positions.now → Takes source marks.now resolutions.now (own_items scope part.now) next.old next.new (MemberWhere source scope part.now (option_to_list one))) }
 {
     match part {
         Part::Def(_) => Ok(None),

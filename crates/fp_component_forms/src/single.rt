@@ -1,4 +1,5 @@
 ghost use Rattle.std.specs.Prelude.{◌≡◌, List, Option, IfOk};
+ghost use Rattle.std.specs.Option.{option_to_list};
 ghost use Rattle.fp_base.specs.declared.value.Value.{Value as Data};
 ghost use Rattle.fp_meaning.specs.Layout.{channel_items, command_items, event_items, general_items, internal_items, param_items, running_items, use_items};
 ghost use Rattle.fp_meaning.specs.Names.{Path};
@@ -7,7 +8,7 @@ ghost use Rattle.fp_tree.specs.declared.component.Part.TheVariants as part;
 ghost use Rattle.fp_tree.specs.declared.source.Source.{Source};
 ghost use Rattle.fp_type_forms.specs.Resolved.{Takes};
 ghost use Rattle.fp_component_forms.specs.Positions.{ArePositions};
-ghost use Rattle.fp_component_forms.specs.Taken.{MemberWhere, row_of};
+ghost use Rattle.fp_component_forms.specs.Taken.{MemberWhere};
 ghost use Rattle.fp_component_forms.specs.Written.{RunningIs};
 ghost use Rattle.fp_written_parts.specs.declared.member.WrittenMember.TheVariants as member;
 
@@ -40,7 +41,7 @@ pub fn general_member(
     marks: &[Option<Value>],
     next: &mut usize,
 ) -> Result<Option<WrittenMember>, NoMemory>
-    ensures { IfOk result (λ one. (source : Source) (scope : Path) → ArePositions source positions.now → Takes source marks.now resolutions.now (general_items scope port.now) next.old next.new (MemberWhere source scope (part.General port.now) (row_of one))) }
+    ensures { IfOk result (λ one. (source : Source) (scope : Path) → ArePositions source positions.now → Takes source marks.now resolutions.now (general_items scope port.now) next.old next.new (MemberWhere source scope (part.General port.now) (option_to_list one))) }
 {
     let port = general_taken(alloc, port, positions, resolutions, marks, next)?;
     let member = port_member(alloc, port)?;
@@ -53,7 +54,7 @@ pub fn special_member(
     port: &Special,
     positions: &Positions,
 ) -> Result<Option<WrittenMember>, NoMemory>
-    ensures { IfOk result (λ one. (source : Source) (scope : Path) → ArePositions source positions.now → MemberWhere source scope (part.Special port.now) (row_of one)) }
+    ensures { IfOk result (λ one. (source : Source) (scope : Path) → ArePositions source positions.now → MemberWhere source scope (part.Special port.now) (option_to_list one)) }
 {
     let port = special_written(alloc, port, positions)?;
     let member = port_member(alloc, port)?;
@@ -68,7 +69,7 @@ pub fn internal_member(
     marks: &[Option<Value>],
     next: &mut usize,
 ) -> Result<Option<WrittenMember>, NoMemory>
-    ensures { IfOk result (λ one. (source : Source) (scope : Path) → Takes source marks.now resolutions.now (internal_items scope port.now) next.old next.new (MemberWhere source scope (part.Internal port.now) (row_of one))) }
+    ensures { IfOk result (λ one. (source : Source) (scope : Path) → Takes source marks.now resolutions.now (internal_items scope port.now) next.old next.new (MemberWhere source scope (part.Internal port.now) (option_to_list one))) }
 {
     let port = internal_taken(alloc, port, resolutions, marks, next)?;
     let member = port_member(alloc, port)?;
@@ -82,7 +83,7 @@ pub fn import_member(
     resolutions: &[Resolution],
     next: &mut usize,
 ) -> Result<Option<WrittenMember>, NoMemory>
-    ensures { IfOk result (λ one. (source : Source) (scope : Path) (marks : List (Option Data)) → ArePositions source positions.now → Takes source marks resolutions.now (use_items group.Interface scope import.now.of) next.old next.new (MemberWhere source scope (part.Import import.now) (row_of one))) }
+    ensures { IfOk result (λ one. (source : Source) (scope : Path) (marks : List (Option Data)) → ArePositions source positions.now → Takes source marks resolutions.now (use_items group.Interface scope import.now.of) next.old next.new (MemberWhere source scope (part.Import import.now) (option_to_list one))) }
 {
     let import = import_taken(import, positions, resolutions, next);
     Ok(Some(WrittenMember::Import(import)))
@@ -96,7 +97,7 @@ pub fn command_member(
     marks: &[Option<Value>],
     next: &mut usize,
 ) -> Result<Option<WrittenMember>, NoMemory>
-    ensures { IfOk result (λ one. (source : Source) (scope : Path) → Takes source marks.now resolutions.now (command_items scope command.now) next.old next.new (MemberWhere source scope (part.Command command.now) (row_of one))) }
+    ensures { IfOk result (λ one. (source : Source) (scope : Path) → Takes source marks.now resolutions.now (command_items scope command.now) next.old next.new (MemberWhere source scope (part.Command command.now) (option_to_list one))) }
 {
     let command = command_taken(alloc, command, resolutions, marks, next)?;
     let boxed = Boxed::new(alloc, command)?;
@@ -111,7 +112,7 @@ pub fn event_member(
     marks: &[Option<Value>],
     next: &mut usize,
 ) -> Result<Option<WrittenMember>, NoMemory>
-    ensures { IfOk result (λ one. (source : Source) (scope : Path) → Takes source marks.now resolutions.now (event_items scope event.now) next.old next.new (MemberWhere source scope (part.Event event.now) (row_of one))) }
+    ensures { IfOk result (λ one. (source : Source) (scope : Path) → Takes source marks.now resolutions.now (event_items scope event.now) next.old next.new (MemberWhere source scope (part.Event event.now) (option_to_list one))) }
 {
     let event = event_taken(alloc, event, resolutions, marks, next)?;
     let boxed = Boxed::new(alloc, event)?;
@@ -126,7 +127,7 @@ pub fn channel_member(
     marks: &[Option<Value>],
     next: &mut usize,
 ) -> Result<Option<WrittenMember>, NoMemory>
-    ensures { IfOk result (λ one. (source : Source) (scope : Path) → Takes source marks.now resolutions.now (channel_items scope channel.now) next.old next.new (MemberWhere source scope (part.Channel channel.now) (row_of one))) }
+    ensures { IfOk result (λ one. (source : Source) (scope : Path) → Takes source marks.now resolutions.now (channel_items scope channel.now) next.old next.new (MemberWhere source scope (part.Channel channel.now) (option_to_list one))) }
 {
     let channel = channel_taken(alloc, channel, resolutions, marks, next)?;
     let boxed = Boxed::new(alloc, channel)?;
@@ -141,7 +142,7 @@ pub fn param_member(
     marks: &[Option<Value>],
     next: &mut usize,
 ) -> Result<Option<WrittenMember>, NoMemory>
-    ensures { IfOk result (λ one. (source : Source) (scope : Path) → Takes source marks.now resolutions.now (param_items scope param.now) next.old next.new (MemberWhere source scope (part.Param param.now) (row_of one))) }
+    ensures { IfOk result (λ one. (source : Source) (scope : Path) → Takes source marks.now resolutions.now (param_items scope param.now) next.old next.new (MemberWhere source scope (part.Param param.now) (option_to_list one))) }
 {
     let param = param_taken(alloc, param, resolutions, marks, next)?;
     let boxed = Boxed::new(alloc, param)?;
@@ -150,7 +151,7 @@ pub fn param_member(
 
 /// What a match of ports gives.
 pub fn match_member(alloc: Global, ports: &Match) -> Result<Option<WrittenMember>, NoMemory>
-    ensures { IfOk result (λ one. (source : Source) (scope : Path) → MemberWhere source scope (part.Match ports.now) (row_of one)) }
+    ensures { IfOk result (λ one. (source : Source) (scope : Path) → MemberWhere source scope (part.Match ports.now) (option_to_list one)) }
 {
     let first = ports.first.text.copy(alloc)?;
     let second = ports.second.text.copy(alloc)?;
@@ -168,7 +169,7 @@ pub fn running_member(
     marks: &[Option<Value>],
     next: &mut usize,
 ) -> Result<Option<WrittenMember>, NoMemory>
-    ensures { IfOk result (λ one. (source : Source) (scope : Path) → ArePositions source positions.now → Takes source marks.now resolutions.now (running_items scope running.now) next.old next.new (MemberWhere source scope (part.Running running.now) (row_of one))) }
+    ensures { IfOk result (λ one. (source : Source) (scope : Path) → ArePositions source positions.now → Takes source marks.now resolutions.now (running_items scope running.now) next.old next.new (MemberWhere source scope (part.Running running.now) (option_to_list one))) }
 {
     let running = running_taken(alloc, running, positions, resolutions, marks, next)?;
     let boxed = Boxed::new(alloc, running)?;

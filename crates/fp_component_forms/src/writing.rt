@@ -1,11 +1,12 @@
 ghost use Rattle.std.specs.Prelude.{◌≡◌, IfOk};
+ghost use Rattle.std.specs.Option.{option_to_list};
 ghost use Rattle.fp_meaning.specs.Layout.{items as laid_out, model_own_items, part_items};
 ghost use Rattle.fp_tree.specs.declared.source.Source.{Source as Files};
 ghost use Rattle.fp_type_forms.specs.Resolved.{AreResolved};
 ghost use Rattle.fp_type_forms.specs.Written.{AllAt};
 ghost use Rattle.fp_component_forms.specs.Positions.{ArePositions};
-ghost use Rattle.fp_component_forms.specs.Taken.{Gives, IsGiven, row_of};
-ghost use Rattle.fp_component_forms.specs.Written.{ComponentIs, DefNamesStand, InterfaceIs, IsWrittenSource, ModelNamesStand, PortDefIs, TypeNamesStand, component_in, component_of, interface_in, interface_of, port_in, port_of};
+ghost use Rattle.fp_component_forms.specs.Taken.{Gives, IsGiven};
+ghost use Rattle.fp_component_forms.specs.Written.{ComponentIs, DefNamesStand, InterfaceIs, IsWrittenSource, ModelNamesStand, PortDefIs, TypeNamesStand, component_in, component_declared, interface_in, interface_declared, port_in, port_declared};
 
 use crate::adding::with_optional;
 use crate::positions::{Positions, positions_in};
@@ -51,7 +52,7 @@ fn definitions_in(
     resolutions: &[Resolution],
     marks: &[Option<Value>],
 ) -> Result<Row<WrittenPortDef>, NoMemory>
-    ensures { IfOk result (Gives PortDefIs port_of (λ source. Unit {0}) marks.now resolutions.now items.now) }
+    ensures { IfOk result (Gives PortDefIs port_declared (λ source. Unit {0}) marks.now resolutions.now items.now) }
 {
     let mut written = Row::new(alloc);
     for (index, item) in items.iter().enumerate() {
@@ -69,12 +70,12 @@ fn definition_of(
     marks: &[Option<Value>],
     start: usize,
 ) -> Result<Option<WrittenPortDef>, NoMemory>
-    ensures { IfOk result (IsGiven PortDefIs port_of (λ source. Unit {0}) marks.now resolutions.now start item.now) }
+    ensures { IfOk result (IsGiven PortDefIs port_declared (λ source. Unit {0}) marks.now resolutions.now start item.now) }
 {
     match item {
         Item::Defined(sited) => {
             let scope = sited.scope();
-            port_among(alloc, scope, sited.definition(), resolutions, marks, start)
+            port_in(alloc, scope, sited.definition(), resolutions, marks, start)
         }
         Item::Enumerated(_) => Ok(None),
         Item::Declared(_) => Ok(None),
@@ -83,7 +84,7 @@ fn definition_of(
     }
 }
 
-fn port_among(
+fn port_in(
     alloc: Global,
     scope: &Row<Text>,
     definition: &Def,
@@ -91,7 +92,7 @@ fn port_among(
     marks: &[Option<Value>],
     start: usize,
 ) -> Result<Option<WrittenPortDef>, NoMemory>
-    ensures { IfOk result (λ one. (source : Files) → DefNamesStand source scope.now definition.now → AreResolved source marks.now resolutions.now (part_items scope.now definition.now) start → AllAt (λ position. PortDefIs source) 0 (port_in scope.now definition.now) (row_of one)) }
+    ensures { IfOk result (λ one. (source : Files) → DefNamesStand source scope.now definition.now → AreResolved source marks.now resolutions.now (part_items scope.now definition.now) start → AllAt (λ position. PortDefIs source) 0 (port_in scope.now definition.now) (option_to_list one)) }
 {
     match definition {
         Def::Constant(_) => Ok(None),
@@ -114,18 +115,18 @@ fn interfaces_in(
     resolutions: &[Resolution],
     marks: &[Option<Value>],
 ) -> Result<Row<WrittenInterface>, NoMemory>
-    ensures { IfOk result (Gives InterfaceIs interface_of (λ source. ArePositions source positions.now) marks.now resolutions.now items.now) }
+    ensures { IfOk result (Gives InterfaceIs interface_declared (λ source. ArePositions source positions.now) marks.now resolutions.now items.now) }
 {
     let mut written = Row::new(alloc);
     for (index, item) in items.iter().enumerate() {
-        let one = interface_of(alloc, item, positions, resolutions, marks, index + 1)?;
+        let one = interface_declared(alloc, item, positions, resolutions, marks, index + 1)?;
         written = with_optional(written, one)?;
     }
     Ok(written)
 }
 
 /// What is written of an item, where it is an interface; what its parts are resolved to begins at `start`.
-fn interface_of(
+fn interface_declared(
     alloc: Global,
     item: &Item,
     positions: &Positions,
@@ -133,20 +134,20 @@ fn interface_of(
     marks: &[Option<Value>],
     start: usize,
 ) -> Result<Option<WrittenInterface>, NoMemory>
-    ensures { IfOk result (IsGiven InterfaceIs interface_of (λ source. ArePositions source positions.now) marks.now resolutions.now start item.now) }
+    ensures { IfOk result (IsGiven InterfaceIs interface_declared (λ source. ArePositions source positions.now) marks.now resolutions.now start item.now) }
 {
     match item {
         Item::Defined(_) => Ok(None),
         Item::Enumerated(_) => Ok(None),
         Item::Declared(declared) => {
-            interface_among(alloc, declared, positions, resolutions, marks, start)
+            interface_in(alloc, declared, positions, resolutions, marks, start)
         }
         Item::Used { .. } => Ok(None),
         Item::Written { .. } => Ok(None),
     }
 }
 
-fn interface_among(
+fn interface_in(
     alloc: Global,
     declared: &Declared,
     positions: &Positions,
@@ -154,7 +155,7 @@ fn interface_among(
     marks: &[Option<Value>],
     start: usize,
 ) -> Result<Option<WrittenInterface>, NoMemory>
-    ensures { IfOk result (λ one. (source : Files) → ArePositions source positions.now → AreResolved source marks.now resolutions.now (model_own_items declared.now.scope declared.now.definition) start → AllAt (λ position. InterfaceIs source) 0 (interface_in declared.now.scope declared.now.definition) (row_of one)) }
+    ensures { IfOk result (λ one. (source : Files) → ArePositions source positions.now → AreResolved source marks.now resolutions.now (model_own_items declared.now.scope declared.now.definition) start → AllAt (λ position. InterfaceIs source) 0 (interface_in declared.now.scope declared.now.definition) (option_to_list one)) }
 {
     match declared.definition() {
         ModelDef::Machine(_) => Ok(None),
@@ -175,18 +176,18 @@ fn components_in(
     resolutions: &[Resolution],
     marks: &[Option<Value>],
 ) -> Result<Row<WrittenComponent>, NoMemory>
-    ensures { IfOk result (Gives ComponentIs component_of (λ source. ArePositions source positions.now) marks.now resolutions.now items.now) }
+    ensures { IfOk result (Gives ComponentIs component_declared (λ source. ArePositions source positions.now) marks.now resolutions.now items.now) }
 {
     let mut written = Row::new(alloc);
     for (index, item) in items.iter().enumerate() {
-        let one = component_of(alloc, item, positions, resolutions, marks, index + 1)?;
+        let one = component_declared(alloc, item, positions, resolutions, marks, index + 1)?;
         written = with_optional(written, one)?;
     }
     Ok(written)
 }
 
 /// What is written of an item, where it is a component; what its parts are resolved to begins at `start`.
-fn component_of(
+fn component_declared(
     alloc: Global,
     item: &Item,
     positions: &Positions,
@@ -194,20 +195,20 @@ fn component_of(
     marks: &[Option<Value>],
     start: usize,
 ) -> Result<Option<WrittenComponent>, NoMemory>
-    ensures { IfOk result (IsGiven ComponentIs component_of (λ source. ArePositions source positions.now) marks.now resolutions.now start item.now) }
+    ensures { IfOk result (IsGiven ComponentIs component_declared (λ source. ArePositions source positions.now) marks.now resolutions.now start item.now) }
 {
     match item {
         Item::Defined(_) => Ok(None),
         Item::Enumerated(_) => Ok(None),
         Item::Declared(declared) => {
-            component_among(alloc, declared, positions, resolutions, marks, start)
+            component_in(alloc, declared, positions, resolutions, marks, start)
         }
         Item::Used { .. } => Ok(None),
         Item::Written { .. } => Ok(None),
     }
 }
 
-fn component_among(
+fn component_in(
     alloc: Global,
     declared: &Declared,
     positions: &Positions,
@@ -215,7 +216,7 @@ fn component_among(
     marks: &[Option<Value>],
     start: usize,
 ) -> Result<Option<WrittenComponent>, NoMemory>
-    ensures { IfOk result (λ one. (source : Files) → ArePositions source positions.now → ModelNamesStand source declared.now.scope declared.now.definition → AreResolved source marks.now resolutions.now (model_own_items declared.now.scope declared.now.definition) start → AllAt (λ position. ComponentIs source) 0 (component_in declared.now.scope declared.now.definition) (row_of one)) }
+    ensures { IfOk result (λ one. (source : Files) → ArePositions source positions.now → ModelNamesStand source declared.now.scope declared.now.definition → AreResolved source marks.now resolutions.now (model_own_items declared.now.scope declared.now.definition) start → AllAt (λ position. ComponentIs source) 0 (component_in declared.now.scope declared.now.definition) (option_to_list one)) }
 {
     match declared.definition() {
         ModelDef::Machine(_) => Ok(None),

@@ -3,9 +3,9 @@ use Rattle.std.proofs.Common.{◌≡◌, ◌↔◌, ◌∙◌, ◌⊎◌, inl, i
 use Rattle.fp_base.specs.declared.refusal.Refusal.{Refusal}
 use Rattle.fp_base.specs.declared.rule.Rule.TheVariants.{PortNameRepeated, SpecialPort}
 use Rattle.fp_base.specs.Least.{InFirst, IsLeast, lesser_of}
-use Rattle.fp_base.proofs.Bools.{or_cases, or_left, or_right}
+use Rattle.fp_base.proofs.Bools.{or_cases, or_left, or_right, not_both}
 use Rattle.fp_base.proofs.Calculus.{least_along, least_either}
-use Rattle.fp_base.proofs.Elements.{least_first_none}
+use Rattle.fp_base.proofs.Elements.{least_first_none, least_next}
 use Rattle.fp_base.proofs.Options.{one_some}
 use Rattle.fp_base.proofs.Spots.{below_or_at}
 use Rattle.fp_tables.specs.declared.component.Special.{Special}
@@ -21,7 +21,7 @@ use Rattle.fp_component_rules.specs.declared.interface_kinds.SpecialKinds.{Speci
 use Rattle.fp_component_rules.proofs.GatheringLaws.{kind_gift, named_gift, one_given}
 use Rattle.fp_component_rules.specs.Broken.{AreOfOneKind, GivenBefore, GivesAgain, HaveOneName, RepeatsAt, giver_at}
 use Rattle.fp_component_rules.specs.Tested.{any_seen, clash_fault, have_common}
-use Rattle.fp_component_rules.proofs.Folding.{least_next, least_placed, not_both}
+use Rattle.fp_component_rules.proofs.Folding.{least_placed}
 use Rattle.fp_component_rules.proofs.Meeting.{common_told}
 use Rattle.fp_component_rules.proofs.Passing.{seen_told}
 

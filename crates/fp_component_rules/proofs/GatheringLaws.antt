@@ -1,11 +1,11 @@
 -- What the gift of members says of what they give.
-use Rattle.std.proofs.Common.{◌≡◌, ◌↔◌, ◌∙◌, ◌⊎◌, inl, inr, ℕ, zero, suc, Bool, true, false, List, [], ◌∷◌, slice_get, Some, refl, sym, ap, subst}
+use Rattle.std.proofs.Common.{◌≡◌, ◌↔◌, ◌∙◌, ℕ, zero, suc, Bool, true, false, List, [], ◌∷◌, slice_get, Some, refl, sym, ap, subst}
 use Rattle.std.specs.List.{find, list_any}
-use Rattle.fp_base.proofs.Bools.{or_cases, or_left, or_right}
 use Rattle.fp_base.proofs.Options.{same_some}
-use Rattle.fp_tables.specs.Components.{same_special}
+use Rattle.fp_base.proofs.Passing.{any_at, any_found}
+use Rattle.fp_base.proofs.Bytes.{same_bytes, bytes_same}
 use Rattle.fp_tables.specs.declared.component.Special.{Special}
-use Rattle.fp_tables.specs.declared.component.Special.TheVariants.{CmdRecv, CmdReg, CmdResp, Event as Log, TextEvent, Tlm, Time, PrmGet, PrmSet}
+use Rattle.fp_tables.proofs.SpecialPorts.{special_itself, one_special}
 use Rattle.fp_written_parts.specs.declared.port.WrittenPort.{WrittenPort}
 use Rattle.fp_written_parts.specs.declared.port.WrittenRole.{WrittenRole}
 use Rattle.fp_written_parts.specs.declared.port.WrittenRole.TheVariants as role
@@ -17,54 +17,15 @@ use Rattle.fp_component_rules.specs.Firsts.{AreApart, has_kind, has_port, is_asy
 use Rattle.fp_component_rules.specs.Gifts.{GivenAmong, IsGift}
 use Rattle.fp_component_rules.specs.Lists.{IsGivenApart}
 use Rattle.fp_component_rules.proofs.Listed.{given_in, in_given, one_list}
-use Rattle.fp_component_rules.proofs.Named.{bytes_same, differ_apart, each_differ, found_each, has_each, same_bytes, whole}
-
--- ---- some item passes a test
-
-any_at : {A : Type 0} (f : A → Bool) (xs : List A) (k : ℕ) (x : A) → slice_get xs k ≡ Some x → f x ≡ true → list_any f xs ≡ true
-any_at f [] k x e h = absurd (cc)
-any_at f (y ∷ xs) zero x e h = or_left (f y) (list_any f xs) (ap f (same_some e) ∙ h)
-any_at f (y ∷ xs) (suc k) x e h = or_right (f y) (list_any f xs) (any_at f xs k x e h)
-
-at_any : {A : Type 0} (f : A → Bool) (xs : List A) → list_any f xs ≡ true → (k : ℕ) × (x : A) × (slice_get xs k ≡ Some x) × (f x ≡ true)
-at_any f [] h = absurd (cc)
-at_any f (y ∷ xs) h = go (or_cases (f y) (list_any f xs) h) (at_any f xs)
-  where
-    go : (f y ≡ true) ⊎ (list_any f xs ≡ true) → (list_any f xs ≡ true → (k : ℕ) × (x : _) × (slice_get xs k ≡ Some x) × (f x ≡ true))
-        → (k : ℕ) × (x : _) × (slice_get (y ∷ xs) k ≡ Some x) × (f x ≡ true)
-    go (inl e) rest = (zero, y, refl, e)
-    go (inr e) rest = let t = rest e in (suc t.0, t.1, t.2, t.3)
+use Rattle.fp_component_rules.proofs.Named.{differ_apart, each_differ, found_each, has_each, whole}
 
 -- ---- kinds
 
 no_truth : {P : Type 0} → false ≡ true → P
 no_truth e = absurd (cc)
 
-special_same : (s t : Special) → same_special s t ≡ true → t ≡ s
-special_same CmdRecv CmdRecv h = refl
-special_same CmdReg CmdReg h = refl
-special_same CmdResp CmdResp h = refl
-special_same Log Log h = refl
-special_same TextEvent TextEvent h = refl
-special_same Tlm Tlm h = refl
-special_same Time Time h = refl
-special_same PrmGet PrmGet h = refl
-special_same PrmSet PrmSet h = refl
-special_same _ _ h = no_truth h
-
-same_itself : (s : Special) → same_special s s ≡ true
-same_itself CmdRecv = refl
-same_itself CmdReg = refl
-same_itself CmdResp = refl
-same_itself Log = refl
-same_itself TextEvent = refl
-same_itself Tlm = refl
-same_itself Time = refl
-same_itself PrmGet = refl
-same_itself PrmSet = refl
-
 pub kind_is : (s : Special) (r : WrittenRole) → is_of_kind s r ≡ true → r ≡ role.Special s
-kind_is s (role.Special t) h = ap role.Special (special_same s t h)
+kind_is s (role.Special t) h = ap role.Special (sym (one_special s t h))
 kind_is s role.AsyncInput h = no_truth h
 kind_is s role.SyncInput h = no_truth h
 kind_is s role.GuardedInput h = no_truth h
@@ -72,13 +33,13 @@ kind_is s role.Output h = no_truth h
 kind_is s role.Internal h = no_truth h
 
 pub is_kind : (s : Special) (r : WrittenRole) → r ≡ role.Special s → is_of_kind s r ≡ true
-is_kind s r e = ap (is_of_kind s) e ∙ same_itself s
+is_kind s r e = ap (is_of_kind s) e ∙ special_itself s
 
 -- ---- gifts
 
 module _ (fs : List WrittenInterface) (ms : List WrittenMember) (gift : Gift) (h : IsGift fs ms gift) where
   any_given : (f : WrittenPort → Bool) → list_any f h.all ≡ true → (p : WrittenPort) × GivenAmong fs ms p × (f p ≡ true)
-  any_given f e = let t = at_any f h.all e in (t.1, in_given fs h.given t.0 t.1 t.2, t.3)
+  any_given f e = let t = any_found f h.all e in (t.1, in_given fs h.given t.0 t.1 t.2, t.3)
 
   given_any : (f : WrittenPort → Bool) (p : WrittenPort) → GivenAmong fs ms p → f p ≡ true → list_any f h.all ≡ true
   given_any f p g e = let t = given_in fs h.given p g in any_at f h.all t.0 p t.1 e

@@ -1,7 +1,8 @@
 -- Special ports that members need and aren't given.
 use Rattle.std.proofs.Common.{◌≡◌, ◌↔◌, ◌∙◌, Bool, true, false, not, List, refl, sym}
 use Rattle.std.specs.List.{list_any}
-use Rattle.fp_base.proofs.Bools.{not_true}
+use Rattle.fp_base.proofs.Bools.{not_true, not_both}
+use Rattle.fp_base.proofs.Passing.{any_at, any_found}
 use Rattle.fp_tables.specs.declared.component.Special.{Special}
 use Rattle.fp_written_parts.specs.declared.port.WrittenPort.{WrittenPort}
 use Rattle.fp_written_parts.specs.declared.port.WrittenRole.TheVariants as role
@@ -14,9 +15,7 @@ use Rattle.fp_component_rules.specs.declared.interface_kinds.SpecialKinds.{Speci
 use Rattle.fp_component_rules.proofs.GatheringLaws.{kind_gift}
 use Rattle.fp_component_rules.specs.Broken.{IsMissing, needs}
 use Rattle.fp_component_rules.specs.Tested.{have_common}
-use Rattle.fp_component_rules.proofs.Folding.{not_both}
 use Rattle.fp_component_rules.proofs.Meeting.{common_told}
-use Rattle.fp_component_rules.proofs.Passing.{any_at, at_any}
 
 module _ (fs : List WrittenInterface) (ms : List WrittenMember) (gift : Gift) (h : IsGift fs ms gift) (needed others : SpecialKinds) where
   pub missing_told : ((s : Special) → has_kind needed s ≡ list_any (needs s) ms) → ((s : Special) → has_kind others s ≡ not (has_kind gift.kinds s))
@@ -26,7 +25,7 @@ module _ (fs : List WrittenInterface) (ms : List WrittenMember) (gift : Gift) (h
       to : have_common needed others ≡ true → IsMissing fs ms
       to e =
           let t = (common_told needed others).0 e in
-          let n = at_any (needs t.0) ms (sym (all t.0) ∙ t.1) in
+          let n = any_found (needs t.0) ms (sym (all t.0) ∙ t.1) in
           record {
             k = n.0;
             member = n.1;

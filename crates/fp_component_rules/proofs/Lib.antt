@@ -1,4 +1,3 @@
-mod Adding
 mod Apart
 mod Clashing
 mod Flags
@@ -17,7 +16,6 @@ mod Once
 mod Ordered
 mod Pairing
 mod Passing
-mod PortFolding
 mod PortNaming
 mod Sorting
 mod Summed

@@ -10,9 +10,13 @@ use Rattle.fp_base.proofs.Calculus.{least_same}
 use Rattle.fp_base.proofs.Lists.{get_front}
 use Rattle.fp_base.proofs.Options.{one_some, same_some}
 use Rattle.fp_base.proofs.Spots.{item_below}
+use Rattle.fp_base.proofs.Mapped.{map_get, get_mapped, many_mapped}
+use Rattle.fp_base.proofs.Numbers.{numbers_at, numbers_get}
+use Rattle.fp_base.specs.Numbers.{numbers_from}
 use Rattle.fp_graph.specs.Chains.{AreFlags, IsOnCycle, LeadsThrough, one, more}
 use Rattle.fp_graph.specs.Rows.{IsListed}
 use Rattle.fp_graph.proofs.Places.{get_drop, get_joined, get_right}
+use Rattle.fp_graph.proofs.Leading.{leads_join}
 use Rattle.fp_written_parts.specs.declared.port.WrittenImport.{WrittenImport}
 use Rattle.fp_written_parts.specs.declared.member.WrittenInterface.{WrittenInterface}
 use Rattle.fp_written_parts.specs.declared.member.WrittenMember.{WrittenMember}
@@ -22,8 +26,8 @@ use Rattle.fp_component_rules.specs.declared.links.Link.{Link}
 use Rattle.fp_component_rules.specs.Cycles.{IsCycleBroken, Reaches}
 use Rattle.fp_component_rules.specs.Flagged.{FlaggedLink}
 use Rattle.fp_component_rules.specs.Gifts.{AreWithin}
-use Rattle.fp_component_rules.specs.Links.{link_by, links_from, links_in, numbers_from, rows_from, targets_of}
-use Rattle.fp_component_rules.proofs.Sorting.{from_filtered, get_mapped, many_mapped, map_get, to_filtered}
+use Rattle.fp_component_rules.specs.Links.{link_by, links_from, links_in, rows_from, targets_of}
+use Rattle.fp_component_rules.proofs.Sorting.{from_filtered, to_filtered}
 
 -- ---- links are imports
 
@@ -89,16 +93,6 @@ stands_link v n (g ∷ fs) (suc a) f k i is e m =
 
 -- ---- their vertices
 
-numbers_at : (first count k t : ℕ) → slice_get (numbers_from first count) k ≡ Some t → (t ≡ first + k) × (k < count)
-numbers_at first zero k t e = absurd (cc)
-numbers_at first (suc count) zero t e = let same : first ≡ t = cc in (omega arith, omega arith)
-numbers_at first (suc count) (suc k) t e = let n = numbers_at (suc first) count k t e in let a = n.0 in let b = n.1 in (omega arith, omega arith)
-
-numbers_get : (first count k t : ℕ) → k < count → t ≡ first + k → slice_get (numbers_from first count) k ≡ Some t
-numbers_get first zero k t low is = absurd (omega arith)
-numbers_get first (suc count) zero t low is = let same : first ≡ t = omega arith in ap Some same
-numbers_get first (suc count) (suc k) t low is = numbers_get (suc first) count k t (omega arith) (omega arith)
-
 record IsNumberOf (first v : ℕ) (fs : List WrittenInterface) (a t : ℕ) : Type 0 where
   j : ℕ
   link : Link
@@ -160,10 +154,6 @@ as_many_rows first v [] = refl
 as_many_rows first v (f ∷ fs) = ap suc (as_many_rows (first + length (links_in v f.members)) (suc v) fs)
 
 -- ---- the graph
-
-leads_join : {L : ℕ → ℕ → Type 0} {a b c : ℕ} → LeadsThrough L a b → LeadsThrough L b c → LeadsThrough L a c
-leads_join p (one k) = more p k
-leads_join p (more q k) = more (leads_join p q) k
 
 module _ (fs : List WrittenInterface) (within : AreWithin fs) where
   abbrev n : ℕ

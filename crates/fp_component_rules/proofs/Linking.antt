@@ -1,27 +1,12 @@
 -- The graph of imports, one interface after another.
-use Rattle.std.proofs.Common.{◌≡◌, ◌∙◌, ℕ, zero, suc, ◌+◌, List, [], ◌∷◌, ◌++◌, drop, length, slice_get, Some, sym, ap, append_assoc, arith}
+use Rattle.std.proofs.Common.{◌≡◌, ◌∙◌, ℕ, suc, ◌+◌, List, [], ◌∷◌, ◌++◌, drop, length, slice_get, Some, sym, ap, append_assoc, arith}
 use Rattle.std.proofs.lemmas.List.{length-append}
-use Rattle.fp_base.proofs.Options.{same_some}
+use Rattle.fp_base.proofs.Lists.{drop_next}
+use Rattle.fp_base.proofs.Numbers.{one_more}
+use Rattle.fp_base.specs.Numbers.{numbers_from}
 use Rattle.fp_written_parts.specs.declared.member.WrittenInterface.{WrittenInterface}
 use Rattle.fp_component_rules.specs.declared.links.Link.{Link}
-use Rattle.fp_component_rules.specs.Links.{links_from, links_in, numbers_from, rows_from}
-
-drop_next : {A : Type 0} (xs : List A) (k : ℕ) (x : A) → slice_get xs k ≡ Some x → drop k xs ≡ x ∷ drop (suc k) xs
-drop_next [] k x e = absurd (cc)
-drop_next {A = A} (y ∷ xs) zero x e = ap (λ (z : A). z ∷ xs) (same_some e)
-drop_next (y ∷ xs) (suc k) x e = drop_next xs k x e
-
-one_more : (k : ℕ) → suc k ≡ k + 1
-one_more k = omega arith
-
-pub numbers_next : (first count number : ℕ) → number ≡ first + count → numbers_from first (suc count) ≡ numbers_from first count ++ number ∷ []
-numbers_next first zero number is = let same : first ≡ number = omega arith in ap (λ (n : ℕ). n ∷ []) same
-numbers_next first (suc count) number is = ap (λ (ns : List ℕ). first ∷ ns) (numbers_next (suc first) count number (omega arith))
-
-pub numbers_more : (first count number : ℕ) (numbers more : List ℕ) → number ≡ first + count → more ≡ numbers ++ number ∷ [] → numbers ≡ numbers_from first count
-    → more ≡ numbers_from first (count + 1)
-numbers_more first count number numbers more is pushed h =
-    pushed ∙ ap (λ (ns : List ℕ). ns ++ number ∷ []) h ∙ sym (numbers_next first count number is) ∙ ap (numbers_from first) (one_more count)
+use Rattle.fp_component_rules.specs.Links.{links_from, links_in, rows_from}
 
 module _ (fs : List WrittenInterface) (k : ℕ) (f : WrittenInterface) (at : slice_get fs k ≡ Some f) where
   pub links_next : (links more after whole : List Link) → more ≡ links_in k f.members → after ≡ links ++ more → links ++ links_from k (drop k fs) ≡ whole

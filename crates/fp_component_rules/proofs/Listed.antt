@@ -1,7 +1,7 @@
 -- The list of ports that members give, and what each member gives.
-use Rattle.std.proofs.Common.{◌≡◌, ◌⊎◌, inl, inr, ◌∙◌, ℕ, zero, suc, ◌+◌, List, ◌∷◌, ◌++◌, length, slice_get, None, Some, refl, sym, ap, subst, append_assoc}
+use Rattle.std.proofs.Common.{◌≡◌, ◌⊎◌, inl, inr, ◌∙◌, ℕ, zero, suc, ◌+◌, List, ◌∷◌, ◌++◌, length, slice_get, Some, refl, sym, ap, subst, append_assoc}
 use Rattle.fp_base.proofs.Lists.{get_front}
-use Rattle.fp_base.proofs.Options.{one_some, same_some}
+use Rattle.fp_base.proofs.Options.{one_some, same_some, no_some}
 use Rattle.fp_graph.proofs.Places.{get_joined, get_right}
 use Rattle.fp_written_parts.specs.declared.port.WrittenPort.{WrittenPort}
 use Rattle.fp_written_parts.specs.declared.port.WrittenImport.{WrittenImport}
@@ -11,9 +11,6 @@ use Rattle.fp_written_parts.specs.declared.member.WrittenMember.TheVariants.{Por
 use Rattle.fp_written_parts.specs.Giving.{IsCyclic, Gives, own, imported, GiveAll, LeadsToCycle, at_once, through}
 use Rattle.fp_written_parts.specs.Giving.{none, port, import_, cyclic, command, event, channel, param, match, running}
 use Rattle.fp_component_rules.specs.Gifts.{GivenAmong}
-
-pub not_some : {A : Type 0} {x : A} {P : Type 0} → None ≡ Some x → P
-not_some e = absurd (cc)
 
 module _ (fs : List WrittenInterface) where
   -- ---- what a member gives, by its form
@@ -111,7 +108,7 @@ module _ (fs : List WrittenInterface) where
       go (suc k) e = rest (record { k = k; member = g.member; here = e; gives = g.gives })
 
   pub given_in : {ms : List WrittenMember} {ps : List WrittenPort} → GiveAll fs ms ps → (p : WrittenPort) → GivenAmong fs ms p → Stands ps p
-  given_in none p g = not_some g.here
+  given_in none p g = no_some g.here
   given_in (port {p = q} {ms = ms} {ps = ps} a) p g =
       stands_of (Port q) ms p (Stands (q ∷ ps) p) (λ e. (zero, ap Some e)) (λ h. stands_next q ps p (given_in a p h)) g
   given_in (import_ {i = i} {f = f} {ms = ms} {ps = ps} {qs = qs} here acyclic a b) p g =

@@ -4,16 +4,16 @@ use Rattle.std.proofs.lemmas.List.{length-append}
 use Rattle.std.proofs.lemmas.Option.{slice_get_within}
 use Rattle.fp_base.proofs.Lists.{take_next}
 use Rattle.fp_base.proofs.Spots.{get_push}
+use Rattle.fp_base.proofs.Options.{no_some}
 use Rattle.fp_written_parts.specs.declared.port.WrittenPort.{WrittenPort}
 use Rattle.fp_written_parts.specs.declared.member.WrittenComponent.{WrittenComponent}
 use Rattle.fp_written_parts.specs.declared.member.WrittenInterface.{WrittenInterface}
 use Rattle.fp_written_parts.specs.Giving.{GiveAll}
 use Rattle.fp_component_rules.specs.Lists.{ArePortLists}
-use Rattle.fp_component_rules.proofs.Listed.{not_some}
 
 module _ (fs : List WrittenInterface) where
   pub lists_none : (lists : List (List WrittenPort)) → lists ≡ [] → ArePortLists fs [] lists
-  lists_none lists is = record { each = ap (λ (xs : List (List WrittenPort)). length xs) is; of = λ k c ps e. not_some e }
+  lists_none lists is = record { each = ap (λ (xs : List (List WrittenPort)). length xs) is; of = λ k c ps e. no_some e }
 
   pub lists_next : (cs : List WrittenComponent) (k : ℕ) (c : WrittenComponent) (lists more : List (List WrittenPort)) (ports : List WrittenPort) → slice_get cs k ≡ Some c
       → more ≡ lists ++ ports ∷ [] → GiveAll fs c.members ports → ArePortLists fs (take k cs) lists → ArePortLists fs (take (k + 1) cs) more

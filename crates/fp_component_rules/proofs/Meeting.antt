@@ -1,12 +1,12 @@
 -- Kinds that are flagged in two.
 use Rattle.std.proofs.Common.{◌≡◌, ◌↔◌, ◌∙◌, ℕ, Bool, true, false, ◌&&◌, ◌||◌, slice_get, Some, refl}
 use Rattle.fp_base.proofs.Bools.{both, join}
+use Rattle.fp_base.proofs.Passing.{any_at, any_found}
 use Rattle.fp_tables.specs.declared.component.Special.{Special}
 use Rattle.fp_tables.specs.declared.component.Special.TheVariants.{CmdRecv, CmdReg, CmdResp, Event, TextEvent, Tlm, Time, PrmGet, PrmSet}
 use Rattle.fp_component_rules.specs.Firsts.{has_kind}
 use Rattle.fp_component_rules.specs.declared.interface_kinds.SpecialKinds.{SpecialKinds}
 use Rattle.fp_component_rules.specs.Tested.{every_kind, have_common}
-use Rattle.fp_component_rules.proofs.Passing.{any_at, at_any}
 
 -- ---- nine tests, joined from the left and from the right
 
@@ -71,7 +71,7 @@ kind_at PrmSet = (8, refl)
 pub common_told : (x y : SpecialKinds) → (have_common x y ≡ true) ↔ ((s : Special) × (has_kind x s ≡ true) × (has_kind y s ≡ true))
 common_told x y = (
   λ e.
-      let t = at_any (λ (s : Special). has_kind x s && has_kind y s) every_kind e in
+      let t = any_found (λ (s : Special). has_kind x s && has_kind y s) every_kind e in
       let b = both (has_kind x t.1) (has_kind y t.1) t.3 in
       (t.1, b.0, b.1),
   λ t. let k = kind_at t.0 in any_at (λ (s : Special). has_kind x s && has_kind y s) every_kind k.0 t.0 k.1 (join (has_kind x t.0) (has_kind y t.0) t.1 t.2),

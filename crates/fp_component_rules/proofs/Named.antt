@@ -3,27 +3,13 @@ use Rattle.std.proofs.Common.{◌≡◌, Bool, true, false, not, cond, ◌||◌,
 use Rattle.std.specs.List.{AllByRecursion, filter, find}
 use Rattle.std.proofs.lemmas.List.{append-nil}
 use Rattle.std.proofs.lemmas.List.Elements.{filter-append}
-use Rattle.std.proofs.lemmas.Slice.Eq.{bytes_eq-Decides}
 use Rattle.fp_base.proofs.Lists.{of_item}
 use Rattle.fp_base.proofs.Options.{same_some}
+use Rattle.fp_base.proofs.Bytes.{same_bytes, bytes_turned, bytes_same}
 use Rattle.fp_written_parts.specs.declared.port.WrittenPort.{WrittenPort}
 use Rattle.fp_component_rules.specs.Firsts.{AreApart, has_port, is_named, of_each_name, with_port}
 
 -- ---- names
-
-pub same_bytes : (m n : List ℕ) → bytes_eq m n ≡ true → m ≡ n
-same_bytes m n e = (bytes_eq-Decides m n).0 e
-
-pub bytes_same : (m n : List ℕ) → m ≡ n → bytes_eq m n ≡ true
-bytes_same m n e = (bytes_eq-Decides m n).1 e
-
-truth : (a b : Bool) → (a ≡ true → b ≡ true) → (b ≡ true → a ≡ true) → a ≡ b
-truth true b to back = sym (to refl)
-truth false true to back = back refl
-truth false false to back = refl
-
-pub bytes_turned : (m n : List ℕ) → bytes_eq m n ≡ bytes_eq n m
-bytes_turned m n = truth (bytes_eq m n) (bytes_eq n m) (λ e. bytes_same n m (sym (same_bytes m n e))) (λ e. bytes_same m n (sym (same_bytes n m e)))
 
 -- a name that one of two equal names isn't
 other : (q m n : List ℕ) → bytes_eq q m ≡ false → bytes_eq m n ≡ true → bytes_eq q n ≡ false

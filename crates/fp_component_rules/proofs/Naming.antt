@@ -2,29 +2,17 @@
 use Rattle.std.proofs.Common.{◌≡◌, ◌∙◌, ◌||◌, ℕ, Bool, true, false, not, cond, List, [], ◌∷◌, ◌++◌, map, BTreeSet, refl, sym, ap, bytes_eq}
 use Rattle.std.proofs.lemmas.List.{map-append}
 use Rattle.std.proofs.lemmas.List.Folds.{list_any-append}
+use Rattle.std.proofs.Math.Bool.{or-false}
 use denote.Ref.{Bor}
+use Rattle.fp_base.proofs.Bytes.{same_bytes}
+use Rattle.fp_base.proofs.Bools.{was_there, was_new}
+use Rattle.fp_base.specs.NameSets.{has_name}
 use Rattle.fp_written_parts.specs.declared.port.WrittenPort.{WrittenPort}
 use Rattle.fp_component_rules.specs.Firsts.{has_port, is_named, with_port}
-use Rattle.fp_component_rules.specs.Noted.{AreNames, has_name}
-use Rattle.fp_component_rules.proofs.Named.{same_bytes}
+use Rattle.fp_component_rules.specs.Noted.{AreNames}
 
 abbrev pub behind : Bor WrittenPort → WrittenPort
 behind port = port.now
-
-or_false : (b : Bool) → (b || false) ≡ b
-or_false true = refl
-or_false false = refl
-
--- the name was there, or it wasn't
-was_there : (b c : Bool) → b ≡ not c → b ≡ false → c ≡ true
-was_there true c is e = absurd (cc)
-was_there false true is e = refl
-was_there false false is e = absurd (cc)
-
-was_new : (b c : Bool) → b ≡ not c → b ≡ true → c ≡ false
-was_new false c is e = absurd (cc)
-was_new true false is e = refl
-was_new true true is e = absurd (cc)
 
 known_or : (a b : Bool) → (b ≡ true → a ≡ true) → (a || b) ≡ a
 known_or true b h = refl
@@ -36,7 +24,7 @@ module _ (ports : List (Bor WrittenPort)) where
       → ((q : List ℕ) → has_name more q ≡ (has_name names q || bytes_eq q name)) → after ≡ ports ++ port ∷ [] → AreNames (map behind after) more
   more_names after port names more name is known added pushed q =
       added q ∙ ap (λ (b : Bool). b || bytes_eq q name) (known q) ∙ ap (λ (n : List ℕ). has_port q (map behind ports) || bytes_eq q n) is
-      ∙ ap (λ (b : Bool). has_port q (map behind ports) || b) (sym (or_false (bytes_eq q port.now.name)))
+      ∙ ap (λ (b : Bool). has_port q (map behind ports) || b) (sym (or-false (bytes_eq q port.now.name)))
       ∙ sym (ap (λ (ps : List (Bor WrittenPort)). has_port q (map behind ps)) pushed ∙ ap (has_port q) (map-append behind ports (port ∷ [])) ∙ list_any-append (is_named q) (map behind ports) (port.now ∷ []))
 
   pub known_names : (port : Bor WrittenPort) (names more : BTreeSet (Bor (List ℕ))) (name : List ℕ) (added : Bool) → name ≡ port.now.name → AreNames (map behind ports) names

@@ -2,6 +2,7 @@
 use Rattle.std.proofs.Common.{◌≡◌, ℕ, zero, suc, ◌+◌, Bool, true, false, not, List, [], ◌∷◌, ◌++◌, slice_get, Some, refl, arith}
 use Rattle.std.specs.List.{AllByRecursion}
 use Rattle.fp_base.proofs.Lists.{each_append}
+use Rattle.fp_base.proofs.Bytes.{same_bytes}
 use Rattle.fp_written_parts.specs.declared.port.WrittenPort.{WrittenPort}
 use Rattle.fp_written_parts.specs.declared.member.WrittenInterface.{WrittenInterface}
 use Rattle.fp_written_parts.specs.declared.member.WrittenMember.{WrittenMember}
@@ -10,7 +11,7 @@ use Rattle.fp_written_parts.specs.Giving.{Gives, own, imported, GiveAll, none, p
 use Rattle.fp_component_rules.specs.Firsts.{is_named}
 use Rattle.fp_component_rules.specs.Lists.{IsGivenApart, IsNamedOnce}
 use Rattle.fp_component_rules.proofs.Listed.{in_given}
-use Rattle.fp_component_rules.proofs.Named.{Differ, differ_apart, same_bytes}
+use Rattle.fp_component_rules.proofs.Named.{Differ, differ_apart}
 
 abbrev Others : WrittenPort → List WrittenPort → Type 0
 Others p qs = AllByRecursion (λ (q : WrittenPort). not (is_named p.name q) ≡ true) qs

@@ -4,11 +4,13 @@ use Rattle.std.specs.Prelude.{option_map}
 use Rattle.std.specs.List.{find}
 use Rattle.std.specs.Ordering.{int_eq}
 use Rattle.std.proofs.lemmas.Bool.Decides.{Decides-int_eq}
+use Rattle.std.proofs.lemmas.Bool.{not_from_false}
 use Rattle.fp_base.specs.declared.rule.Rule.TheVariants.{BadMatch}
 use Rattle.fp_base.specs.Least.{IsLeast, broken_at}
-use Rattle.fp_base.proofs.Bools.{not_true, or_cases, or_left, or_right}
-use Rattle.fp_base.proofs.Calculus.{least_none}
+use Rattle.fp_base.proofs.Bools.{not_true, or_cases, or_left, or_right, not_both}
+use Rattle.fp_base.proofs.Calculus.{least_none, least_told}
 use Rattle.fp_base.proofs.Options.{one_some, same_some}
+use Rattle.fp_base.proofs.Bytes.{same_bytes, bytes_same}
 use Rattle.fp_written_parts.specs.declared.port.WrittenPort.{WrittenPort}
 use Rattle.fp_written_parts.specs.declared.member.WrittenInterface.{WrittenInterface}
 use Rattle.fp_written_parts.specs.declared.member.WrittenMatch.{WrittenMatch}
@@ -18,11 +20,10 @@ use Rattle.fp_component_rules.specs.Firsts.{is_named}
 use Rattle.fp_component_rules.specs.Gifts.{IsGift, LeadsAmong}
 use Rattle.fp_component_rules.specs.declared.gift.Gift.{Gift}
 use Rattle.fp_component_rules.proofs.GatheringLaws.{first_gift, same_list}
-use Rattle.fp_component_rules.proofs.Named.{bytes_same, same_bytes}
 use Rattle.fp_component_rules.specs.declared.matching.End.{End}
 use Rattle.fp_component_rules.specs.Broken.{DifferInSize, IsBadMatch, MatchAt, Names, NamesNone, NamesUnlike, is_general, size_of}
 use Rattle.fp_component_rules.specs.Tested.{end_of, fails, match_fault, sizes_differ}
-use Rattle.fp_component_rules.proofs.Folding.{flag_told, least_told, not_both}
+use Rattle.fp_component_rules.proofs.Folding.{flag_told}
 
 -- ---- sizes
 
@@ -43,9 +44,6 @@ sizes_told (Some m) (Some n) = (λ e. (m, n, refl, refl, to (int_eq m n) refl e)
     back d false is = refl
 
 -- ---- tests
-
-not_false : (b : Bool) → b ≡ false → not b ≡ true
-not_false b e = ap not e
 
 abbrev IsUnlike : Type 0 → WrittenPort → WrittenPort → Type 0
 IsUnlike Same p q = Same ⊎ ((is_general p.role ≡ false) ⊎ ((is_general q.role ≡ false) ⊎ DifferInSize (size_of p.size) (size_of q.size)))
@@ -77,8 +75,8 @@ unlike_told Same same p q told = (λ e. last (or_cases ((same || a) || b) d e), 
 
     back : IsUnlike Same p q → (((same || a) || b) || d) ≡ true
     back (inl e) = or_left ((same || a) || b) d (or_left (same || a) b (or_left same a (told.1 e)))
-    back (inr (inl e)) = or_left ((same || a) || b) d (or_left (same || a) b (or_right same a (not_false (is_general p.role) e)))
-    back (inr (inr (inl e))) = or_left ((same || a) || b) d (or_right (same || a) b (not_false (is_general q.role) e))
+    back (inr (inl e)) = or_left ((same || a) || b) d (or_left (same || a) b (or_right same a (not_from_false (is_general p.role) e)))
+    back (inr (inr (inl e))) = or_left ((same || a) || b) d (or_right (same || a) b (not_from_false (is_general q.role) e))
     back (inr (inr (inr e))) = or_right ((same || a) || b) d ((sizes_told (size_of p.size) (size_of q.size)).1 e)
 
 -- ---- the ports that names stand for

@@ -1,52 +1,20 @@
--- Some item passes a test.
-use Rattle.std.proofs.Common.{◌≡◌, ◌↔◌, ◌∙◌, ◌⊎◌, inl, inr, ℕ, zero, suc, ◌+◌, Bool, true, false, cond, ◌||◌, List, [], ◌∷◌, ◌++◌, map, take, slice_get, Some, None, refl, sym, ap, subst}
+-- Items that pass a test, in lists that grow.
+use Rattle.std.proofs.Common.{◌≡◌, ◌↔◌, ℕ, Bool, true, false, cond, ◌||◌, List, [], ◌∷◌, ◌++◌, map, Some, None, refl, sym, ap, subst}
 use Rattle.std.specs.Prelude.{is_some}
 use Rattle.std.specs.List.{find, list_any}
-use Rattle.fp_base.proofs.Bools.{or_cases, or_left, or_right}
-use Rattle.fp_base.proofs.Lists.{take_next}
-use Rattle.fp_base.proofs.Options.{same_some}
+use Rattle.fp_base.proofs.Passing.{any_at, any_found, any_pushed}
+use Rattle.fp_base.proofs.Bytes.{same_bytes, bytes_same}
 use Rattle.fp_written_parts.specs.declared.port.WrittenPort.{WrittenPort}
 use Rattle.fp_component_rules.specs.Firsts.{has_port, is_named, with_port}
-use Rattle.fp_component_rules.proofs.Named.{bytes_same, same_bytes}
 use Rattle.fp_component_rules.specs.Tested.{any_seen}
-
-pub or_false : (b : Bool) → (b || false) ≡ b
-or_false true = refl
-or_false false = refl
-
-pub or_assoc : (a b c : Bool) → ((a || b) || c) ≡ (a || (b || c))
-or_assoc true b c = refl
-or_assoc false b c = refl
-
-pub any_at : {A : Type 0} (f : A → Bool) (xs : List A) (k : ℕ) (x : A) → slice_get xs k ≡ Some x → f x ≡ true → list_any f xs ≡ true
-any_at f [] k x e h = absurd (cc)
-any_at f (y ∷ xs) zero x e h = or_left (f y) (list_any f xs) (ap f (same_some e) ∙ h)
-any_at f (y ∷ xs) (suc k) x e h = or_right (f y) (list_any f xs) (any_at f xs k x e h)
-
-pub at_any : {A : Type 0} (f : A → Bool) (xs : List A) → list_any f xs ≡ true → (k : ℕ) × (x : A) × (slice_get xs k ≡ Some x) × (f x ≡ true)
-at_any f [] h = absurd (cc)
-at_any f (y ∷ xs) h = go (or_cases (f y) (list_any f xs) h) (at_any f xs)
-  where
-    go : (f y ≡ true) ⊎ (list_any f xs ≡ true) → (list_any f xs ≡ true → (k : ℕ) × (x : _) × (slice_get xs k ≡ Some x) × (f x ≡ true))
-        → (k : ℕ) × (x : _) × (slice_get (y ∷ xs) k ≡ Some x) × (f x ≡ true)
-    go (inl e) rest = (zero, y, refl, e)
-    go (inr e) rest = let t = rest e in (suc t.0, t.1, t.2, t.3)
 
 pub any_mapped : {A B : Type 0} (g : A → B) (f : B → Bool) (xs : List A) → list_any (λ (x : A). f (g x)) xs ≡ list_any f (map g xs)
 any_mapped g f [] = refl
 any_mapped g f (x ∷ xs) = ap (λ (b : Bool). f (g x) || b) (any_mapped g f xs)
 
-pub any_pushed : {A : Type 0} (f : A → Bool) (xs : List A) (x : A) → list_any f (xs ++ x ∷ []) ≡ (list_any f xs || f x)
-any_pushed f [] x = or_false (f x)
-any_pushed f (y ∷ xs) x = ap (λ (b : Bool). f y || b) (any_pushed f xs x) ∙ sym (or_assoc (f y) (list_any f xs) (f x))
-
 mapped_pushed : {A B : Type 0} (f : A → B) (xs : List A) (x : A) → map f (xs ++ x ∷ []) ≡ map f xs ++ f x ∷ []
 mapped_pushed f [] x = refl
 mapped_pushed {B = B} f (y ∷ xs) x = ap (λ (zs : List B). f y ∷ zs) (mapped_pushed f xs x)
-
--- the images of one item more
-pub mapped_next : {A B : Type 0} (f : A → B) (xs : List A) (k : ℕ) (x : A) → slice_get xs k ≡ Some x → map f (take (k + 1) xs) ≡ map f (take k xs) ++ f x ∷ []
-mapped_next f xs k x at = ap (map f) (take_next xs k x at) ∙ mapped_pushed f (take k xs) x
 
 -- ---- the first of a list with one item more
 
@@ -80,9 +48,9 @@ has_with q p ps = go (has_port p.name ps) refl
 pub seen_told : (seen own : List WrittenPort) → (any_seen seen own ≡ true) ↔ ((name : List ℕ) × (has_port name own ≡ true) × (has_port name seen ≡ true))
 seen_told seen own = (
   λ e.
-      let t = at_any (λ (p : WrittenPort). has_port p.name seen) own e in
+      let t = any_found (λ (p : WrittenPort). has_port p.name seen) own e in
       (t.1.name, any_at (is_named t.1.name) own t.0 t.1 t.2 (bytes_same t.1.name t.1.name refl), t.3),
   λ t.
-      let u = at_any (is_named t.0) own t.1 in
+      let u = any_found (is_named t.0) own t.1 in
       any_at (λ (p : WrittenPort). has_port p.name seen) own u.0 u.1 u.2 (subst (λ (n : List ℕ). has_port n seen ≡ true) (same_bytes t.0 u.1.name u.3) t.2),
 )

@@ -1,10 +1,10 @@
 -- The graph of imports as rows of numbers.
 use Rattle.std.proofs.Common.{◌≡◌, ◌↔◌, ℕ, zero, suc, ◌+◌, ◌<◌, List, [], ◌∷◌, ◌++◌, length, map, take, slice_get, Option, Some, None, refl, sym, ap, subst, ◌∙◌}
 use Rattle.std.specs.List.{cons_option, filter_map}
-use Rattle.std.proofs.lemmas.List.{map-append}
 use Rattle.std.proofs.lemmas.List.Elements.{filter_map-append}
 use Rattle.fp_base.proofs.Lists.{take_next}
 use Rattle.fp_base.proofs.Options.{same_some}
+use Rattle.fp_base.proofs.Mapped.{map_get, get_mapped, many_mapped}
 use Rattle.fp_graph.specs.Rows.{IsListed}
 use Rattle.fp_written_parts.specs.declared.port.WrittenImport.{WrittenImport}
 use Rattle.fp_written_parts.specs.declared.member.WrittenInterface.{WrittenInterface}
@@ -60,23 +60,6 @@ by_import (Channel p) w e = absurd (cc)
 by_import (Param p) w e = absurd (cc)
 by_import (Match p) w e = absurd (cc)
 by_import (Running p) w e = absurd (cc)
-
-pub get_mapped : {A B : Type 0} (g : A → B) (xs : List A) (k : ℕ) (y : B) → slice_get (map g xs) k ≡ Some y → (x : A) × (slice_get xs k ≡ Some x) × (g x ≡ y)
-get_mapped g [] k y e = absurd (cc)
-get_mapped g (x ∷ xs) zero y e = (x, refl, same_some e)
-get_mapped g (x ∷ xs) (suc k) y e = get_mapped g xs k y e
-
-pub map_get : {A B : Type 0} (g : A → B) (xs : List A) (k : ℕ) (x : A) → slice_get xs k ≡ Some x → slice_get (map g xs) k ≡ Some (g x)
-map_get g [] k x e = absurd (cc)
-map_get {A = A} g (z ∷ xs) zero x e = ap (λ (w : A). Some (g w)) (same_some e)
-map_get g (z ∷ xs) (suc k) x e = map_get g xs k x e
-
-pub many_mapped : {A B : Type 0} (g : A → B) (xs : List A) → length (map g xs) ≡ length xs
-many_mapped g [] = refl
-many_mapped g (x ∷ xs) = ap suc (many_mapped g xs)
-
-pub mapped_next : {A B : Type 0} (g : A → B) (xs : List A) (k : ℕ) (x : A) → slice_get xs k ≡ Some x → map g (take (k + 1) xs) ≡ map g (take k xs) ++ g x ∷ []
-mapped_next g xs k x e = ap (map g) (take_next xs k x e) ∙ map-append g (take k xs) (x ∷ [])
 
 module _ (fs : List WrittenInterface) (within : AreWithin fs) where
   abbrev rows : List (List ℕ)

@@ -4,9 +4,11 @@ use Rattle.std.specs.Prelude.{Result, Ok, Err, IfOk}
 use Rattle.std.specs.List.{list_any}
 use Rattle.std.proofs.lemmas.List.{append-nil}
 use Rattle.std.proofs.lemmas.List.Folds.{list_any-append}
+use Rattle.std.proofs.Math.Bool.{or-false}
 use Rattle.fp_base.proofs.Lists.{get_front, get_last}
-use Rattle.fp_base.proofs.Options.{one_some, same_some}
+use Rattle.fp_base.proofs.Options.{one_some, same_some, no_some}
 use Rattle.fp_base.proofs.Spots.{get_push}
+use Rattle.fp_base.proofs.Bools.{flag_same}
 use Rattle.fp_tables.specs.declared.component.Special.{Special}
 use Rattle.fp_written_parts.specs.declared.port.WrittenPort.{WrittenPort}
 use Rattle.fp_written_parts.specs.declared.port.WrittenImport.{WrittenImport}
@@ -25,17 +27,13 @@ use Rattle.fp_component_rules.specs.declared.gift.Gift.{Gift}
 use Rattle.fp_component_rules.specs.declared.interface_kinds.SpecialKinds.{SpecialKinds}
 use Rattle.fp_component_rules.specs.Firsts.{has_kind, is_asynchronous, is_of_kind, of_each_name, with_port}
 use Rattle.fp_component_rules.specs.Gifts.{IsGift, IsServed, LeadsAmong, Serves, SumsUp}
-use Rattle.fp_component_rules.proofs.Listed.{LeadsBy, ImportLeads, all_joined, leads_by, not_some}
+use Rattle.fp_component_rules.proofs.Listed.{LeadsBy, ImportLeads, all_joined, leads_by}
 use Rattle.fp_component_rules.proofs.Named.{each_joined, each_pushed}
-
-or_false : (b : Bool) → (b || false) ≡ b
-or_false true = refl
-or_false false = refl
 
 -- a test on one element more
 any_pushed : {A : Type 0} (f : A → Bool) (xs : List A) (x : A) (b c : Bool) → b ≡ list_any f xs → c ≡ f x → (b || c) ≡ list_any f (xs ++ x ∷ [])
 any_pushed f xs x b c is of =
-    ap (λ (d : Bool). d || c) is ∙ ap (λ (d : Bool). list_any f xs || d) (of ∙ sym (or_false (f x))) ∙ sym (list_any-append f xs (x ∷ []))
+    ap (λ (d : Bool). d || c) is ∙ ap (λ (d : Bool). list_any f xs || d) (of ∙ sym (or-false (f x))) ∙ sym (list_any-append f xs (x ∷ []))
 
 any_joined : {A : Type 0} (f : A → Bool) (xs ys : List A) (b c : Bool) → b ≡ list_any f xs → c ≡ list_any f ys → (b || c) ≡ list_any f (xs ++ ys)
 any_joined f xs ys b c is of = ap (λ (d : Bool). d || c) is ∙ ap (λ (d : Bool). list_any f xs || d) of ∙ sym (list_any-append f xs ys)
@@ -59,10 +57,6 @@ sums_joined all more gift other after sums others firsts kinds asynchronous = re
 }
 
 -- ---- flags
-
-pub flag_same : {P Q : Type 0} (b : Bool) → (P → Q) → (Q → P) → MatchBool b P (P → ⊥) → MatchBool b Q (Q → ⊥)
-flag_same true to back h = to h
-flag_same false to back h = λ q. h (back q)
 
 either_flag : {P Q R : Type 0} (a b : Bool) → MatchBool a P (P → ⊥) → MatchBool b Q (Q → ⊥) → (P → R) → (Q → R) → (R → P ⊎ Q) → MatchBool (a || b) R (R → ⊥)
 either_flag true b p q left right back = left p
@@ -107,7 +101,7 @@ module _ (fs : List WrittenInterface) where
   -- a member that gives nothing
   pub gift_passed : (ms : List WrittenMember) (m : WrittenMember) (gift : Gift) → GiveAll fs (m ∷ []) [] → (LeadsBy fs m → ⊥) → IsGift fs ms gift → IsGift fs (ms ++ m ∷ []) gift
   gift_passed ms m gift given leads h =
-      gift_joined ms m gift gift h [] false given (subst (λ (ps : List WrittenPort). SumsUp ps gift) (sym (append-nil h.all)) h.sums) (leads_not m leads) (sym (or_false gift.leads_to_cycle))
+      gift_joined ms m gift gift h [] false given (subst (λ (ps : List WrittenPort). SumsUp ps gift) (sym (append-nil h.all)) h.sums) (leads_not m leads) (sym (or-false gift.leads_to_cycle))
     where
       leads_not : (m : WrittenMember) → (LeadsBy fs m → ⊥) → LeadsAmong fs (m ∷ []) → ⊥
       leads_not m never l = go l.k l.here
@@ -122,7 +116,7 @@ module _ (fs : List WrittenInterface) where
     all = [];
     given = none;
     sums = sums;
-    leads = subst (λ (b : Bool). MatchBool b (LeadsAmong fs []) (LeadsAmong fs [] → ⊥)) (sym is) (λ l. not_some l.here);
+    leads = subst (λ (b : Bool). MatchBool b (LeadsAmong fs []) (LeadsAmong fs [] → ⊥)) (sym is) (λ l. no_some l.here);
   }
 
   -- ---- imports
@@ -164,7 +158,7 @@ module _ (fs : List WrittenInterface) where
 
   pub serves_one : (gifts : List Gift) (ms : List WrittenMember) (k : ℕ) (m : WrittenMember) → Serves fs gifts ms → slice_get ms k ≡ Some m → Serves fs gifts (m ∷ [])
   serves_one gifts ms k m serves at zero i e = serves k i (at ∙ e)
-  serves_one gifts ms k m serves at (suc j) i e = not_some e
+  serves_one gifts ms k m serves at (suc j) i e = no_some e
 
   -- what an import that is served gives
   pub with_served : (ms : List WrittenMember) (i : WrittenImport) (gift other after : Gift) → IsGift fs ms gift → IsGift fs (Import i ∷ []) other
@@ -177,11 +171,11 @@ module _ (fs : List WrittenInterface) where
   pub with_own : (ms : List WrittenMember) (p : WrittenPort) (gift after : Gift) → IsGift fs ms gift → ((all : List WrittenPort) → SumsUp all gift → SumsUp (all ++ p ∷ []) after)
       → after.leads_to_cycle ≡ gift.leads_to_cycle → IsGift fs (ms ++ Port p ∷ []) after
   with_own ms p gift after h sums is =
-      gift_joined ms (Port p) gift after h (p ∷ []) false (port none) (sums h.all h.sums) (λ l. leads_port l.k l.here l.leads) (is ∙ sym (or_false gift.leads_to_cycle))
+      gift_joined ms (Port p) gift after h (p ∷ []) false (port none) (sums h.all h.sums) (λ l. leads_port l.k l.here l.leads) (is ∙ sym (or-false gift.leads_to_cycle))
     where
       leads_port : (k : ℕ) {m : WrittenMember} → slice_get (Port p ∷ []) k ≡ Some m → LeadsToCycle fs m → ⊥
       leads_port zero e l = leads_by fs (subst (LeadsToCycle fs) (sym (same_some e)) l)
-      leads_port (suc k) e l = not_some e
+      leads_port (suc k) e l = no_some e
 
   -- ---- of an answer
 

@@ -3,11 +3,14 @@ use Rattle.std.proofs.Common.{◌≡◌, ◌∙◌, ◌⊎◌, inl, inr, ℕ, ze
 use Rattle.std.specs.List.{find}
 use Rattle.std.specs.Ordering.{int_eq}
 use Rattle.std.proofs.lemmas.Bool.Decides.{Decides-int_eq}
+use Rattle.std.proofs.lemmas.Bool.{true_from_ne_false}
 use Rattle.fp_base.specs.declared.place.Place.{Place}
 use Rattle.fp_base.specs.declared.rule.Rule.{Rule}
 use Rattle.fp_base.specs.declared.rule.Rule.TheVariants.{PortNameRepeated, SpecialPort, PassiveWithQueueUse, BadMatch, InterfaceCycle}
 use Rattle.fp_base.specs.Least.{BrokenAt, ByOptional, IsUnbroken, broken_at}
 use Rattle.fp_base.proofs.Options.{one_some, same_some}
+use Rattle.fp_base.proofs.Bools.{not_both}
+use Rattle.fp_base.proofs.Bytes.{same_bytes}
 use Rattle.fp_graph.specs.Chains.{LeadsThrough, one, more}
 use Rattle.fp_tables.specs.declared.component.Queueing.{Queueing}
 use Rattle.fp_tables.specs.declared.component.Queueing.TheVariants.{Passive}
@@ -23,11 +26,9 @@ use Rattle.fp_component_rules.specs.Firsts.{is_named}
 use Rattle.fp_component_rules.specs.Gifts.{LeadsAmong}
 use Rattle.fp_component_rules.specs.Lists.{AreNamedOnce, IsNamedOnce}
 use Rattle.fp_component_rules.proofs.Listed.{GivesBy, gives_by, one_list}
-use Rattle.fp_component_rules.proofs.Named.{same_bytes}
 use Rattle.fp_component_rules.specs.Broken.{AreOfOneKind, ComponentsBroken, DifferInSize, GivesAgain, HaveOneName, IsBadMatch, Names, NamesNone, QueueBroken, RepeatsBroken, Waits, bringer_at, giver_at, is_general, size_of, waits_itself}
 use Rattle.fp_component_rules.specs.Consistent.{AreConsistent, AreOfManyKinds, ArePaired, IsConsistent}
 use Rattle.fp_component_rules.proofs.Apart.{IsGivenOnce, none_clash}
-use Rattle.fp_component_rules.proofs.Folding.{not_both}
 
 -- ---- places
 
@@ -97,10 +98,6 @@ order (suc j) (suc k) = go (order j k)
     go (inr (inl low)) = inr (inl (omega arith))
     go (inr (inr low)) = inr (inr (omega arith))
 
-truth : (b : Bool) → (b ≡ false → ⊥) → b ≡ true
-truth true h = refl
-truth false h = absurd (h refl)
-
 equal : (m n : ℤ) → ((m ≡ n → ⊥) → ⊥) → m ≡ n
 equal m n h = go (int_eq m n) refl
   where
@@ -125,8 +122,8 @@ paired_by ports d p q first second like =
       differ = λ same.
           let one_port : p ≡ q = one_some (slice_get ports b.0) p q (subst (λ (n : ℕ). slice_get ports n ≡ Some p) same a.1) b.1 in
           like (inl (sym a.2 ∙ ap (λ (x : WrittenPort). x.name) one_port ∙ b.2));
-      one_general = truth (is_general p.role) (λ e. like (inr (inl e)));
-      other_general = truth (is_general q.role) (λ e. like (inr (inr (inl e))));
+      one_general = true_from_ne_false (is_general p.role) (λ e. like (inr (inl e)));
+      other_general = true_from_ne_false (is_general q.role) (λ e. like (inr (inr (inl e))));
       sizes = λ m n x y. equal m n (λ no. like (inr (inr (inr (m, n, x, y, no)))));
     }
 

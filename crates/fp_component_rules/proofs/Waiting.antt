@@ -7,6 +7,7 @@ use Rattle.fp_base.specs.declared.rule.Rule.TheVariants.{PassiveWithQueueUse}
 use Rattle.fp_base.specs.Least.{IsLeast}
 use Rattle.fp_base.proofs.Bools.{or_cases, or_left, or_right}
 use Rattle.fp_base.proofs.Calculus.{least_along}
+use Rattle.fp_base.proofs.Passing.{any_at, any_found}
 use Rattle.fp_written_parts.specs.declared.member.WrittenInterface.{WrittenInterface}
 use Rattle.fp_written_parts.specs.declared.member.WrittenMember.{WrittenMember}
 use Rattle.fp_component_rules.specs.Gifts.{GivenAmong, IsGift}
@@ -15,7 +16,6 @@ use Rattle.fp_component_rules.proofs.GatheringLaws.{asynchronous_gift, one_given
 use Rattle.fp_component_rules.specs.Broken.{UseAt, Waits, WaitsAmong, bringer_at, waits_itself}
 use Rattle.fp_component_rules.specs.Tested.{fault_at}
 use Rattle.fp_component_rules.proofs.Folding.{least_placed}
-use Rattle.fp_component_rules.proofs.Passing.{any_at, at_any}
 
 module _ (fs : List WrittenInterface) where
   -- one member
@@ -35,7 +35,7 @@ module _ (fs : List WrittenInterface) where
   among_told ms gift h = (λ e. to (or_cases (list_any waits_itself ms) gift.asynchronous e), λ w. back w w.waits)
     where
       to : (list_any waits_itself ms ≡ true) ⊎ (gift.asynchronous ≡ true) → WaitsAmong fs ms
-      to (inl e) = let t = at_any waits_itself ms e in record { k = t.0; member = t.1; here = t.2; waits = inl t.3 }
+      to (inl e) = let t = any_found waits_itself ms e in record { k = t.0; member = t.1; here = t.2; waits = inl t.3 }
       to (inr e) =
           let t = (asynchronous_gift fs ms gift h).0 e in
           let g = t.1 in

@@ -9,5 +9,4 @@ pub mod Links
 pub mod Lists
 pub mod Noted
 pub mod PortBroken
-pub mod Seen
 pub mod Tested

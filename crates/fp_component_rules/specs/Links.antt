@@ -1,6 +1,7 @@
 -- The imports of interfaces as a graph.
-use Rattle.std.specs.Prelude.{ℕ, zero, suc, ◌+◌, List, [], ◌∷◌, ◌++◌, length, map, Option, Some, None}
+use Rattle.std.specs.Prelude.{ℕ, suc, ◌+◌, List, [], ◌∷◌, ◌++◌, length, map, Option, Some, None}
 use Rattle.std.specs.List.{filter_map}
+use Rattle.fp_base.specs.Numbers.{numbers_from}
 use Rattle.fp_written_parts.specs.declared.member.WrittenInterface.{WrittenInterface}
 use Rattle.fp_written_parts.specs.declared.member.WrittenMember.{WrittenMember}
 use Rattle.fp_written_parts.specs.declared.member.WrittenMember.TheVariants.{Import}
@@ -25,11 +26,6 @@ links_in importer members = filter_map (link_by importer) members
 abbrev pub links_from : ℕ → List WrittenInterface → List Link
 links_from v [] = []
 links_from v (f ∷ fs) = links_in v f.members ++ links_from (suc v) fs
-
--- so many numbers from one on
-abbrev pub numbers_from : ℕ → ℕ → List ℕ
-numbers_from first zero = []
-numbers_from first (suc count) = first ∷ numbers_from (suc first) count
 
 -- the vertices of the imports of each interface
 abbrev pub rows_from : ℕ → ℕ → List WrittenInterface → List (List ℕ)

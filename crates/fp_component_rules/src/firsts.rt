@@ -1,7 +1,7 @@
 ghost use Rattle.std.specs.Prelude.{◌≡◌, ◌||◌, ℕ, List, [], map, not, IfOk, OnOk};
 ghost use Rattle.std.specs.Str.{bytes_eq};
+ghost use Rattle.fp_base.specs.NameSets.{has_name};
 ghost use Rattle.fp_component_rules.specs.Firsts.{has_port, with_port};
-ghost use Rattle.fp_component_rules.specs.Noted.{has_name};
 
 use fp_base::NoMemory;
 use fp_written_parts::WrittenPort;

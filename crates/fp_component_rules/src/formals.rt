@@ -1,8 +1,8 @@
 ghost use Rattle.std.specs.Prelude.{◌≡◌, ◌||◌, ℕ, List, IfOk, OnOk};
 ghost use Rattle.std.specs.Str.{bytes_eq};
 ghost use Rattle.fp_base.specs.Least.{IsLeast};
+ghost use Rattle.fp_base.specs.NameSets.{has_name};
 ghost use Rattle.fp_component_rules.specs.PortBroken.{RepeatedFormals};
-ghost use Rattle.fp_component_rules.specs.Seen.{has_name};
 
 use fp_base::{NoMemory, Refusal, Rule, lesser, refusal_if};
 use fp_written_parts::WrittenFormal;

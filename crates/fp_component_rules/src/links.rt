@@ -1,5 +1,6 @@
 ghost use Rattle.std.specs.Prelude.{◌≡◌, ◌+◌, ◌++◌, ◌∷◌, [], IfOk, length};
-ghost use Rattle.fp_component_rules.specs.Links.{links_in, links_from, numbers_from, rows_from, targets_of};
+ghost use Rattle.fp_base.specs.Numbers.{numbers_from};
+ghost use Rattle.fp_component_rules.specs.Links.{links_in, links_from, rows_from, targets_of};
 
 use fp_base::{NoMemory, Row};
 use fp_written_parts::{WrittenImport, WrittenInterface, WrittenMember};

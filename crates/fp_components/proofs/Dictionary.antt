@@ -2,6 +2,7 @@
 use Rattle.std.proofs.Common.{◌≡◌, ℕ, zero, suc, ℤ, pos, ◌+ℤ◌, List, [], ◌∷◌, Option, Some, None, slice_get, refl, sym, ap, subst, ◌∙◌}
 use Rattle.std.specs.Prelude.{position}
 use Rattle.fp_base.proofs.Options.{one_some, same_some}
+use Rattle.fp_base.proofs.Numbers.{pos_same}
 use Rattle.fp_base.specs.declared.format.Format.{Format}
 use Rattle.fp_base.specs.declared.format.FormatPiece.{FormatPiece}
 use Rattle.fp_base.specs.declared.value.Value.{Value, Int}
@@ -33,7 +34,7 @@ use Rattle.fp_dictdefs.specs.Ids.{HasId, IsGivenOr, IsIdBy, IsImplied}
 use Rattle.fp_component_rules.specs.Firsts.{is_named}
 use Rattle.fp_components.specs.Resolved.{CommandHere, IsChannel, IsCommand, IsCommandHere, IsDefault, IsEvent, IsId, IsLimit, IsMatch, IsParam, IsRunning, IsThrottle, IsWay, IsWrittenCommand, IsSetCommand, IsSaveCommand}
 use Rattle.fp_components.specs.Resolved.CommandHere.{written, sets, saves}
-use Rattle.fp_components.proofs.Lists.{each_same, pos_same}
+use Rattle.fp_components.proofs.Lists.{each_same}
 use Rattle.fp_components.proofs.OnePorts.{later_same}
 use Rattle.fp_components.proofs.Pieces.{one_format}
 

@@ -2,12 +2,9 @@
 use Rattle.std.proofs.Common.{◌≡◌, ◌∙◌, ◌⊎◌, inl, inr, ℕ, ◌+◌, ◌≤◌, List, [], ◌∷◌, ◌++◌, length, take, slice_get, Some, sym, ap, subst, arith}
 use Rattle.std.proofs.lemmas.List.{length-append, append-nil, take_all}
 use Rattle.std.proofs.lemmas.Option.{slice_get_within}
-use Rattle.fp_base.proofs.Lists.{take_next}
+use Rattle.fp_base.proofs.Lists.{take_next, no_item}
 use Rattle.fp_base.proofs.Spots.{get_push}
 use Rattle.fp_components.specs.Resolved.{AreEach}
-
-no_item : {A B : Type 0} (k : ℕ) (x : A) → slice_get [] k ≡ Some x → B
-no_item k x e = absurd (cc)
 
 module _ {A B : Type 0} (holds : ℕ → A → B → Type 0) where
   pub each_none : (ys : List B) → ys ≡ [] → AreEach holds [] ys

@@ -1,9 +1,8 @@
 -- The ids that are at hand, and the members one after another.
-use Rattle.std.proofs.Common.{◌≡◌, ℕ, zero, suc, ◌+◌, ◌<◌, ◌≤◌, List, [], ◌∷◌, ◌++◌, length, take, drop, flat_map, slice_get, Some, sym, ap, subst}
+use Rattle.std.proofs.Common.{◌≡◌, ℕ, ◌+◌, ◌<◌, ◌≤◌, List, [], ◌∷◌, ◌++◌, length, take, flat_map, slice_get, Some, sym, ap, subst}
 use Rattle.std.proofs.lemmas.List.{take_all}
 use Rattle.std.proofs.lemmas.Option.{slice_get_within}
 use Rattle.fp_base.proofs.Lists.{take_next}
-use Rattle.fp_base.proofs.Options.{same_some}
 use Rattle.fp_base.proofs.Spots.{item_below}
 use Rattle.fp_type_sizes.specs.declared.written.WrittenType.{WrittenType}
 use Rattle.fp_written_parts.specs.declared.member.WrittenMember.{WrittenMember}
@@ -36,11 +35,6 @@ ids_known ws members ids are whole = record {
 }
 
 -- ---- members one after another
-
-pub split_here : {A : Type 0} (xs : List A) (k : ℕ) (x : A) → slice_get xs k ≡ Some x → xs ≡ take k xs ++ x ∷ drop (suc k) xs
-split_here [] k x e = absurd (cc)
-split_here (y ∷ xs) zero x e = ap (λ z. z ∷ xs) (same_some e)
-split_here (y ∷ xs) (suc k) x e = ap (λ zs. y ∷ zs) (split_here xs k x e)
 
 module _ (ws : List WrittenType) (members : List WrittenMember) where
   pub listed_none : (parts : Parts) → parts ≡ nothing_listed → AreListed ws members [] parts

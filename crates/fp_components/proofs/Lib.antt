@@ -6,7 +6,7 @@ mod Matched
 mod Noted
 mod OneComponents
 mod OnePorts
-mod Pieces
+pub mod Pieces
 mod Queued
 mod Roles
 mod Valued

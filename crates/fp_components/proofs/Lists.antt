@@ -1,16 +1,9 @@
 -- Two lists that stand beside one list in the same way are one.
-use Rattle.std.proofs.Common.{◌≡◌, ℕ, suc, ◌<◌, ℤ, pos, List, [], ◌∷◌, length, slice_get, Option, Some, None, refl, sym, ap, ◌∙◌, arith}
+use Rattle.std.proofs.Common.{◌≡◌, ℕ, ◌<◌, ℤ, List, slice_get, Option, Some, None, sym, ◌∙◌, arith}
 use Rattle.fp_base.proofs.Options.{same_some}
 use Rattle.fp_base.proofs.Spots.{item_below}
-use Rattle.fp_base.proofs.Lists.{get_within}
+use Rattle.fp_base.proofs.Lists.{get_within, same_items}
 use Rattle.fp_components.specs.Resolved.{AreEach}
-
-pub same_items : {A : Type 0} (ys zs : List A) → length ys ≡ length zs → ((k : ℕ) (y z : A) → slice_get ys k ≡ Some y → slice_get zs k ≡ Some z → y ≡ z) → ys ≡ zs
-same_items [] [] e h = refl
-same_items [] (z ∷ zs) e h = absurd (omega (arith, e))
-same_items (y ∷ ys) [] e h = absurd (omega (arith, e))
-same_items {A = A} (y ∷ ys) (z ∷ zs) e h =
-    ap (λ (x : A). x ∷ ys) (h 0 y z refl refl) ∙ ap (λ (xs : List A). z ∷ xs) (same_items ys zs (omega (arith, e)) (λ k a b p q. h (suc k) a b p q))
 
 pub each_same : {A B : Type 0} (is : ℕ → A → B → Type 0) (xs : List A) (ys zs : List B) → ((k : ℕ) (x : A) (y z : B) → slice_get xs k ≡ Some x → is k x y → is k x z → y ≡ z)
     → AreEach is xs ys → AreEach is xs zs → ys ≡ zs
@@ -19,6 +12,3 @@ each_same is xs ys zs one h k =
     let low = get_within ys n y at in
     let x = item_below xs n (let long = h.each in omega (arith, low, long)) in
     one n x.0 y z x.1 (h.at n x.0 y x.1 at) (k.at n x.0 z x.1 there))
-
-pub pos_same : (m n : ℕ) → pos m ≡ pos n → m ≡ n
-pos_same m n e = cc

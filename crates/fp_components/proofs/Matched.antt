@@ -1,11 +1,10 @@
 -- Matches one after another, and the positions of their ports.
-use Rattle.std.proofs.Common.{◌≡◌, ◌∙◌, ℕ, zero, suc, ◌+◌, ◌≤◌, Bool, true, false, List, [], ◌∷◌, ◌++◌, length, take, flat_map, slice_get, Option, Some, None, is_some, refl, sym, ap}
+use Rattle.std.proofs.Common.{◌≡◌, ◌∙◌, ℕ, zero, suc, ◌+◌, ◌≤◌, true, List, [], ◌∷◌, ◌++◌, length, take, flat_map, slice_get, Option, Some, None, is_some, sym, ap}
 use Rattle.std.specs.Prelude.{position, OnOk, Result}
-use Rattle.std.specs.Str.{bytes_eq}
 use Rattle.std.proofs.lemmas.Grind.{flat_map-append}
 use Rattle.std.proofs.lemmas.List.{append-nil, take_all}
-use Rattle.std.proofs.lemmas.Slice.Eq.{bytes_eq-Decides}
 use Rattle.fp_base.proofs.Lists.{take_next}
+use Rattle.fp_base.proofs.Options.{on_ok_then}
 use Rattle.fp_tables.proofs.Firsts.{placed_somewhere}
 use Rattle.fp_written_parts.specs.declared.member.WrittenMatch.{WrittenMatch}
 use Rattle.fp_written_parts.specs.declared.member.WrittenMember.{WrittenMember}
@@ -16,7 +15,6 @@ use Rattle.fp_components.specs.Listing.{AreWholeMatches}
 use Rattle.fp_components.specs.Resolved.{AreEach, IsMatch, match_in}
 use Rattle.fp_components.specs.Whole.{IsWholeMatch}
 use Rattle.fp_components.proofs.Each.{each_push, each_same}
-use Rattle.fp_components.proofs.Noted.{on_ok_then}
 
 module _ (all : List WrittenPort) where
   pub one_whole : (members : List WrittenMember) (k : ℕ) (m : WrittenMember) → slice_get members k ≡ Some m → AreWholeMatches all members → AreWholeMatches all (m ∷ [])
@@ -56,17 +54,3 @@ module _ (all : List WrittenPort) where
       (λ e. each_same (λ k. IsMatch all) (before ++ d ∷ []) (before ++ match_in m) more
       (ap (λ (x : WrittenMatch). before ++ x ∷ []) same ∙ sym (ap (λ (x : WrittenMember). before ++ match_in x) is))
       (each_push (λ k. IsMatch all) before pairs more d pair e (clause (whole zero d (ap Some (is ∙ ap member.Match (sym same))))) h)) pushed
-
-pub no_list : {A B : Type 0} {x : A} → None ≡ Some x → B
-no_list e = absurd (cc)
-
--- ---- the first port of a name
-
-pub turned : (xs ys : List ℕ) → bytes_eq xs ys ≡ bytes_eq ys xs
-turned xs ys = go (bytes_eq xs ys) (bytes_eq ys xs) refl refl
-  where
-    go : (a b : Bool) → bytes_eq xs ys ≡ a → bytes_eq ys xs ≡ b → a ≡ b
-    go true true e f = refl
-    go false false e f = refl
-    go true false e f = absurd (cc ((bytes_eq-Decides ys xs).1 (sym ((bytes_eq-Decides xs ys).0 e))))
-    go false true e f = absurd (cc ((bytes_eq-Decides xs ys).1 (sym ((bytes_eq-Decides ys xs).0 f))))

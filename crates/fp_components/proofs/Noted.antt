@@ -1,8 +1,10 @@
 -- The lists of a component with one member more.
 use Rattle.std.proofs.Common.{◌≡◌, ◌∙◌, ℕ, suc, ◌+◌, List, [], ◌∷◌, ◌++◌, length, flat_map, slice_get, Some, refl, sym, ap, subst, arith, append_assoc}
-use Rattle.std.specs.Prelude.{OnOk, Result, Ok, Err}
-use Rattle.std.proofs.lemmas.List.{length-append, append-nil}
+use Rattle.std.specs.Prelude.{OnOk, Result}
+use Rattle.std.proofs.lemmas.List.{length-append}
 use Rattle.std.proofs.lemmas.Grind.{flat_map-append}
+use Rattle.fp_base.proofs.Options.{on_ok_then}
+use Rattle.fp_base.proofs.Mapped.{flat_last}
 use Rattle.fp_tables.specs.declared.component.Command.{Command}
 use Rattle.fp_tables.specs.declared.component.Event.{Event}
 use Rattle.fp_tables.specs.declared.component.Channel.{Channel}
@@ -25,14 +27,7 @@ use Rattle.fp_components.specs.Resolved.{AreEach, CommandHere, IsChannel, IsComm
 use Rattle.fp_components.specs.Whole.{AreWholeLimits, IsWholeCommand, IsWholeEvent, IsWholeMember, IsWholeParam, IsWholeQueue}
 use Rattle.fp_components.proofs.Each.{each_same, still}
 
-pub on_ok_then : {T E : Type 0} (r : Result T E) (P Q : Type 0) → (P → Q) → OnOk r P → OnOk r Q
-on_ok_then (Ok x) P Q then h = then h
-on_ok_then (Err e) P Q then h = tt
-
 -- ---- flat maps
-
-behind_one : {A B : Type 0} (f : A → List B) (before : List A) (m : A) → flat_map f (before ++ m ∷ []) ≡ flat_map f before ++ f m
-behind_one {B = B} f before m = flat_map-append f before (m ∷ []) ∙ ap (λ (ys : List B). flat_map f before ++ ys) (append-nil (f m))
 
 behind_at : {B : Type 0} (xs : List B) (y : B) (ys : List B) → slice_get (xs ++ y ∷ ys) (length xs) ≡ Some y
 behind_at [] y ys = refl
@@ -136,10 +131,10 @@ module _ (ws : List WrittenType) (members before : List WrittenMember) where
       → AreListed ws members (before ++ m ∷ []) parts
   next m parts commands events channels params machines = record {
     commands = each_same _ _ _ parts.commands (sym (commands_next m)) commands;
-    events = each_same _ _ _ parts.events (sym (behind_one event_in before m)) events;
-    channels = each_same _ _ _ parts.channels (sym (behind_one channel_in before m)) channels;
-    params = each_same _ _ _ parts.params (sym (behind_one param_in before m)) params;
-    machines = each_same _ _ _ parts.machines (sym (behind_one running_in before m)) machines;
+    events = each_same _ _ _ parts.events (sym (flat_last event_in before m)) events;
+    channels = each_same _ _ _ parts.channels (sym (flat_last channel_in before m)) channels;
+    params = each_same _ _ _ parts.params (sym (flat_last param_in before m)) params;
+    machines = each_same _ _ _ parts.machines (sym (flat_last running_in before m)) machines;
   }
 
   -- a member that is of none of these kinds

@@ -1,6 +1,7 @@
 -- What is written of a port comes to one port.
 use Rattle.std.proofs.Common.{◌≡◌, ℕ, ℤ, pos, List, [], Option, Some, None, slice_get, refl, sym, ap, ◌∙◌}
 use Rattle.fp_base.proofs.Options.{one_some, same_some}
+use Rattle.fp_base.proofs.Numbers.{pos_same}
 use Rattle.fp_tables.specs.declared.component.Full.{Full}
 use Rattle.fp_tables.specs.declared.component.Port.{Port}
 use Rattle.fp_tables.specs.declared.component.Role.{Role}
@@ -15,7 +16,6 @@ use Rattle.fp_written_parts.specs.declared.port.WrittenPortDef.{WrittenPortDef}
 use Rattle.fp_written_parts.specs.declared.port.WrittenRole.{WrittenRole}
 use Rattle.fp_written_parts.specs.declared.port.WrittenRole.TheVariants.{AsyncInput, SyncInput, GuardedInput, Output, Special, Internal}
 use Rattle.fp_components.specs.Resolved.{AreDefined, ArePortFormals, IsLater, IsNumber, IsRole, PortIs, formals_of}
-use Rattle.fp_components.proofs.Lists.{pos_same}
 
 pub number_same : (implied : ℤ) (given : Option Given) (m n : ℤ) → IsNumber implied given m → IsNumber implied given n → m ≡ n
 number_same implied None m n h k = h ∙ sym k

@@ -8,8 +8,6 @@ use Rattle.fp_tree.specs.declared.dictionary.Severity.{Severity}
 use Rattle.fp_tree.specs.declared.dictionary.Severity.TheVariants.{ActivityHigh, ActivityLow, Command as Commanded, Diagnostic, Fatal, WarningHigh, WarningLow}
 use Rattle.fp_tree.specs.declared.dictionary.Update.{Update}
 use Rattle.fp_tree.specs.declared.dictionary.Update.TheVariants.{OnChange}
-use Rattle.fp_tree.specs.declared.dictionary.Color.{Color}
-use Rattle.fp_tree.specs.declared.dictionary.Color.TheVariants.{Yellow, Orange, Red}
 use Rattle.fp_tables.specs.declared.kind.Kind.{Kind}
 use Rattle.fp_tables.specs.declared.kind.Formal.{Formal}
 use Rattle.fp_tables.specs.declared.kind.PortDef.{PortDef}
@@ -54,6 +52,7 @@ use Rattle.fp_component_rules.specs.Firsts.{is_named}
 use Rattle.fp_dictdefs.specs.declared.listed.Listed.{Listed}
 use Rattle.fp_dictdefs.specs.Ids.{IsGivenOr, HasId}
 use Rattle.fp_dictdefs.specs.Listed.{set_name, save_name, commands_in, events_in, channels_in, params_in}
+use Rattle.fp_dictdefs.specs.Tested.{color_number}
 
 -- one list is as long as another, and it holds at each position of the two that stand there
 pub record AreEach {A B : Type 0} (is : ℕ → A → B → Type 0) (xs : List A) (ys : List B) : Type 0 where
@@ -199,18 +198,13 @@ pub record IsEvent (listed : List Listed) (k : ℕ) (e : WrittenEvent) (d : Even
 
 -- ---- telemetry channels
 
-abbrev pub color_code : Color → ℕ
-color_code Yellow = 0
-color_code Orange = 1
-color_code Red = 2
-
 abbrev pub is_on_change : Option Update → Bool
 is_on_change (Some OnChange) = true
 is_on_change _ = false
 
 pub record IsLimit (l : WrittenLimit) (d : Limit) : Type 0 where
   pub high : d.high ≡ l.high
-  pub color : d.color ≡ color_code l.color
+  pub color : d.color ≡ color_number l.color
   pub value : (n : ℤ) × (l.value.number ≡ Some n) × (d.value ≡ Int n)
 
 pub record IsChannel (listed : List Listed) (k : ℕ) (t : WrittenChannel) (d : Channel) : Type 0 where

@@ -22,6 +22,7 @@ use Rattle.fp_written_parts.specs.declared.member.WrittenMember.TheVariants as m
 use Rattle.fp_written_parts.specs.declared.member.WrittenInterface.{WrittenInterface}
 use Rattle.fp_written_parts.specs.declared.member.WrittenComponent.{WrittenComponent}
 use Rattle.fp_written_parts.specs.Giving.{GiveAll}
+use Rattle.fp_written_parts.specs.Numbered.{HasNumber}
 use Rattle.fp_component_rules.specs.Firsts.{has_port}
 use Rattle.fp_component_rules.specs.Lists.{AreNamedOnce}
 use Rattle.fp_dictdefs.specs.declared.listed.Listed.{Listed}
@@ -31,9 +32,6 @@ use Rattle.fp_dictdefs.specs.Listed.{commands_in, events_in, channels_in, params
 use Rattle.fp_components.specs.Resolved.{IsDefault}
 
 -- ---- numbers
-
-abbrev pub HasNumber : Given → Type 0
-HasNumber g = (n : ℤ) × (g.number ≡ Some n)
 
 -- one that is written has a number from the least to the greatest
 abbrev pub IsGivenWithin : ℤ → ℤ → Option Given → Type 0

@@ -1,7 +1,9 @@
 ghost use Rattle.std.specs.Prelude.{◌≡◌, ℕ, List, IfOk};
+ghost use Rattle.fp_written_parts.specs.Numbered.{HasNumber};
 ghost use Rattle.fp_dictdefs.specs.declared.listed.Listed.{Listed};
-ghost use Rattle.fp_components.specs.Resolved.{AreEach, IsChannel, IsId, IsLimit, color_code, is_on_change};
-ghost use Rattle.fp_components.specs.Whole.{AreWholeLimits, HasNumber};
+ghost use Rattle.fp_dictdefs.specs.Tested.{color_number};
+ghost use Rattle.fp_components.specs.Resolved.{AreEach, IsChannel, IsId, IsLimit, is_on_change};
+ghost use Rattle.fp_components.specs.Whole.{AreWholeLimits};
 
 use crate::numbers::number_in;
 use fp_base::{NoMemory, Row, Text, Value};
@@ -69,7 +71,7 @@ fn limit_of(limit: &WrittenLimit) -> Limit
 }
 
 fn color_code(color: Color) -> u8
-    ensures { result ≡ color_code color }
+    ensures { result ≡ color_number color }
 {
     match color {
         Color::Yellow => 0,

@@ -80,8 +80,8 @@ fn component_at(
         → IsWhole interfaces definitions.now types.now.written.now component.now → IfOk result (IsComponent interfaces definitions.now types.now.written.now component.now) }
 {
     match list_at(lists, at) {
-        Some(ports) => component_of(alloc, definitions, types, ports.ports(), component),
-        None => component_of(alloc, definitions, types, &[], component),
+        Some(ports) => component_from(alloc, definitions, types, ports.ports(), component),
+        None => component_from(alloc, definitions, types, &[], component),
     }
 }
 
@@ -91,7 +91,7 @@ fn list_at<'b, 'a>(lists: &'b [FirstPorts<'a>], at: usize) -> Option<&'b FirstPo
     lists.get(at)
 }
 
-fn component_of(
+fn component_from(
     alloc: Global,
     definitions: &[WrittenPortDef],
     types: &Types<'_>,

@@ -2,7 +2,7 @@
 use Rattle.std.proofs.Common.{◌≡◌, List, map, length, slice_get, Option, Some, None, inl, inr, refl, sym, ap, subst, ◌∙◌}
 use Rattle.std.proofs.lemmas.List.{length-map}
 use Rattle.std.proofs.lemmas.Option.{slice_get-map}
-use Rattle.fp_base.proofs.Options.{mapped_some}
+use Rattle.fp_base.proofs.Options.{mapped_some, no_some}
 use Rattle.fp_base.specs.declared.value.Value.{Value}
 use Rattle.fp_tree.specs.declared.source.Source.{Source}
 use Rattle.fp_meaning.specs.Origins.{Placed}
@@ -10,11 +10,8 @@ use Rattle.fp_meaning.specs.Values.{opened, Val, IsValue}
 use Rattle.fp_consts.specs.Answered.{StandsFor, StandFor, or_opaque}
 use Rattle.fp_consts.specs.Marked.{AreValues}
 
-not_some : {A : Type 0} {x : A} → None ≡ Some x → ⊥
-not_some e = cc
-
 one_stands : (source : Source) (p : Placed) (o : Option Value) (v : Value) → IsValue source p.scope (opened p.expression) o → or_opaque o ≡ v → StandsFor source p v
-one_stands source p None v is e = inr (sym e, λ w h. not_some (is.only w h))
+one_stands source p None v is e = inr (sym e, λ w h. no_some (is.only w h))
 one_stands source p (Some u) v is e = inl (subst (λ (x : Value). Val source p.scope (opened p.expression) x) e (is.holds u refl))
 
 pub all_stand : (source : Source) (ps : List Placed) (os : List (Option Value)) (vs : List Value) → AreValues source ps os → vs ≡ map or_opaque os → StandFor source ps vs

@@ -1,7 +1,6 @@
 -- What is found of an expression, by the form that stands in the tree.
-use Rattle.std.proofs.Common.{◌≡◌, ℕ, ◌+◌, ℤ, Bool, List, [], ◌∷◌, ◌++◌, length, flat_map, slice_get, take, Option, Some, None, option_map, true, ◌≤◌, sym, ap, subst, ◌∙◌}
+use Rattle.std.proofs.Common.{◌≡◌, ℕ, ◌+◌, ℤ, Bool, List, [], ◌∷◌, ◌++◌, length, flat_map, slice_get, take, Option, Some, None, true, ◌≤◌, sym, ap, subst, ◌∙◌}
 use Rattle.std.proofs.lemmas.List.{take_all}
-use Rattle.std.proofs.lemmas.Option.{slice_get-map}
 use Rattle.fp_base.specs.declared.rule.Rule.TheVariants.{FloatUsed}
 use Rattle.fp_base.specs.declared.value.Value.{Int, Bool as Truly, Text as Words, Array as Listed, Struct as Structured}
 use Rattle.fp_base.specs.declared.place.Place.{Place}
@@ -10,27 +9,25 @@ use Rattle.fp_tree.specs.declared.name.Qual.{Qual}
 use Rattle.fp_tree.specs.declared.expression.Operator.{Operator}
 use Rattle.fp_tree.specs.declared.expression.Expr.{Expr}
 use Rattle.fp_tree.specs.declared.expression.Assignment.{Assignment}
-use Rattle.fp_tree.specs.declared.expression.Form.{Form, out-Form, roll-Form, out-roll-Form}
+use Rattle.fp_tree.specs.declared.expression.Form.{Form}
 use Rattle.fp_tree.specs.declared.expression.Form.TheOpen as form
 use Rattle.fp_tree.specs.declared.expression.Form.TheVariants.{Number, rolls-Number, Float, rolls-Float, Text, rolls-Text, Truth, rolls-Truth, Use, rolls-Use, Minus, rolls-Minus, Parentheses, rolls-Parentheses, Binary, rolls-Binary, Array, rolls-Array, Struct, rolls-Struct}
 use Rattle.fp_meaning.specs.declared.group.Group.TheVariants as group
 use Rattle.fp_meaning.specs.declared.names.Mention.{Mention}
 use Rattle.fp_base.specs.Least.{broken_at}
 use Rattle.fp_meaning.specs.Names.{Path, mentioned, in_form, in_expression}
-use Rattle.fp_meaning.specs.Values.{Opened, opened, parts_with, values_in}
+use Rattle.fp_meaning.specs.Values.{parts_with, values_in}
+use Rattle.fp_meaning.proofs.Opened.{opened_by}
+use Rattle.fp_meaning.proofs.UseWalks.{whole_uses, number_uses, float_uses, text_uses, truth_uses, use_uses, minus_uses, parentheses_uses, binary_uses, array_uses, struct_uses}
 use Rattle.fp_consts.specs.declared.measured.Measured.{Measured}
 use Rattle.fp_consts.specs.declared.found.Examination.{Examination}
 use Rattle.fp_consts.specs.declared.gathered.Gathered.{Gathered}
 use Rattle.fp_consts.specs.declared.gathered.Whole.{Whole}
 use Rattle.fp_consts.specs.Examined.{AreGiven, IsFound, IsGathered, IsNext, IsSized, UsesNext, MinusFound, BinaryFound, leaf_of, found_of, Examines, ExaminesAll, ExaminesForm}
-use Rattle.fp_consts.proofs.Walks.{whole_uses, number_uses, float_uses, text_uses, truth_uses, use_uses, minus_uses, parentheses_uses, binary_uses, array_uses, struct_uses}
 use Rattle.fp_consts.proofs.Given.{given_split}
 use Rattle.fp_consts.proofs.Produced.{number_found, text_found, truth_found, float_found, use_found, minus_found, parentheses_found, binary_found}
 use Rattle.fp_consts.proofs.Gathering.{gathered_none, gathered_step}
 use Rattle.fp_consts.proofs.Sized.{array_whole, struct_whole, whole_found}
-
-pub opened_by : (e : Expr) (f : Form) (s : Opened) → e.form ≡ f → f ≡ roll-Form s → opened e ≡ s
-opened_by e f s is rolls = ap out-Form (is ∙ rolls) ∙ out-roll-Form s
 
 pub uses_by : (scope : Path) (e : Expr) (f : Form) (uses : List Mention) → e.form ≡ f → in_form scope f ≡ uses → in_expression scope e ≡ uses
 uses_by scope e f uses is walk = whole_uses scope e ∙ ap (in_form scope) is ∙ walk
@@ -133,6 +130,3 @@ module _ (table : List (Option Measured)) (numbers : List ℕ) (es : List Expr) 
 
   pub gathers_all : (k : ℕ) (g : Gathered) → length es ≤ k → Gathers table numbers es k from g → ExaminesAll table numbers es from g
   gathers_all k g past before source scope given = subst (λ (xs : List Expr). IsGathered source scope xs from g) (take_all k es past) (before source scope given)
-
-pub member_at : (members : List Assignment) (k : ℕ) (m : Assignment) → slice_get members k ≡ Some m → slice_get (values_in members) k ≡ Some m.value
-member_at members k m at = slice_get-map (λ (x : Assignment). x.value) members k ∙ ap (λ (o : Option Assignment). option_map (λ x. x.value) o) at

@@ -1,5 +1,5 @@
 -- Counting the uses in expressions, and what stands where.
-use Rattle.std.proofs.Common.{◌≡◌, ℕ, suc, ◌+◌, ◌≤◌, min, max, List, [], ◌∷◌, ◌++◌, length, flat_map, slice_get, take, drop, drop-cons, Some, refl, sym, ap, subst, ◌∙◌, arith, length-append, append_assoc}
+use Rattle.std.proofs.Common.{◌≡◌, ℕ, suc, ◌+◌, ◌≤◌, min, max, List, [], ◌∷◌, ◌++◌, length, flat_map, slice_get, take, drop, drop-cons, Some, sym, ap, subst, ◌∙◌, arith, length-append, append_assoc}
 use Rattle.std.proofs.lemmas.List.{append-nil, take_all}
 use Rattle.std.proofs.lemmas.Grind.{flat_map-append}
 use Rattle.std.proofs.lemmas.Option.{slice_get_within, get_or_from_slice_get}
@@ -15,9 +15,9 @@ use Rattle.fp_meaning.specs.declared.names.Mention.{Mention}
 use Rattle.fp_meaning.specs.Names.{Path, mentioned, in_form, in_expression}
 use Rattle.fp_meaning.specs.Values.{values_in}
 use Rattle.fp_meaning.specs.declared.item.Item.{Item}
+use Rattle.fp_meaning.proofs.UseWalks.{use_uses, minus_uses, parentheses_uses, binary_uses, array_uses, struct_uses}
 use Rattle.fp_consts.specs.declared.laying.Laid.{Laid}
 use Rattle.fp_consts.specs.Laid.{past, IsPast, next_of, firsts_of, firsts_from, spots_of, spots_from, IsLaidWith}
-use Rattle.fp_consts.proofs.Walks.{use_uses, minus_uses, parentheses_uses, binary_uses, array_uses, struct_uses}
 use Rattle.fp_consts.proofs.Arms.{uses_by}
 
 past_none : (limit next : ℕ) → next ≡ past 0 limit next
@@ -82,13 +82,6 @@ module _ (es : List Expr) (limit next : ℕ) where
 
   pub past_last : (k reached : ℕ) → length es ≤ k → PastAll (take k es) limit next reached → PastAll es limit next reached
   past_last k reached end before = subst (λ (xs : List Expr). PastAll xs limit next reached) (take_all k es end) before
-
-values_length : (members : List Assignment) → length (values_in members) ≡ length members
-values_length [] = refl
-values_length (m ∷ ms) = ap (λ (n : ℕ). suc n) (values_length ms)
-
-pub values_past : (members : List Assignment) (k : ℕ) → length members ≤ k → length (values_in members) ≤ k
-values_past members k end = let same = values_length members in omega arith
 
 -- the items laid out so far, and the rest
 pub record IsLaidFirst (limit : ℕ) (items : List Item) (k : ℕ) (laid : Laid) : Type 0 where

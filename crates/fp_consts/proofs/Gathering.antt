@@ -12,6 +12,7 @@ use Rattle.fp_meaning.specs.Names.{Path, in_expression}
 use Rattle.fp_meaning.specs.Values.{opened, leaves, levels, deepest, Val, Vals, none, more}
 use Rattle.fp_meaning.specs.ConstantFaults.{BrokenIn}
 use Rattle.fp_base.proofs.Calculus.{least_none, least_same, least_along, least_either}
+use Rattle.fp_base.proofs.Numbers.{max_none}
 use Rattle.fp_consts.specs.declared.measured.Measured.{Measured}
 use Rattle.fp_consts.specs.declared.found.Examination.{Examination}
 use Rattle.fp_consts.specs.declared.gathered.Gathered.{Gathered}
@@ -28,9 +29,6 @@ vals_before : {source : Source} {scope : Path} (es : List Expr) (e : Expr) {ws :
     → (vs : List Value) × (v : Value) × Vals source scope es vs × Val source scope (opened e) v
 vals_before [] e (more {v = v} h none) = ([], v, none, h)
 vals_before (x ∷ es) e (more {v = w} h rest) = let t = vals_before es e rest in (w ∷ t.0, t.1, more h t.2, t.3)
-
-max_none : (n : ℕ) → max n 0 ≡ max 0 n
-max_none n = omega arith
 
 sum_more : (vs : List Value) (v : Value) → sum (map leaves (vs ++ v ∷ [])) ≡ sum (map leaves vs) + leaves v
 sum_more vs v =

@@ -10,8 +10,8 @@ use Rattle.fp_meaning.specs.declared.group.Group.TheVariants as group
 use Rattle.fp_meaning.specs.declared.names.Mention.{Mention}
 use Rattle.fp_meaning.specs.Names.{Path, in_form, in_expression}
 use Rattle.fp_meaning.specs.Values.{values_in}
+use Rattle.fp_meaning.proofs.UseWalks.{whole_uses}
 use Rattle.fp_consts.proofs.Rolled.{rolled_uses}
-use Rattle.fp_consts.proofs.Walks.{whole_uses}
 
 abbrev pub AreValueNames : List Mention → Type 0
 AreValueNames ms = (i : ℕ) (m : Mention) → slice_get ms i ≡ Some m → m.group ≡ group.Value

@@ -1,7 +1,6 @@
 mod Operators
 mod Wholes
 pub mod Sizes
-mod Walks
 mod Given
 pub mod Measures
 mod Produced

@@ -8,7 +8,7 @@ use Rattle.fp_meaning.specs.declared.group.Group.TheVariants as group
 use Rattle.fp_meaning.specs.declared.names.Mention.{Mention}
 use Rattle.fp_meaning.specs.Names.{Path, mentioned, in_form, in_expression}
 use Rattle.fp_meaning.specs.Values.{Opened, opened, values_in}
-use Rattle.fp_consts.proofs.Walks.{whole_uses, number_uses, float_uses, text_uses, truth_uses, use_uses, minus_uses, parentheses_uses, binary_uses, array_uses, struct_uses}
+use Rattle.fp_meaning.proofs.UseWalks.{whole_uses, number_uses, float_uses, text_uses, truth_uses, use_uses, minus_uses, parentheses_uses, binary_uses, array_uses, struct_uses}
 
 -- the uses in an opened expression
 abbrev pub open_uses : Path → Opened → List Mention

@@ -21,6 +21,7 @@ use Rattle.fp_consts.specs.Tabled.{IsLaidOut, IsDefined, AreExact, AreExactFirst
 use Rattle.fp_consts.proofs.Grounded.{none_on_cycle}
 use Rattle.fp_consts.proofs.Measures.{none_measured}
 use Rattle.fp_base.proofs.Spots.{item_below, get_set_same, get_set_other, same_or_other, before_or_not}
+use Rattle.fp_base.proofs.Numbers.{suc_is, get_replicate, none_before}
 use Rattle.fp_graph.proofs.Places.{get_right}
 use Rattle.fp_consts.proofs.Valued.{settled_exact}
 
@@ -106,12 +107,6 @@ within_all : (p : Item) (ps : List Item) (from limit : ℕ) → from + length (u
     → (from + length (uses_of p) ≤ limit) × (from + length (uses_of p) + length (flat_map uses_of ps) ≤ limit)
 within_all p ps from limit h = let long = length-append (uses_of p) (flat_map uses_of ps) in (omega arith, omega arith)
 
-none_before : (n : ℕ) → n ≡ 0 + n
-none_before n = omega arith
-
-one_before : (n : ℕ) → suc n ≡ 1 + n
-one_before n = omega arith
-
 alone : {x y : Origin} → Some x ≡ Some y → x ∷ [] ≡ y ∷ []
 alone e = cc
 
@@ -128,23 +123,17 @@ spot_of (variant.Defined s ∷ ps) index limit from zero origin fits at =
     here (variant.Defined s) ps index limit from origin (within_all (variant.Defined s) ps from limit fits).0 refl refl (alone at)
 spot_of (variant.Defined s ∷ ps) index limit from (suc number) origin fits at =
     let t = within_all (variant.Defined s) ps from limit fits in
-    further (variant.Defined s) ps index limit from (suc number) number origin t.0 refl refl (one_before number) (spot_of ps (suc index) limit (from + length (uses_of (variant.Defined s))) number origin t.1 at)
+    further (variant.Defined s) ps index limit from (suc number) number origin t.0 refl refl (suc_is number) (spot_of ps (suc index) limit (from + length (uses_of (variant.Defined s))) number origin t.1 at)
 spot_of (variant.Enumerated e ∷ ps) index limit from zero origin fits at =
     here (variant.Enumerated e) ps index limit from origin (within_all (variant.Enumerated e) ps from limit fits).0 refl refl (alone at)
 spot_of (variant.Enumerated e ∷ ps) index limit from (suc number) origin fits at =
     let t = within_all (variant.Enumerated e) ps from limit fits in
-    further (variant.Enumerated e) ps index limit from (suc number) number origin t.0 refl refl (one_before number) (spot_of ps (suc index) limit (from + length (uses_of (variant.Enumerated e))) number origin t.1 at)
+    further (variant.Enumerated e) ps index limit from (suc number) number origin t.0 refl refl (suc_is number) (spot_of ps (suc index) limit (from + length (uses_of (variant.Enumerated e))) number origin t.1 at)
 spot_of (variant.Declared d ∷ ps) index limit from zero origin fits at =
     here (variant.Declared d) ps index limit from origin (within_all (variant.Declared d) ps from limit fits).0 refl refl (alone at)
 spot_of (variant.Declared d ∷ ps) index limit from (suc number) origin fits at =
     let t = within_all (variant.Declared d) ps from limit fits in
-    further (variant.Declared d) ps index limit from (suc number) number origin t.0 refl refl (one_before number) (spot_of ps (suc index) limit (from + length (uses_of (variant.Declared d))) number origin t.1 at)
-
--- the uses of an item that is a definition have it as their owner
-get_replicate : (n x k : ℕ) → k < n → slice_get (replicate n x) k ≡ Some x
-get_replicate zero x k h = absurd (omega arith)
-get_replicate (suc n) x zero h = refl
-get_replicate (suc n) x (suc k) h = get_replicate n x k (omega arith)
+    further (variant.Declared d) ps index limit from (suc number) number origin t.0 refl refl (suc_is number) (spot_of ps (suc index) limit (from + length (uses_of (variant.Declared d))) number origin t.1 at)
 
 owns_itself : (number : ℕ) (p : Item) (origin : Origin) → origins_of p ≡ origin ∷ [] → owner_of number p ≡ number
 owns_itself number (variant.Defined s) origin gives = refl

@@ -1,11 +1,7 @@
 -- What `evaluate` answers.
 use Rattle.std.specs.Prelude.{◌≡◌, ℕ, ◌⊎◌, List, length, slice_get, Option, Some, unwrap_or}
-use Rattle.fp_base.specs.declared.refusal.Refusal.{Refusal}
-use Rattle.fp_base.specs.declared.refusal.Stop.{Stop}
-use Rattle.fp_base.specs.declared.refusal.Stop.TheVariants.{Broken, NoMemory}
 use Rattle.fp_base.specs.declared.value.Value.{Value, Opaque}
 use Rattle.fp_tree.specs.declared.source.Source.{Source}
-use Rattle.fp_base.specs.Least.{IsLeast}
 use Rattle.fp_meaning.specs.Origins.{Placed}
 use Rattle.fp_meaning.specs.Values.{opened, Val}
 
@@ -21,8 +17,3 @@ pub record StandFor (source : Source) (ps : List Placed) (vs : List Value) : Typ
 
 abbrev pub or_opaque : Option Value → Value
 or_opaque o = unwrap_or o Opaque
-
--- a stop names the least of what is broken; for want of memory it may come at any time
-abbrev pub IsStop : (Refusal → Type 0) → Stop → Type 0
-IsStop broken (Broken f) = IsLeast broken (Some f)
-IsStop broken NoMemory = Unit {0}

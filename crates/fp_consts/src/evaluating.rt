@@ -1,10 +1,10 @@
 ghost use Rattle.std.specs.Prelude.{◌≡◌, map, IfErr, IfOk, OnOk};
 ghost use Rattle.fp_meaning.specs.ConstantFaults.{ConstantsBroken};
-ghost use Rattle.fp_base.specs.Least.{IsLeast, IsUnbroken};
+ghost use Rattle.fp_base.specs.Least.{IsLeast, IsUnbroken, IsStop};
 ghost use Rattle.fp_meaning.specs.Meaning.{AreMeanings};
 ghost use Rattle.fp_meaning.specs.Names.{definitions, mentions};
 ghost use Rattle.fp_meaning.specs.Origins.{expressions};
-ghost use Rattle.fp_consts.specs.Answered.{IsStop, StandFor, or_opaque};
+ghost use Rattle.fp_consts.specs.Answered.{StandFor, or_opaque};
 ghost use Rattle.fp_consts.specs.Marked.{AreValues};
 
 use crate::laying::lay;

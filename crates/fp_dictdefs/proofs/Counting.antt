@@ -5,7 +5,7 @@ use Rattle.fp_base.specs.declared.refusal.Refusal.{Refusal}
 use Rattle.fp_base.specs.declared.rule.Rule.TheVariants.{IdRepeated, IdPast32Bits}
 use Rattle.fp_base.specs.Least.{broken_at, InFirst, InSome, IsLeast, lesser_of}
 use Rattle.fp_base.proofs.Calculus.{least_none, least_either, least_flag, least_along}
-use Rattle.fp_base.proofs.Elements.{least_first_none}
+use Rattle.fp_base.proofs.Elements.{least_first_none, least_next, least_of_all}
 use Rattle.fp_base.proofs.Options.{same_some}
 use Rattle.fp_written_parts.specs.declared.port.Given.{Given}
 use Rattle.fp_dictdefs.specs.declared.listed.Listed.{Listed}
@@ -13,7 +13,6 @@ use Rattle.fp_dictdefs.specs.Broken.{BrokenIdAt, IsPast, is_within}
 use Rattle.fp_dictdefs.specs.Ids.{IsGivenOr, IsImplied, HasId}
 use Rattle.fp_dictdefs.specs.Repeated.{IsRepeated}
 use Rattle.fp_dictdefs.specs.Tested.{Fits, HasRoom, Long, StandsFor, IsAfter, given_or, id_fault, is_long, is_of_32_bits, long_cmp, short}
-use Rattle.fp_dictdefs.proofs.Folding.{least_next, least_of_all}
 use Rattle.fp_dictdefs.proofs.Pairs.{long_itself, longs_equal, one_long, one_number, same_bits, stands_short}
 use Rattle.fp_dictdefs.proofs.Noting.{AreNoted, flag_same, noted_none, noted_next, repeat_told}
 

@@ -3,8 +3,10 @@ use Rattle.std.proofs.Common.{◌≡◌, Bool, true, false, cond, ◌||◌, ℕ,
 use Rattle.std.proofs.lemmas.Slice.Eq.{bytes_eq-Decides}
 use denote.Ref.{Bor}
 use Rattle.fp_base.proofs.Calculus.{least_flag, least_along, least_either, least_none}
-use Rattle.fp_base.proofs.Elements.{least_first_none, least_first_next, least_in_one}
+use Rattle.fp_base.proofs.Elements.{least_first_none, least_first_next, least_in_one, least_of_all}
 use Rattle.fp_base.proofs.Options.{same_some}
+use Rattle.fp_base.proofs.KeySets.{no_name}
+use Rattle.fp_base.specs.NameSets.{has_name}
 use Rattle.fp_base.specs.Least.{broken_at, InFirst, IsLeast, lesser_of}
 use Rattle.fp_base.specs.declared.refusal.Refusal.{Refusal}
 use Rattle.fp_base.specs.declared.rule.Rule.TheVariants.{MachineNameRepeated, ExternalMachine}
@@ -12,9 +14,6 @@ use Rattle.fp_written_parts.specs.declared.member.WrittenMember.{WrittenMember}
 use Rattle.fp_written_parts.specs.declared.member.WrittenMember.TheVariants.{Port, Import, Command, Event, Channel, Param, Match, Running}
 use Rattle.fp_written_parts.specs.declared.member.WrittenRunning.{WrittenRunning}
 use Rattle.fp_dictdefs.specs.Running.{HasInstance, InstanceBroken, InstancesBroken, instance_fault, is_external, is_instance, running_fault}
-use Rattle.fp_dictdefs.specs.Tested.{has_name}
-use Rattle.fp_dictdefs.proofs.Folding.{least_of_all}
-use Rattle.fp_dictdefs.proofs.Naming.{no_name}
 use Rattle.fp_dictdefs.proofs.Noting.{AreNoted, noted_none, noted_next, repeat_told}
 
 external_told : (externals : List Bool) (k : ℕ) (o : Option Bool) → slice_get externals k ≡ o → MatchBool (unwrap_or o false) (slice_get externals k ≡ Some true) (slice_get externals k ≡ Some true → ⊥)

@@ -5,4 +5,4 @@ mod Naming
 mod Noting
 mod Numbered
 mod Pairs
-mod Sides
+pub mod Sides

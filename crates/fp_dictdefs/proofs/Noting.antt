@@ -1,11 +1,8 @@
 -- What was noted of the parts of a list, and which are repeated among them.
-use Rattle.std.proofs.Common.{◌≡◌, Bool, true, false, cond, ◌||◌, MatchBool, ℕ, ◌+◌, ◌<◌, ◌⊎◌, inl, inr, sym, subst, ◌∙◌, arith}
-use Rattle.fp_base.proofs.Bools.{or_cases, or_left, or_right}
+use Rattle.std.proofs.Common.{◌≡◌, Bool, true, false, ◌||◌, MatchBool, ℕ, ◌+◌, ◌<◌, ◌⊎◌, inl, inr, sym, subst, ◌∙◌, arith}
+use Rattle.fp_base.proofs.Bools.{or_cases, or_left, or_right, not_both}
 use Rattle.fp_base.proofs.Spots.{below_or_at}
 use Rattle.fp_dictdefs.specs.Repeated.{IsRepeated}
-
-pub not_both : {A : Type 0} {b : Bool} → b ≡ true → b ≡ false → A
-not_both e f = absurd (cc)
 
 module _ {K : Type 0} (has : ℕ → K → Type 0) where
   -- what was noted is what the first so many have
@@ -41,10 +38,3 @@ module _ {K : Type 0} (has : ℕ → K → Type 0) where
 pub flag_same : (P Q : Type 0) → (P → Q) → (Q → P) → (b : Bool) → MatchBool b P (P → ⊥) → MatchBool b Q (Q → ⊥)
 flag_same P Q to back true h = to h
 flag_same P Q to back false h = λ q. h (back q)
-
--- what is asked for, or was there
-pub noted_more : (now asked had : Bool) → now ≡ cond asked true had → now ≡ (had || asked)
-noted_more now true true e = e
-noted_more now true false e = e
-noted_more now false true e = e
-noted_more now false false e = e

@@ -1,14 +1,16 @@
 -- Whole numbers as pairs: each has one, and pairs are told apart.
-use Rattle.std.proofs.Common.{◌≡◌, ℕ, ◌+◌, ◌-◌, ◌^◌, ◌<◌, ◌≤◌, ◌⊎◌, inl, inr, ℤ, pos, ◌+ℤ◌, ◌≤ℤ◌, ◌<ℤ◌, Bool, true, false, ◌&&◌, List, [], Ordering, Less, Equal, Greater, nat_cmp, is_eq, refl, sym, ap, subst, ◌∙◌, arith}
+use Rattle.std.proofs.Common.{◌≡◌, ℕ, ◌+◌, ◌-◌, ◌^◌, ◌<◌, ◌≤◌, ◌⊎◌, inl, inr, ℤ, pos, ◌+ℤ◌, ◌≤ℤ◌, ◌<ℤ◌, Bool, true, false, List, [], Ordering, Less, Equal, Greater, nat_cmp, is_eq, refl, sym, ap, subst, ◌∙◌, arith}
 use Rattle.std.specs.BTreeMap.{is_at}
 use Rattle.std.specs.BTreeSet.{BTreeSet, contains}
 use Rattle.std.specs.List.{list_any}
 use Rattle.std.specs.Prelude.{int_le}
-use Rattle.std.specs.Ordering.{MatchOrdering, int_cmp, ordering_then}
+use Rattle.std.specs.Ordering.{MatchOrdering, int_cmp}
 use Rattle.std.proofs.lemmas.Bool.Decides.{nat_tests}
 use Rattle.std.proofs.lemmas.Cmp.{int_ranked, ranked, int_cmp_total, nat_cmp_total, tied_itself}
 use Rattle.std.proofs.lemmas.Int.{ints}
+use Rattle.std.proofs.lemmas.Bool.{and_right}
 use Rattle.fp_base.proofs.Bools.{both, join}
+use Rattle.fp_base.proofs.Comparing.{both_equal}
 use Rattle.fp_dictdefs.specs.Broken.{is_within}
 use Rattle.fp_dictdefs.specs.Tested.{Long, StandsFor, greatest, is_of_32_bits, long_cmp}
 
@@ -16,11 +18,6 @@ pub same_pair : (a b : ℤ) (m n : ℕ) → a ≡ b → m ≡ n → ◌≡◌ {A
 same_pair a b m n e f = subst (λ (c : ℤ). ◌≡◌ {A = Long} (a, m) (c, n)) e (subst (λ (k : ℕ). ◌≡◌ {A = Long} (a, m) (a, k)) f refl)
 
 -- ---- the order
-
-both_equal : (a b : Ordering) → is_eq (ordering_then a b) ≡ (is_eq a && is_eq b)
-both_equal Less b = refl
-both_equal Equal b = refl
-both_equal Greater b = refl
 
 of_equal : (P Q R : Type 0) (o : Ordering) → MatchOrdering o P Q R → is_eq o ≡ true → Q
 of_equal P Q R Less h e = absurd cc
@@ -61,12 +58,8 @@ not_below : (k : ℕ) → 2 ^ 127 - 1 ≤ k → (b : Bool) → int_le (pos k) (p
 not_below k h true e = let low : k ≤ 2 ^ 32 - 1 = grind (arith, nat_tests) in absurd (omega (arith, low, h))
 not_below k h false e = refl
 
-and_false : (b c : Bool) → c ≡ false → (b && c) ≡ false
-and_false true c e = e
-and_false false c e = refl
-
 past : (k : ℕ) → 2 ^ 127 - 1 ≤ k → of_bits (pos k) ≡ false
-past k h = and_false (int_le (pos 0) (pos k)) (int_le (pos k) (pos (2 ^ 32 - 1))) (not_below k h (int_le (pos k) (pos (2 ^ 32 - 1))) refl)
+past k h = and_right (int_le (pos 0) (pos k)) (int_le (pos k) (pos (2 ^ 32 - 1))) (not_below k h (int_le (pos k) (pos (2 ^ 32 - 1))) refl)
 
 pub same_bits : (p : Long) (n : ℤ) → StandsFor p n → is_of_32_bits p ≡ is_within (pos 0) (pos (2 ^ 32 - 1)) n
 same_bits (a, m) n (e, l, s) = go s

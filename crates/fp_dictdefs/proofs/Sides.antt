@@ -1,24 +1,24 @@
 -- The limits of a channel, one after another.
-use Rattle.std.proofs.Common.{◌≡◌, ℕ, ◌+◌, ◌≤◌, ◌⊎◌, inl, inr, pos, Bool, true, false, cond, not, ◌||◌, MatchBool, List, length, slice_get, Option, Some, None, is_eq, refl, sym, ap, subst, ◌∙◌, arith}
+use Rattle.std.proofs.Common.{◌≡◌, ℕ, ◌+◌, ◌≤◌, ◌⊎◌, inl, inr, Bool, true, false, cond, not, ◌||◌, MatchBool, List, length, slice_get, Option, Some, None, is_eq, refl, sym, ap, subst, ◌∙◌, arith}
 use Rattle.fp_base.specs.declared.refusal.Refusal.{Refusal}
 use Rattle.fp_base.specs.declared.rule.Rule.TheVariants.{BadLimits}
 use Rattle.fp_base.specs.Least.{broken_at, InFirst, InSome, IsLeast, lesser_of}
 use Rattle.fp_base.proofs.Calculus.{least_flag, least_along}
-use Rattle.fp_base.proofs.Elements.{least_first_none}
+use Rattle.fp_base.proofs.Elements.{least_first_none, least_next, least_of_all}
 use Rattle.fp_base.proofs.Options.{same_some}
+use Rattle.fp_base.proofs.Numbers.{pos_same}
 use Rattle.fp_tree.specs.declared.dictionary.Color.{Color}
 use Rattle.fp_tree.specs.declared.dictionary.Color.TheVariants.{Yellow, Orange, Red}
 use Rattle.fp_written_parts.specs.declared.dictionary.WrittenLimit.{WrittenLimit}
 use Rattle.fp_dictdefs.specs.Broken.{BrokenAt, Side, side_of}
 use Rattle.fp_dictdefs.specs.Repeated.{HasPart, IsRepeated}
 use Rattle.fp_dictdefs.specs.Tested.{Long, color_number, key_of, limit_key, long_cmp, side_number}
-use Rattle.fp_dictdefs.proofs.Folding.{least_next, least_of_all}
 use Rattle.fp_dictdefs.proofs.Pairs.{long_itself, longs_equal}
 use Rattle.fp_dictdefs.proofs.Noting.{AreNoted, flag_same, noted_none, noted_next, repeat_told}
 
 -- ---- a key tells a side and a color
 
-colors_same : (a b : Color) → color_number a ≡ color_number b → a ≡ b
+pub colors_same : (a b : Color) → color_number a ≡ color_number b → a ≡ b
 colors_same Yellow Yellow e = refl
 colors_same Yellow Orange e = absurd (omega (arith, e))
 colors_same Yellow Red e = absurd (omega (arith, e))
@@ -34,9 +34,6 @@ highs_same true true e = refl
 highs_same true false e = absurd (omega (arith, e))
 highs_same false true e = absurd (omega (arith, e))
 highs_same false false e = refl
-
-pos_same : (m n : ℕ) → pos m ≡ pos n → m ≡ n
-pos_same m n e = cc
 
 same_side : (a b : Bool) (c d : Color) → a ≡ b → c ≡ d → ◌≡◌ {A = Side} (a, c) (b, d)
 same_side a b c d e f = subst (λ (x : Bool). ◌≡◌ {A = Side} (a, c) (x, d)) e (subst (λ (y : Color). ◌≡◌ {A = Side} (a, c) (a, y)) f refl)

@@ -1,10 +1,7 @@
 -- What is tested of names, ids and limits one after another.
-use Rattle.std.specs.Prelude.{◌≡◌, ℕ, ◌+◌, ◌<◌, ◌≤◌, ◌^◌, ◌-◌, ◌⊎◌, ℤ, pos, ◌+ℤ◌, ◌≤ℤ◌, Bool, false, cond, not, List, Option, None, Some, option_map}
+use Rattle.std.specs.Prelude.{◌≡◌, ℕ, ◌+◌, ◌<◌, ◌≤◌, ◌^◌, ◌-◌, ◌⊎◌, ℤ, pos, ◌+ℤ◌, ◌≤ℤ◌, Bool, false, cond, not, Option, None, Some, option_map}
 use Rattle.std.specs.Ordering.{nat_cmp, int_cmp, ordering_then, is_eq}
-use Rattle.std.specs.Cmp.Lexicographic.{slice_cmp}
-use Rattle.std.specs.BTreeSet.{BTreeSet, contains_by}
 use Rattle.std.specs.declared.cmp.Ordering.{Ordering}
-use denote.Ref.{Bor}
 use Rattle.fp_base.specs.declared.place.Place.{Place}
 use Rattle.fp_base.specs.declared.refusal.Refusal.{Refusal}
 use Rattle.fp_base.specs.declared.rule.Rule.TheVariants.{IdRepeated, IdPast32Bits}
@@ -14,10 +11,6 @@ use Rattle.fp_tree.specs.declared.dictionary.Color.TheVariants.{Yellow, Orange, 
 use Rattle.fp_written_parts.specs.declared.dictionary.WrittenLimit.{WrittenLimit}
 use Rattle.fp_written_parts.specs.declared.port.Given.{Given}
 use Rattle.fp_dictdefs.specs.Broken.{Side, is_within, side_of}
-
--- a name stands in the set
-abbrev pub has_name : BTreeSet (Bor (List ℕ)) → List ℕ → Bool
-has_name seen name = contains_by (λ (k : Bor (List ℕ)). slice_cmp nat_cmp name k.now) seen
 
 -- ---- whole numbers past those of 128 bits
 

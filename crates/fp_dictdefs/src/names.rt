@@ -1,8 +1,8 @@
 ghost use Rattle.std.specs.Prelude.{◌≡◌, ◌||◌, ℕ, List, IfOk, OnOk};
 ghost use Rattle.std.specs.Str.{bytes_eq};
 ghost use Rattle.fp_base.specs.Least.{IsLeast};
+ghost use Rattle.fp_base.specs.NameSets.{has_name};
 ghost use Rattle.fp_dictdefs.specs.Broken.{BrokenNames, RepeatedFormals};
-ghost use Rattle.fp_dictdefs.specs.Tested.{has_name};
 
 use crate::listed::Listed;
 use fp_base::{NoMemory, Refusal, Rule, lesser, refusal_if};

@@ -1,8 +1,8 @@
 ghost use Rattle.std.specs.Prelude.{◌≡◌, ◌||◌, ℕ, List, IfOk, OnOk};
 ghost use Rattle.std.specs.Str.{bytes_eq};
 ghost use Rattle.fp_base.specs.Least.{InSome, IsLeast};
+ghost use Rattle.fp_base.specs.NameSets.{has_name};
 ghost use Rattle.fp_dictdefs.specs.Running.{InstancesBroken, RunningBroken, instance_fault, is_external, is_instance, running_fault};
-ghost use Rattle.fp_dictdefs.specs.Tested.{has_name};
 
 use crate::names::see;
 use fp_base::{NoMemory, Refusal, Rule, lesser, refusal_if};

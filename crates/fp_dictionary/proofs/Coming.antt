@@ -7,11 +7,12 @@ use Rattle.fp_base.proofs.Bools.{or_cases, or_left, or_right}
 use Rattle.fp_base.proofs.Lists.{get_front, get_last, get_within}
 use Rattle.fp_base.proofs.Sameness.{nat_same}
 use Rattle.fp_base.proofs.Spots.{get_push, get_set_other, get_set_same, item_below, same_or_other}
+use Rattle.fp_base.proofs.Numbers.{no_flag}
 use Rattle.fp_tables.specs.Types.{is_named}
 use Rattle.fp_tables.specs.declared.kind.Kind.{Kind}
 use Rattle.fp_tables.specs.declared.kind.Kind.TheVariants as kind
 use Rattle.fp_dictionary.specs.Marks.{Marks, no_marks, with_mark, with_marks}
-use Rattle.fp_dictionary.proofs.Flags.{fewer_unset, no_flag, none_set, set_again, unset}
+use Rattle.fp_dictionary.proofs.Flags.{fewer_unset, none_set, set_again, unset}
 
 pub record AreMarks (n : ℕ) (Is : ℕ → Type 0) (s : Marks) : Type 0 where
   pub long : length s.flags ≡ n

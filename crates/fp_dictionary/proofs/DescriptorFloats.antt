@@ -1,10 +1,11 @@
 -- What a dictionary says has no float.
-use Rattle.std.proofs.Common.{◌≡◌, ℕ, List, [], ◌∷◌, ◌||◌, Bool, true, false, Option, Some, None, Ordering, Less, Equal, Greater, nat_cmp, true≢false, map, cond, refl, ap, ◌∙◌}
+use Rattle.std.proofs.Common.{◌≡◌, ℕ, List, [], ◌∷◌, ◌||◌, Bool, true, false, Option, Some, None, Ordering, Less, Equal, Greater, nat_cmp, map, cond, refl, ap, ◌∙◌}
 use Rattle.std.specs.Prelude.{ℤ, pos, negsuc, nat_lt, ◌^◌}
 use Rattle.std.specs.Ordering.{match_ordering}
 use Rattle.std.specs.Cmp.Lexicographic.{slice_cmp}
 use Rattle.std.specs.List.{AllByRecursion as Each, enumerate_from}
 use Rattle.fp_base.proofs.Lists.{each_append, each_mapped, each_of_any}
+use Rattle.fp_base.proofs.Bools.{neither}
 use Rattle.fp_base.specs.Rendered.{number_of}
 use Rattle.fp_base.specs.declared.value.Value.{Value, Int, Bool as Truth, Text, Enumerated, Array', Struct', Opaque, Row_of-Value, more_of-Value, end_of-Value}
 use Rattle.fp_base.specs.declared.value.Value.TheBlock as block
@@ -28,10 +29,6 @@ NoFloat d = has_float d ≡ false
 abbrev pub NoFloatAt : Entry → Type 0
 NoFloatAt e = has_float e.1 ≡ false
 
-parts : (b c : Bool) → (b || c) ≡ false → (b ≡ false) × (c ≡ false)
-parts false c h = (refl, h)
-parts true c h = absurd (true≢false h)
-
 by_order : (o : Ordering) (a b c : Members) → members_have_float a ≡ false → members_have_float b ≡ false → members_have_float c ≡ false → members_have_float (match_ordering o a b c) ≡ false
 by_order Less a b c x y z = x
 by_order Equal a b c x y z = y
@@ -40,7 +37,7 @@ by_order Greater a b c x y z = z
 put_no_float : (k : List ℕ) (d : Data) (ms : Members) → has_float d ≡ false → members_have_float ms ≡ false → members_have_float (put k d ms) ≡ false
 put_no_float k d no_members x h = ap (λ b. b || false) x
 put_no_float k d (member l e ms) x h =
-    let both = parts (has_float e) (members_have_float ms) h in
+    let both = neither (has_float e) (members_have_float ms) h in
     by_order (slice_cmp nat_cmp k l) _ _ _ (ap (λ b. b || (has_float e || members_have_float ms)) x ∙ h) (ap (λ b. b || members_have_float ms) x ∙ both.1)
     (ap (λ b. b || members_have_float (put k d ms)) both.0 ∙ put_no_float k d ms x both.1)
 

@@ -12,11 +12,6 @@ pub none_set : (n : ℕ) → unset (replicate n false) ≡ n
 none_set zero = refl
 none_set (suc n) = ap suc (none_set n)
 
-pub no_flag : (n k : ℕ) → slice_get (replicate n false) k ≡ Some true → ⊥
-no_flag zero k h = cc
-no_flag (suc n) zero h = (let e : false ≡ true = same_some h in cc)
-no_flag (suc n) (suc k) h = no_flag n k h
-
 -- one that is set, or isn't there, stays
 pub set_again : (xs : List Bool) (k : ℕ) → unwrap_or (slice_get xs k) true ≡ true → set xs k true ≡ xs
 set_again [] k h = refl

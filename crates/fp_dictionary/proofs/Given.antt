@@ -1,22 +1,14 @@
 -- What arrays and structs are from their items.
 use Rattle.std.proofs.Common.{◌≡◌, List, map, refl, ap, ◌∙◌}
-use mathlib.Core.Former.{Count}
-use Rattle.fp_base.specs.declared.value.Value.{Value, Array', Struct', Row_of-Value, more_of-Value, end_of-Value, items-the_row-Value, items_hidden-the_row-Value-0}
+use Rattle.fp_base.specs.declared.value.Value.{Value, Row_of-Value, more_of-Value, end_of-Value, items-the_row-Value, items_hidden-the_row-Value-0}
 use Rattle.fp_base.specs.declared.value.Value.TheViews.{Array, Struct}
 use Rattle.fp_base.specs.declared.value.Value.TheBlock as block
 use Rattle.fp_base.specs.declared.value.MemberValue.{MemberValue}
+use Rattle.fp_base.proofs.Texts.{items_of as items_in, parts_of}
 use Rattle.serde_json.specs.Data.{Members, no_members, array, object, item}
 use Rattle.serde_json.specs.View.{items_of}
 use Rattle.fp_dictionary.specs.Objects.{with_entries, object_of, list_of}
 use Rattle.fp_dictionary.specs.Values.{value_data, items_data, parts_data, part_entry}
-
-abbrev items_in : Value → (n : Count) × Row_of-Value n
-items_in (Array' _ row) = (_, row)
-items_in _ = (_, end_of-Value)
-
-abbrev parts_in : Value → (n : Count) × block.Row_of-MemberValue n
-parts_in (Struct' _ row) = (_, row)
-parts_in _ = (_, block.end_of-MemberValue)
 
 items_row : (n : _) (row : Row_of-Value n) → items_data row ≡ items_of (map value_data (items-the_row-Value n row))
 items_row n end_of-Value = refl
@@ -33,5 +25,5 @@ array_data items =
 
 pub struct_data : (parts : List MemberValue) → value_data (Struct parts) ≡ object_of (map part_entry parts)
 struct_data parts =
-    let row = parts_in (Struct parts) in
+    let row = parts_of (Struct parts) in
     ap object (parts_row row.0 row.1 no_members ∙ ap (λ ps. with_entries (map part_entry ps) no_members) (block.items_hidden-the_row-MemberValue-1 parts))

@@ -6,7 +6,6 @@ use Rattle.fp_tables.specs.declared.kind.TypeDef.{TypeDef}
 use Rattle.fp_tables.specs.declared.component.Channel.{Channel}
 use Rattle.fp_tables.specs.declared.component.Command.{Command}
 use Rattle.fp_tables.specs.declared.component.Event.{Event}
-use Rattle.fp_tables.specs.declared.component.Full.{Full}
 use Rattle.fp_tables.specs.declared.component.Full.TheVariants as full
 use Rattle.fp_tables.specs.declared.component.Limit.{Limit}
 use Rattle.fp_tables.specs.declared.component.Param.{Param}
@@ -15,6 +14,7 @@ use Rattle.fp_tables.specs.declared.component.CommandPart.TheVariants as part
 use Rattle.fp_tables.specs.declared.component.Way.{Way}
 use Rattle.fp_tables.specs.declared.component.Way.TheVariants as way
 use Rattle.fp_tables.specs.declared.topology.Instance.{Instance}
+use Rattle.fp_tables.specs.Words.{way_word, full_word, update_word}
 use Rattle.serde_json.specs.Data.{Data, boolean, string}
 use Rattle.fp_dictionary.specs.Objects.{Entry, object_of, list_of, natural, annotation, optional}
 use Rattle.fp_dictionary.specs.Values.{number_data, value_data}
@@ -23,17 +23,6 @@ use Rattle.fp_dictionary.specs.Types.{descriptor}
 -- the instance, a point, and the own name
 abbrev pub name_in : Instance → List ℕ → Data
 name_in i name = string (i.name ++ codes "." ++ name)
-
-abbrev pub full_word : Full → List ℕ
-full_word full.Assert = codes "assert"
-full_word full.Block = codes "block"
-full_word full.Dropped = codes "drop"
-full_word full.Hook = codes "hook"
-
-abbrev pub way_word : Way → List ℕ
-way_word (way.Later priority f) = codes "async"
-way_word way.Sync = codes "sync"
-way_word way.Guarded = codes "guarded"
 
 -- one that is written by its way, one that comes with a parameter by what it does
 abbrev pub command_kind : Command → CommandPart → List ℕ
@@ -85,9 +74,6 @@ abbrev pub limit_entries : List Limit → List Entry
 limit_entries [] = []
 limit_entries (l ∷ ls) =
     (codes "limit", object_of (side_entries (codes "low") (side false (l ∷ ls)) ++ side_entries (codes "high") (side true (l ∷ ls)))) ∷ []
-
-abbrev pub update_word : Channel → List ℕ
-update_word c = cond c.on_change (codes "on change") (codes "always")
 
 -- a default is said where it is written
 abbrev pub default_entries : Param → List Entry

@@ -1,11 +1,12 @@
 ghost use Rattle.std.specs.Prelude.{◌≡◌, ◌∷◌, List, codes, false, map, IfOk, OnOk};
 ghost use Rattle.std.specs.List.{list_any};
 ghost use Rattle.fp_tables.specs.declared.component.Limit.{Limit};
+ghost use Rattle.fp_tables.specs.Words.{update_word};
 ghost use Rattle.serde_json.specs.Written.{has_float};
 ghost use Rattle.serde_json.specs.Data.{no_members, string};
 ghost use Rattle.serde_json.specs.View.{view};
 ghost use Rattle.fp_dictionary.specs.Objects.{held, optional, with_entries};
-ghost use Rattle.fp_dictionary.specs.Members.{channel_data, channel_head, color, color_entry, limit_entries, on_side, side, side_data, side_entries, update_word};
+ghost use Rattle.fp_dictionary.specs.Members.{channel_data, channel_head, color, color_entry, limit_entries, on_side, side, side_data, side_entries};
 
 use crate::formals::put_name;
 use crate::lists::{Listed, number_in};

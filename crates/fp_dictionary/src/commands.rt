@@ -1,8 +1,9 @@
 ghost use Rattle.std.specs.Prelude.{◌≡◌, IfOk, OnOk, false};
+ghost use Rattle.fp_tables.specs.Words.{way_word, full_word};
 ghost use Rattle.serde_json.specs.Written.{has_float};
 ghost use Rattle.serde_json.specs.View.{view};
 ghost use Rattle.fp_dictionary.specs.Objects.{held, with_entries};
-ghost use Rattle.fp_dictionary.specs.Members.{command_data, command_kind, full_word, queue_of, way_word};
+ghost use Rattle.fp_dictionary.specs.Members.{command_data, command_kind, queue_of};
 
 use crate::formals::{formals_value, put_name};
 use crate::lists::{Listed, number_in};

@@ -48,7 +48,7 @@ any_is {A} p (x ∷ xs) h = go (p x) refl (any_is p xs) h
     go false is again h = again h
 
 -- what the tests of an end say
-ending : (can asserted above complete : Bool) (f : Finish)
+pub ending : (can asserted above complete : Bool) (f : Finish)
     → cond can None (Some (cond asserted Asserted (cond above Spent (cond complete Complete Stuck)))) ≡ Some f → can ≡ false
 ending true asserted above complete f h = absurd (cc)
 ending false asserted above complete f h = refl
@@ -72,11 +72,11 @@ module _ (t : Described) (program : Program) where
       lt : nat_lt a (actor_count t program) ≡ true → a < actor_count t program
       lt is = grind (arith, nat_tests)
 
-  stamp_is : (w : World) (a i : ℕ) (q : Ask) (e : Entry) (s : InstanceState) → due t program a (w.actors a).thread ≡ Some (i, q)
+  pub stamp_is : (w : World) (a i : ℕ) (q : Ask) (e : Entry) (s : InstanceState) → due t program a (w.actors a).thread ≡ Some (i, q)
       → instance_part t program i (w.instances i) a q (w.actors a).last ≡ Some (e, s) → next_stamp t program w a ≡ Some e.stamp
   stamp_is w a i q e s is_due gives = rw (is_due, gives) refl
 
-  above : (n : ℕ) → nat_le n program.steps ≡ false → program.steps < n
+  pub above : (n : ℕ) → nat_le n program.steps ≡ false → program.steps < n
   above n h = grind (arith, nat_tests)
 
   not_within : (n : ℕ) → program.steps < n → nat_le n program.steps ≡ false

@@ -26,3 +26,4 @@ pub mod NestedStates
 pub mod ReturnedValueIsBound
 pub mod TurnHeldByOne
 pub mod HookUnderGuard
+pub mod Halting

@@ -111,7 +111,7 @@ module _ (t : Described) (program : Program) (i : ℕ) where
       let m = mapped_some (λ n. advances running signal (configuration_of s running) (goes_on t program i running signal (configuration_of s running) n)) (machine t i running) w h in
       subst (IsInOrder t i s.pending) m.2 (advances_in_order s.pending running signal (configuration_of s running) (goes_on t program i running signal (configuration_of s running) m.0))
 
-  leaves_untaken : (s : Inside) (a : ℕ) (w : What) → (leaves t program i s a w).pending ≡ untaken_after t i s.pending w
+  pub leaves_untaken : (s : Inside) (a : ℕ) (w : What) → (leaves t program i s a w).pending ≡ untaken_after t i s.pending w
   unfolding leaves
   leaves_untaken s a (what.Put number r) = refl
   leaves_untaken s a (what.Take number point with) = refl

@@ -9,6 +9,7 @@ use Rattle.fp_system.proofs.Rows.{kept_owned, row_of_joined}
 use Rattle.fp_system.proofs.Sorting.{NeverFalls, never_falls}
 use Rattle.fp_system.proofs.Merged.{sorted_run, sorted_histories, sorted_traces, entry_lt-stamps}
 use Rattle.fp_base.proofs.Bools.{both}
+use Rattle.fp_base.proofs.Spots.{before_or_not}
 use Rattle.fp_tables.specs.Names.{numbers_differ}
 use Rattle.fp_tables.specs.Lookup.{Described, placed}
 use Rattle.fp_tables.specs.declared.program.Program.{Program}
@@ -57,9 +58,6 @@ distinct_from (n ∷ ns) h =
     let parts = both (not (list_any (λ m. n == m) ns)) (numbers_differ ns) h in
     (apart_from n ns parts.0, distinct_from ns parts.1)
 
-pub near : (m n : ℕ) → (m < n) ⊎ (n ≤ m)
-near m n = grind arith
-
 module _ (t : Described) (program : Program) where
   pub fit_parts : (a i : ℕ) (w : What) → fits t program a i w ≡ true → (a < actor_count t program) × (is_placed t i ≡ true)
   unfolding fits
@@ -99,14 +97,14 @@ module _ (t : Described) (program : Program) where
         go false is = subst (IsKept t program i) (sym (row_absent (placed t) histories i is)) (_, refl)
 
     pub told_all : (a : ℕ) → IsTold t program a (trace t program traces a)
-    told_all a = go (near a (actor_count t program))
+    told_all a = go (before_or_not a (actor_count t program))
       where
         go : (a < actor_count t program) ⊎ (actor_count t program ≤ a) → IsTold t program a (trace t program traces a)
         go (inl low) = records.told a low
         go (inr past) = subst (IsTold t program a) (sym (row_past traces a (omega (arith, records.actors, past)))) (_, refl)
 
     entries_all : (i a : ℕ) → by a (history t program histories i) ≡ at i (trace t program traces a)
-    entries_all i a = go (is_placed t i) refl (near a (actor_count t program))
+    entries_all i a = go (is_placed t i) refl (before_or_not a (actor_count t program))
       where
         go : (b : Bool) → is_placed t i ≡ b → (a < actor_count t program) ⊎ (actor_count t program ≤ a) → by a (history t program histories i) ≡ at i (trace t program traces a)
         go true is (inl low) = records.entries i a is low

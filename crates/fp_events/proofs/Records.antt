@@ -3,6 +3,7 @@ use Rattle.std.proofs.Common.{◌≡◌, ℕ, ◌<◌, ◌≤◌, Bool, true, fa
 use Rattle.std.proofs.lemmas.List.{length-map}
 use Rattle.std.proofs.lemmas.List.FromFn.{length-map-range_with_len, get_or-map-range_with_len}
 use Rattle.std.proofs.lemmas.Bool.Decides.{eqb_tells, nat_tests}
+use Rattle.fp_base.proofs.Spots.{before_or_not}
 use Rattle.fp_system.specs.Run as system
 use Rattle.fp_system.proofs.Agreement.{recorded}
 use Rattle.fp_tables.specs.Lookup.{Described, placed}
@@ -16,7 +17,7 @@ use Rattle.fp_tables.specs.Acts.{is_placed}
 use Rattle.fp_events.specs.Step.{core}
 use Rattle.fp_events.specs.Run.{at, by, actors, IsRun, IsKept, IsTold, history, trace, AreRecords}
 use Rattle.fp_events.proofs.StepLaws.{given, taken, core_laws}
-use Rattle.fp_events.proofs.Recorded.{fit_parts, row_absent, row_past, near}
+use Rattle.fp_events.proofs.Recorded.{fit_parts, row_absent, row_past}
 
 -- of a list made number by number the one of a number that is there
 row_of-map : {E : Type 0} (f : ℕ → List E) (ns : List ℕ) (i : ℕ) → is_in i ns ≡ true → system.row_of ns (map f ns) i ≡ f i
@@ -57,7 +58,7 @@ module _ (t : Described) (program : Program) where
         go false is = row_absent (placed t) (map (λ i. at i es) (placed t)) i is ∙ sym (out_of_place i (at i es) _ _ (of_run.kept i) is)
 
     traces_are : (a : ℕ) → trace t program (map (λ a. by a es) (actors t program)) a ≡ by a es
-    traces_are a = go (near a (actor_count t program))
+    traces_are a = go (before_or_not a (actor_count t program))
       where
         long : length (map (λ a. by a es) (actors t program)) ≡ actor_count t program
         long = length-map-range_with_len (λ a. by a es) 0 (actor_count t program)

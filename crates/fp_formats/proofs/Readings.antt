@@ -100,7 +100,7 @@ byte_no_lone b x c after l e =
     let t : (b == c) ≡ true = grind (arith, nat_tests) in
     cc
 
-field_no_lone : (w y : List ℕ) (c : ℕ) (after : List ℕ) → has_no_brace w ≡ true → IsLone c after → 123 ∷ (w ++ (125 ∷ y)) ≡ c ∷ after → ⊥
+pub field_no_lone : (w y : List ℕ) (c : ℕ) (after : List ℕ) → has_no_brace w ≡ true → IsLone c after → 123 ∷ (w ++ (125 ∷ y)) ≡ c ∷ after → ⊥
 field_no_lone w y c after h l e =
     let p : c ≡ 123 = cc in
     let q : after ≡ w ++ (125 ∷ y) = cc in

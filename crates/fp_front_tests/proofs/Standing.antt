@@ -2,11 +2,11 @@
 use Rattle.std.proofs.Common.{◌≡◌, ℕ, Bool, true, List, Option, subst}
 use Rattle.std.specs.Prelude.{MatchBool}
 use Rattle.fp_base.specs.declared.place.Place.{Place}
+use Rattle.fp_base.proofs.Bools.{told_true}
 use Rattle.fp_tree.specs.declared.machine.BehaviorElement.{BehaviorElement}
 use Rattle.fp_machine_rules.specs.declared.item.Item.{Item}
 use Rattle.fp_machine_rules.specs.declared.item.LaidMachine.{LaidMachine}
 use Rattle.fp_machine_rules.specs.Forms.{IsLaid}
-use Rattle.fp_machine_rules.proofs.Deciding.{told_true}
 use Rattle.fp_machines.specs.Layout.{laid}
 use Rattle.fp_machines.specs.Outline.{outline, outline_of}
 use Rattle.fp_machines.specs.Steps.{laid_item}

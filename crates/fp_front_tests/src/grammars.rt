@@ -153,7 +153,7 @@ struct Counted;
 impl Stepwise for Counted {
     type Token = u8;
 
-    type Piece = u8;
+    type Portion = u8;
 
     type Node = u8;
 

@@ -31,10 +31,10 @@ use Rattle.fp_parse_parts.specs.declared.parsing.Members.{Members}
 use Rattle.fp_parse_parts.specs.declared.parsing.Members.TheVariants as given
 use Rattle.fp_places.specs.Includes.{includes_in}
 use Rattle.fp_places.specs.Sites.{BeginsToken, PartsStandAtTokens, StandAtTokens, TopologyStandsAtTokens, in_parts, in_topology}
-use Rattle.fp_base.proofs.Lists.{each_before, each_behind, each_contained, each_flat, each_of_any, each_weaker, of_contained, of_item}
+use Rattle.fp_base.proofs.Lists.{each_before, each_behind, each_contained, each_flat, each_of_any, each_weaker, of_contained, of_item, each_part}
 use Rattle.fp_gather.proofs.InclusionsStand.{of_members, of_parts, of_topology}
 use Rattle.fp_gather.proofs.ItemsKept.{by_kind, units_items}
-use Rattle.fp_gather.proofs.PartsHold.{Hold, in_each, members_hold, parts_hold, topology_holds}
+use Rattle.fp_gather.proofs.PartsHold.{Hold, members_hold, parts_hold, topology_holds}
 use Rattle.fp_gather.proofs.StandBelow.{DefinesBelow, IncludesBelow, IsNumbered, PlacesBelow, StandBelow, UsesBelow, definers, files_below, none_below, placed_parts, users}
 use Rattle.fp_gather.specs.gathering.Gathered.{AnyBroken, InFiles, StandsAmong, names_read, source_of}
 use Rattle.fp_gather.specs.gathering.Reading.{Reading, BreaksGrammar, BreaksTokenRule, Gives, nothing_in}
@@ -92,12 +92,12 @@ module _ (r : Reading) (tokens : List Token) (stand : AllByRecursion (StandsIn r
   -- of these items
   defines : (is : List Item) → ((d : Definition) → Contains (flat_map definitions_of is) d → BeginsToken tokens d.place) → AllByRecursion (DefinesBelow (suc r.number)) is
   defines is h =
-      in_each (λ (d : Definition). d.place.file < suc r.number) definitions_of is
+      each_part (λ (d : Definition). d.place.file < suc r.number) definitions_of is
       (each_contained (λ (d : Definition). d.place.file < suc r.number) (flat_map definitions_of is) (λ d there. below d.place (h d there)))
 
   mentions_there : (is : List Item) → ((m : Mention) → Contains (flat_map uses_of is) m → BeginsToken tokens m.place) → AllByRecursion (UsesBelow (suc r.number)) is
   mentions_there is h =
-      in_each (λ (m : Mention). m.place.file < suc r.number) uses_of is
+      each_part (λ (m : Mention). m.place.file < suc r.number) uses_of is
       (each_contained (λ (m : Mention). m.place.file < suc r.number) (flat_map uses_of is) (λ m there. below m.place (h m there)))
 
   places_there : (is : List Item) → ((i : Item) (p : Place) → Contains is i → Contains (places_of i) p → BeginsToken tokens p) → AllByRecursion (PlacesBelow (suc r.number)) is
@@ -127,7 +127,7 @@ module _ (r : Reading) (tokens : List Token) (stand : AllByRecursion (StandsIn r
         record {
           definitions = parts_hold (DefinesBelow (suc r.number)) (definers (suc r.number)) ps nothing (λ scope. defines (in_parts scope ps) (sites.definitions scope));
           mentions = parts_hold (UsesBelow (suc r.number)) (users (suc r.number)) ps nothing (λ scope. mentions_there (in_parts scope ps) (sites.mentions scope));
-          places = parts_hold (PlacesBelow (suc r.number)) (placed_parts (suc r.number)) ps (in_each (λ (p : Place). p.file < suc r.number) places_in_part ps places)
+          places = parts_hold (PlacesBelow (suc r.number)) (placed_parts (suc r.number)) ps (each_part (λ (p : Place). p.file < suc r.number) places_in_part ps places)
               (λ scope. places_there (in_parts scope ps) (placed scope));
         },
         of_parts (suc r.number) ps places,
@@ -141,7 +141,7 @@ module _ (r : Reading) (tokens : List Token) (stand : AllByRecursion (StandsIn r
         record {
           definitions = topology_holds (DefinesBelow (suc r.number)) (definers (suc r.number)) ts nothing (λ scope. defines (in_topology scope ts) (sites.definitions scope));
           mentions = topology_holds (UsesBelow (suc r.number)) (users (suc r.number)) ts nothing (λ scope. mentions_there (in_topology scope ts) (sites.mentions scope));
-          places = topology_holds (PlacesBelow (suc r.number)) (placed_parts (suc r.number)) ts (in_each (λ (p : Place). p.file < suc r.number) places_in_topology_member ts places)
+          places = topology_holds (PlacesBelow (suc r.number)) (placed_parts (suc r.number)) ts (each_part (λ (p : Place). p.file < suc r.number) places_in_topology_member ts places)
               (λ scope. places_there (in_topology scope ts) (placed scope));
         },
         of_topology (suc r.number) ts places,

@@ -1,6 +1,6 @@
 -- The directory part of a name, by its last `/`.
 use Rattle.std.proofs.Common.{◌≡◌, ◌≢◌, ℕ, ◌+◌, ◌-◌, ◌<◌, ◌≤◌, List, [], ◌∷◌, ◌++◌, Bool, true, false, length, take, drop, get_or, refl, sym, ap, ◌∙◌, arith}
-use Rattle.std.specs.Prelude.{not, ◌==◌, slice_range}
+use Rattle.std.specs.Prelude.{not, ◌==◌}
 use Rattle.std.specs.List.{suffix_len}
 use Rattle.std.proofs.lemmas.List.{take_more}
 use Rattle.std.proofs.lemmas.List.Sums.{suffix_len_is}
@@ -39,6 +39,3 @@ directory_before name at front text ef et (lt, here, none) =
 drop_none : (xs : List ℕ) → drop 0 xs ≡ xs
 drop_none [] = refl
 drop_none (x ∷ xs) = refl
-
-pub front_of : (name front : List ℕ) (at : ℕ) → front ≡ slice_range name 0 at → front ≡ take at name
-front_of name front at e = let same : at - 0 ≡ at = omega arith in e ∙ ap (λ (n : ℕ). take n (drop 0 name)) same ∙ ap (take at) (drop_none name)

@@ -3,7 +3,7 @@ use Rattle.std.proofs.Common.{◌≡◌, Option, Some, None, inl, inr, refl, sym
 use Rattle.std.specs.Prelude.{Contains, Result, Ok, Err, IsErrAnd}
 use Rattle.fp_base.specs.declared.refusal.Refusal.{Refusal}
 use Rattle.fp_base.specs.Least.{Either, IsLeast, Phased, earlier_of}
-use Rattle.fp_base.proofs.Calculus.{least_phased, none_broken}
+use Rattle.fp_base.proofs.Calculus.{least_phased, none_broken, least_first}
 use Rattle.fp_tree.specs.declared.source.Source.{Source}
 use Rattle.fp_meaning.specs.Broken.{NamesBroken}
 use Rattle.fp_gather.specs.gathering.Answers.{IncludesFirst, IsFirst, Judges}
@@ -12,10 +12,6 @@ use Rattle.fp_gather.specs.gathering.Reading.{BreaksGrammar, BreaksTokenRule}
 use Rattle.fp_gather.specs.gathering.Walks.{Walked}
 use Rattle.fp_gather.specs.declared.gathering.Halt.{Halt}
 use Rattle.fp_gather.specs.declared.gathering.Halt.TheVariants as halt
-
--- that of the earlier phase, whatever the later breaks
-phased_first : {P Q : Refusal → Type 0} (f : Refusal) → IsLeast P (Some f) → IsLeast (Phased P Q) (Some f)
-phased_first f l = record { holds = λ g e. inl (l.holds g e); least = λ g. elim [ inl p ↦ l.least g p | inr q ↦ absurd (q.1 f (l.holds f refl)) ] }
 
 -- that of the later phase, where the earlier breaks nothing
 phased_later : {P Q : Refusal → Type 0} (o : Option Refusal) → IsLeast P None → IsLeast Q o → IsLeast (Phased P Q) o
@@ -31,8 +27,8 @@ first_any walked source f to (inr (inr (inr names, still), quiet)) = to (inr nam
 module _ (walked : Walked) (source : Source) where
   first_of_phases : (tokens grammar includes : Option Refusal) → IsLeast (InFiles BreaksTokenRule walked) tokens → IsLeast (InFiles BreaksGrammar walked) grammar
       → IncludesFirst walked source includes → IsFirst walked source (earlier_of tokens (earlier_of grammar includes))
-  first_of_phases (Some f) grammar includes t g i = (phased_first f t, (f, inl (t.holds f refl)))
-  first_of_phases None (Some f) includes t g i = (phased_later (Some f) t (phased_first f g), (f, inr (inl (g.holds f refl))))
+  first_of_phases (Some f) grammar includes t g i = (least_first f t, (f, inl (t.holds f refl)))
+  first_of_phases None (Some f) includes t g i = (phased_later (Some f) t (least_first f g), (f, inr (inl (g.holds f refl))))
   first_of_phases None None (Some f) t g i = (phased_later (Some f) t (phased_later (Some f) g i.0), (i.1.0, inr (inr i.1.1)))
   first_of_phases None None None t g i = λ f. elim [
     | inl p ↦ none_broken t f p

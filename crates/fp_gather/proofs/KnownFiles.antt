@@ -4,9 +4,11 @@ use Rattle.std.specs.Prelude.{Contains, IsSomeAnd, MatchOption, nat_le, sum_by}
 use Rattle.std.proofs.lemmas.List.{map-append, length-map}
 use Rattle.std.proofs.lemmas.List.Sums.{sum_by-append}
 use Rattle.std.proofs.lemmas.Bool.Decides.{nat_tests}
+use Rattle.std.proofs.Math.Nat.{zero-add}
 use Rattle.fp_base.specs.declared.refusal.Refusal.{Refusal}
 use Rattle.fp_base.specs.Least.{IsLeast, lesser_of}
 use Rattle.fp_base.proofs.Calculus.{least_none}
+use Rattle.fp_base.proofs.Numbers.{at_most}
 use Rattle.fp_parse_parts.specs.declared.parsing.Inside.{Inside}
 use Rattle.fp_gather.proofs.FoundInFiles.{in_files_least, refused_least}
 use Rattle.fp_gather.specs.gathering.Answers.{IsFound, Knows, room_left}
@@ -36,9 +38,6 @@ nothing_known progress e = record {
     least_at None e none = least_none none
     least_at (Some f) e none = cc
 
-le_true : (m n : ℕ) → nat_le m n ≡ true → m ≤ n
-le_true m n e = grind (arith, nat_tests)
-
 le_false : (m n : ℕ) → nat_le m n ≡ false → n < m
 le_false m n e = grind (arith, nat_tests)
 
@@ -49,7 +48,7 @@ room_step None bytes count total e h = omega (arith, e, h)
 room_step (Some left) bytes count total e h = go (nat_le count left) refl
   where
     go : (b : Bool) → nat_le count left ≡ b → MatchOption (cond b (Some (left - count)) None) (most_bytes < total) (λ more. total + more ≡ most_bytes)
-    go true t = let l : count ≤ left = le_true count left t in omega (arith, e, h, l)
+    go true t = let l : count ≤ left = at_most count left t in omega (arith, e, h, l)
     go false t = let l : left < count = le_false count left t in omega (arith, e, h, l)
 
 pub passes_step : (room : Option ℕ) (bytes count : ℕ) (passes : Bool) → MatchOption room (most_bytes < bytes) (λ left. bytes + left ≡ most_bytes)
@@ -60,11 +59,8 @@ passes_step None bytes count false h p = λ q. let a = q.0 in absurd (omega (ari
 passes_step (Some left) bytes count true h p = (omega (arith, h, p), omega (arith, h, p))
 passes_step (Some left) bytes count false h p = λ q. let b = q.1 in p (omega (arith, h, b))
 
-zero_add : (n : ℕ) → 0 + n ≡ n
-zero_add n = omega arith
-
 sum_more : (f : Reading → ℕ) (readings : List Reading) (r : Reading) → sum_by f (readings ++ r ∷ []) ≡ sum_by f readings + f r
-sum_more f readings r = sum_by-append f readings (r ∷ []) ∙ ap (λ (n : ℕ). sum_by f readings + n) (zero_add (f r))
+sum_more f readings r = sum_by-append f readings (r ∷ []) ∙ ap (λ (n : ℕ). sum_by f readings + n) (zero-add (f r))
 
 -- what is kept, with a reading more
 pub known_more : (old new : Progress) (before : Walked) (r : Reading) (found : FileFound) → Knows old before → IsFound r found

@@ -3,7 +3,7 @@ use Rattle.std.proofs.Common.{◌≡◌, ℕ, suc, true, ◌&&◌, List, [], ◌
 use Rattle.std.specs.List.{AllByRecursion as Each, list_all, Contains}
 use Rattle.fp_base.specs.Names.{is_name}
 use Rattle.fp_base.proofs.Bools.{both, join}
-use Rattle.fp_base.proofs.Lists.{each_append, each_before, each_behind, each_contained, each_flat, of_contained}
+use Rattle.fp_base.proofs.Lists.{each_append, each_before, each_behind, each_contained, each_flat, of_contained, each_part}
 use Rattle.fp_lexer.specs.Tokens.{Lexed}
 use Rattle.fp_lexer.specs.declared.token.Token.{Token}
 use Rattle.fp_outside.specs.declared.files.HeldFile.{HeldFile}
@@ -56,7 +56,7 @@ use Rattle.fp_places.specs.Topologies.{names_in_instance, names_in_topology, nam
 use Rattle.fp_places.specs.Written.{NamesAreWritten, PartNamesAreWritten, TopologyNamesAreWritten}
 use Rattle.fp_gather.proofs.ItemsKept.{by_kind, file_given}
 use Rattle.fp_gather.proofs.KeptByWalks.{units_kept}
-use Rattle.fp_gather.proofs.PartsHold.{HaveNames, in_each, names_inside, names_opened, names_rolled, replaced_names}
+use Rattle.fp_gather.proofs.PartsHold.{HaveNames, names_inside, names_opened, names_rolled, replaced_names}
 use Rattle.fp_gather.specs.gathering.Gathered.{file_of, source_of}
 use Rattle.fp_names.specs.Named.{HasNamedParts, elements_are_named, elements_in, form_is_named, formals_are_named, interface_part_is_named, part_is_named}
 use Rattle.fp_gather.specs.gathering.Names.{IsNamed}
@@ -341,8 +341,8 @@ named_items written parts_written topology_written told names walked units i h t
     of_contained IsNamed (items (source_of walked units)) i (units_named units
     (units_kept (HaveNames IsName) nothing_named (replaced_names IsName)
     (file_given (HaveNames IsName) nothing_named (λ file text tokens within x lexed spelled. by_kind (HaveNames IsName) tokens
-    (λ ms s scope. in_each IsName names_within ms (each_contained IsName (names_in ms) (λ n there. (written file text tokens ms lexed s n there).spelled.0)))
-    (λ ps s scope. in_each IsName names_in_part ps (each_contained IsName (flat_map names_in_part ps) (λ n there. (parts_written file text tokens ps lexed s n there).spelled.0)))
-    (λ ts s scope. in_each IsName names_in_topology_member ts (each_contained IsName (flat_map names_in_topology_member ts) (λ n there. (topology_written file text tokens ts lexed s n there).spelled.0)))
+    (λ ms s scope. each_part IsName names_within ms (each_contained IsName (names_in ms) (λ n there. (written file text tokens ms lexed s n there).spelled.0)))
+    (λ ps s scope. each_part IsName names_in_part ps (each_contained IsName (flat_map names_in_part ps) (λ n there. (parts_written file text tokens ps lexed s n there).spelled.0)))
+    (λ ts s scope. each_part IsName names_in_topology_member ts (each_contained IsName (flat_map names_in_topology_member ts) (λ n there. (topology_written file text tokens ts lexed s n there).spelled.0)))
     within x spelled))
     told names walked units h)) there

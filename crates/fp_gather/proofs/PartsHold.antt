@@ -4,7 +4,7 @@
 use Rattle.std.proofs.Common.{◌≡◌, List, [], ◌∷◌, ◌++◌, flat_map, sym, ap, subst, ◌∙◌}
 use Rattle.std.specs.List.{AllByRecursion}
 use Rattle.std.proofs.lemmas.List.Folds.{flat_map-map}
-use Rattle.fp_base.proofs.Lists.{each_append, each_before, each_behind, each_flat, each_of_any, each_weaker}
+use Rattle.fp_base.proofs.Lists.{each_append, each_before, each_behind, each_flat, each_of_any, each_weaker, each_part}
 use Rattle.fp_parse_parts.specs.declared.parsing.Inside.{Inside}
 use Rattle.fp_parse_parts.specs.declared.parsing.Inside.TheVariants as inside
 use Rattle.fp_parse_parts.specs.declared.parsing.Members.{Members}
@@ -31,24 +31,16 @@ use Rattle.fp_places.specs.Components.{names_in_component, names_in_part}
 use Rattle.fp_places.specs.Names.{names_in, names_of_member, names_of_module, names_within}
 use Rattle.fp_places.specs.Sites.{in_parts, in_topology}
 use Rattle.fp_places.specs.Topologies.{names_in_topology, names_in_topology_member}
+use Rattle.fp_places.proofs.Anything.{AnyName}
 use Rattle.fp_gather.proofs.PartsKept.{HoldIn, replaced_keep, with_members, with_parts}
 use Rattle.fp_gather.specs.gathering.Includes.{Inserts, replaced}
 use Rattle.fp_gather.specs.gathering.Reading.{nothing_in}
-
--- what holds of all that is given holds of what each gives
-pub in_each : {A B : Type 0} (P : A → Type 0) (f : B → List A) (xs : List B) → AllByRecursion P (flat_map f xs) → AllByRecursion (λ (x : B). AllByRecursion P (f x)) xs
-in_each P f [] h = tt
-in_each P f (x ∷ xs) h = (each_before P (f x) (flat_map f xs) h, in_each P f xs (each_behind P (f x) (flat_map f xs) h))
 
 -- ---- items
 
 items_rolled : (scope : Path) (m : Module) → in_member scope (roll-Member (open_member.Module m)) ≡ in_module scope m
 items_rolled scope m =
     ap (λ (h : Path → List Item). h scope) (fold-roll-Member (Path → List Item) (Path → List Item) member_step module_step (open_member.Module m))
-
--- of a module's name by itself nothing has to hold
-abbrev Any : Name → Type 0
-Any n = Unit {0}
 
 -- what is said of parts of components and of members of topologies, where P is said of each item: a component and a topology say it of their
 -- own, and are such items too with others of which it is said
@@ -98,10 +90,10 @@ module _ (P : Item → Type 0) (law : Parting P) where
 
   -- all that a file gives in any scope
   abbrev pub Hold : Members → Type 0
-  Hold x = HoldIn ItemsAt ItemsIn Any PartHolds MemberHolds x
+  Hold x = HoldIn ItemsAt ItemsIn AnyName PartHolds MemberHolds x
 
   pub members_hold : (ms : List Member) → ((scope : Path) → AllByRecursion P (in_members scope ms)) → Hold (given.Unit ms)
-  members_hold ms h scope = in_each P (in_member scope) ms (h scope)
+  members_hold ms h scope = each_part P (in_member scope) ms (h scope)
 
   pub held_members : (ms : List Member) → Hold (given.Unit ms) → (scope : Path) → AllByRecursion P (in_members scope ms)
   held_members ms h scope = each_flat P (in_member scope) ms (h scope)
@@ -112,7 +104,7 @@ module _ (P : Item → Type 0) (law : Parting P) where
       → AllByRecursion (PartHolds scope) ps
   all_parts scope ps q h k =
       each_both law.OfPart (λ p. AllByRecursion P (own_items scope p) × AllByRecursion P (inner_items scope p)) ps q
-      (each_both (λ p. AllByRecursion P (own_items scope p)) (λ p. AllByRecursion P (inner_items scope p)) ps (in_each P (own_items scope) ps h) (in_each P (inner_items scope) ps k))
+      (each_both (λ p. AllByRecursion P (own_items scope p)) (λ p. AllByRecursion P (inner_items scope p)) ps (each_part P (own_items scope) ps h) (each_part P (inner_items scope) ps k))
 
   pub parts_hold : (ps : List Part) → AllByRecursion law.OfPart ps → ((scope : Path) → AllByRecursion P (in_parts scope ps)) → Hold (given.Component ps)
   parts_hold ps q h scope =
@@ -150,7 +142,7 @@ module _ (P : Item → Type 0) (law : Parting P) where
   -- ---- members of topologies
 
   pub topology_holds : (ts : List TMember) → AllByRecursion law.OfMember ts → ((scope : Path) → AllByRecursion P (in_topology scope ts)) → Hold (given.Topology ts)
-  topology_holds ts q h scope = each_both law.OfMember (λ t. AllByRecursion P (topology_member_items scope t)) ts q (in_each P (topology_member_items scope) ts (h scope))
+  topology_holds ts q h scope = each_both law.OfMember (λ t. AllByRecursion P (topology_member_items scope t)) ts q (each_part P (topology_member_items scope) ts (h scope))
 
   topology_held : (scope : Path) (t : Topology) → ItemsAt scope (member.Topology t) → AllByRecursion P (topology_items scope t)
   topology_held scope t h = subst (AllByRecursion P) (topology_gives scope t) h
@@ -158,7 +150,7 @@ module _ (P : Item → Type 0) (law : Parting P) where
   topology_members : (scope : Path) (t : Topology) → ItemsAt scope (member.Topology t) → AllByRecursion (MemberHolds scope) t.members
   topology_members scope t h =
       let all = topology_held scope t h in
-      each_both law.OfMember (λ m. AllByRecursion P (topology_member_items scope m)) t.members (law.listed scope t all.0) (in_each P (topology_member_items scope) t.members all.1)
+      each_both law.OfMember (λ m. AllByRecursion P (topology_member_items scope m)) t.members (law.listed scope t all.0) (each_part P (topology_member_items scope) t.members all.1)
 
   topology_again : (scope : Path) (t : Topology) (ts : List TMember) → ItemsAt scope (member.Topology t) → AllByRecursion (MemberHolds scope) ts
       → ItemsAt scope (member.Topology (with_members t ts))
@@ -170,10 +162,10 @@ module _ (P : Item → Type 0) (law : Parting P) where
 
   -- ---- modules
 
-  module_opened : (scope : Path) (x : Module-F Member Module) → ItemsIn scope (roll-Module x) → Any x.name × AllByRecursion (ItemsAt (scope ++ x.name.text ∷ [])) x.members
-  module_opened scope x h = (tt, in_each P (in_member (scope ++ x.name.text ∷ [])) x.members (subst (AllByRecursion P) (members_rolled x scope) h))
+  module_opened : (scope : Path) (x : Module-F Member Module) → ItemsIn scope (roll-Module x) → AnyName x.name × AllByRecursion (ItemsAt (scope ++ x.name.text ∷ [])) x.members
+  module_opened scope x h = (tt, each_part P (in_member (scope ++ x.name.text ∷ [])) x.members (subst (AllByRecursion P) (members_rolled x scope) h))
 
-  module_closed : (scope : Path) (x : Module-F Member Module) → Any x.name → AllByRecursion (ItemsAt (scope ++ x.name.text ∷ [])) x.members
+  module_closed : (scope : Path) (x : Module-F Member Module) → AnyName x.name → AllByRecursion (ItemsAt (scope ++ x.name.text ∷ [])) x.members
       → ItemsAt scope (member.Module (record { name = x.name; members = x.members; at = x.at; note = x.note }))
   module_closed scope x n h =
       subst (AllByRecursion P) (sym (module_gives scope (record { name = x.name; members = x.members; at = x.at; note = x.note })))
@@ -182,7 +174,7 @@ module _ (P : Item → Type 0) (law : Parting P) where
   -- of what a file gives, with an insert in place of each include
   pub replaced_hold : (own : Members) (inserts : Inserts) → Hold own → AllByRecursion Hold inserts → Hold (replaced own inserts)
   replaced_hold own inserts h k =
-      replaced_keep ItemsAt ItemsIn Any PartHolds MemberHolds (λ scope m. subst (AllByRecursion P) (items_rolled scope m)) module_opened module_closed component_parts component_again
+      replaced_keep ItemsAt ItemsIn AnyName PartHolds MemberHolds (λ scope m. subst (AllByRecursion P) (items_rolled scope m)) module_opened module_closed component_parts component_again
       topology_members topology_again own inserts h k
 
   pub nothing_holds : (i : Inside) → Hold (nothing_in i)
@@ -250,7 +242,7 @@ module _ (N : Name → Type 0) where
   module_names : (scope : Path) (x : Module-F Member Module) → NamesIn scope (roll-Module x) → N x.name × AllByRecursion (NamesAt (scope ++ x.name.text ∷ [])) x.members
   module_names scope x h =
       let all : AllByRecursion N (x.name ∷ names_in x.members) = subst (AllByRecursion N) (names_opened scope x) h in
-      (all.0, in_each N names_within x.members all.1)
+      (all.0, each_part N names_within x.members all.1)
 
   module_named : (scope : Path) (x : Module-F Member Module) → N x.name → AllByRecursion (NamesAt (scope ++ x.name.text ∷ [])) x.members
       → NamesAt scope (member.Module (record { name = x.name; members = x.members; at = x.at; note = x.note }))
@@ -274,5 +266,5 @@ module _ (N : Name → Type 0) where
   pub replaced_names : (own : Members) (inserts : Inserts) → HaveNames own → AllByRecursion HaveNames inserts → HaveNames (replaced own inserts)
   replaced_names own inserts h k =
       replaced_keep NamesAt NamesIn N PartNames MemberNames (λ scope m. subst (AllByRecursion N) (names_rolled scope m)) module_names module_named
-      (λ scope c q. in_each N names_in_part c.parts (names_of_component scope c q).1) component_named
-      (λ scope t q. in_each N names_in_topology_member t.members (names_of_topology scope t q).1) topology_named own inserts h k
+      (λ scope c q. each_part N names_in_part c.parts (names_of_component scope c q).1) component_named
+      (λ scope t q. each_part N names_in_topology_member t.members (names_of_topology scope t q).1) topology_named own inserts h k

@@ -15,9 +15,9 @@ use Rattle.fp_meaning.specs.declared.item.Item.{Item}
 use Rattle.fp_meaning.specs.Names.{definitions_of, uses_of}
 use Rattle.fp_meaning.specs.declared.names.Definition.{Definition}
 use Rattle.fp_meaning.specs.declared.names.Mention.{Mention}
-use Rattle.fp_base.proofs.Lists.{each_append, each_flat, each_of_any, each_weaker}
+use Rattle.fp_base.proofs.Lists.{each_append, each_flat, each_of_any, each_weaker, each_part}
 use Rattle.fp_gather.proofs.OneWalk.{same_given, same_walked}
-use Rattle.fp_gather.proofs.PartsHold.{Hold, Parting, hold_more, in_each, nothing_holds, replaced_hold, unparted}
+use Rattle.fp_gather.proofs.PartsHold.{Hold, Parting, hold_more, nothing_holds, replaced_hold, unparted}
 use Rattle.fp_places.specs.Places.{places_in_part, places_in_topology_member, places_of}
 use Rattle.fp_outside.specs.declared.files.HeldFile.{HeldFile}
 use Rattle.fp_gather.specs.declared.gathering.including.Inclusion.{Inclusion}
@@ -47,9 +47,9 @@ abbrev pub placed_parts : (n : ℕ) → Parting (PlacesBelow n)
 placed_parts n = record {
   OfPart = λ p. AllByRecursion (λ (q : Place). q.file < n) (places_in_part p);
   OfMember = λ t. AllByRecursion (λ (q : Place). q.file < n) (places_in_topology_member t);
-  parts = λ scope c h. in_each (λ (q : Place). q.file < n) places_in_part c.parts h.1;
+  parts = λ scope c h. each_part (λ (q : Place). q.file < n) places_in_part c.parts h.1;
   renewed = λ scope c ps h k. (h.0, each_flat (λ (q : Place). q.file < n) places_in_part ps k);
-  listed = λ scope t h. in_each (λ (q : Place). q.file < n) places_in_topology_member t.members h.1;
+  listed = λ scope t h. each_part (λ (q : Place). q.file < n) places_in_topology_member t.members h.1;
   relisted = λ scope t ts h k. (h.0, each_flat (λ (q : Place). q.file < n) places_in_topology_member ts k);
 }
 

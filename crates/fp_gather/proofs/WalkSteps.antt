@@ -1,13 +1,14 @@
 -- The steps of walks over files.
 use Rattle.std.proofs.Common.{◌≡◌, ℕ, zero, suc, ◌+◌, ◌-◌, ◌<◌, ◌≤◌, List, [], ◌∷◌, ◌++◌, map, take, drop, length, get_or, Option, Some, None, refl, inl, inr, sym, ap, subst, ◌∙◌, arith}
 use Rattle.std.specs.Prelude.{Result, Ok, Err, IsErrAnd, IfSome}
-use Rattle.std.proofs.lemmas.List.{take_all, take_more, take-append-drop, append_assoc, map-append}
+use Rattle.std.proofs.lemmas.List.{take_all, take-append-drop, append_assoc, map-append}
 use Rattle.fp_outside.specs.Counts.{Rose}
 use Rattle.fp_outside.specs.Files.{bytes_of as held_bytes, CountsFault, CountsMiss}
 use Rattle.fp_outside.specs.declared.files.ReadRefusal.{ReadRefusal}
 use Rattle.fp_outside.specs.declared.files.ReadRefusal.TheVariants.{Failed}
 use Rattle.fp_outside.specs.declared.files.HeldFile.{HeldFile}
 use Rattle.fp_base.proofs.Options.{same_some}
+use Rattle.fp_base.proofs.Lists.{taken_next, take_none}
 use Rattle.fp_base.specs.declared.rule.Rule.TheVariants.{BadInclude}
 use Rattle.fp_parse_parts.specs.declared.parsing.Inside.{Inside}
 use Rattle.fp_parse_parts.specs.declared.parsing.Inside.TheVariants as inside
@@ -44,14 +45,6 @@ pub each_stops : {X A : Type 0} (P : X → Walk A) (xs : List X) (x : X) (more :
     → WalksEach P xs a (Went b ys) → P x b (Stops s) → WalksEach P (xs ++ x ∷ more) a (Stops s)
 each_stops P [] x more a b ys s h k = inl (subst (λ (w : Walked). P x w (Stops s)) h.0 k)
 each_stops P (z ∷ xs) x more a b ys s (between, first, others, p, rest, e) k = inr (between, first, p, each_stops P xs x more between b others s rest k)
-
-take_none : {X : Type 0} (xs : List X) → take 0 xs ≡ []
-take_none [] = refl
-take_none (x ∷ xs) = refl
-
--- the elements up to one, and all of them
-pub taken_next : {X : Type 0} (xs : List X) (i : ℕ) (x : X) → i < length xs → x ≡ get_or xs i x → take (i + 1) xs ≡ take i xs ++ x ∷ []
-taken_next {X = X} xs i x lt is = take_more xs i x lt ∙ ap (λ (y : X). take i xs ++ y ∷ []) (sym is)
 
 pub split_there : {X : Type 0} (xs : List X) (i : ℕ) (x : X) → i < length xs → x ≡ get_or xs i x → xs ≡ take i xs ++ x ∷ drop (i + 1) xs
 split_there {X = X} xs i x lt is =

@@ -2,6 +2,7 @@
 use Rattle.std.proofs.Common.{◌≡◌, ℕ, ◌+◌, List, ◌∷◌, drop, ◌++◌, ◌∙◌, ap, inl, inr, length, sym, subst}
 use Rattle.std.specs.Prelude.{not, true, Result, Ok, Err, IsErrAnd}
 use Rattle.std.proofs.lemmas.Result.{err_from_is_err_and}
+use Rattle.fp_base.proofs.Bools.{and_left, and_right}
 use Rattle.fp_grammar.specs.declared.halt.Halt.{Halt}
 use Rattle.fp_grammar.specs.declared.halt.Halt.TheVariants.{Unexpected, NoMemory}
 use Rattle.fp_grammar.specs.Grammar.{Grammar, Spells}
@@ -9,7 +10,6 @@ use Rattle.fp_grammar.specs.Sets.{nullable, is_predictive}
 use Rattle.fp_grammar.specs.Grammar.Grammar.{token, seq, map, alt}
 use Rattle.fp_grammar.specs.Parses.{Accepts, Refuses, RefusesBy, Parses}
 use Rattle.fp_grammar.proofs.Cutting.{Agrees}
-use Rattle.fp_grammar.proofs.Lists.{and-left, and-right}
 use Rattle.fp_grammar.specs.Promises.{RefsGood}
 use Rattle.fp_grammar.proofs.Fits.{told_of}
 use Rattle.fp_grammar.proofs.Seconds.{apart_never}
@@ -52,9 +52,9 @@ module _ {T : Type 0} {kind : T → ℕ} where
   -- what was read as the first alternative rules out the second
   pub alt_first_accepted : {X : Type 0} {a b : Grammar T X} {tokens : List T} {mid to : ℕ} {x : X} → is_predictive (alt a b) ≡ true → RefsGood kind (alt a b) → Accepts kind a tokens mid x to → Accepts kind (alt a b) tokens mid x to
   alt_first_accepted {a = a} {b = b} {x = x} predictive refs p =
-      let e1 = and-right (is_predictive a) _ predictive in
-      let e2 = and-right (is_predictive b) _ e1 in
-      let never = apart_never a b (and-left (not (nullable a)) _ e2) (told_of a (and-left (is_predictive a) _ predictive) refs.0) (told_of b (and-left (is_predictive b) _ e1) refs.1) (and-right (not (nullable b)) _ (and-right (not (nullable a)) _ e2)) in
+      let e1 = and_right (is_predictive a) _ predictive in
+      let e2 = and_right (is_predictive b) _ e1 in
+      let never = apart_never a b (and_left (not (nullable a)) _ e2) (told_of a (and_left (is_predictive a) _ predictive) refs.0) (told_of b (and_left (is_predictive b) _ e1) refs.1) (and_right (not (nullable b)) _ (and_right (not (nullable a)) _ e2)) in
       first_further_accepts p (λ t s more y e i. never p.w (t ∷ more) x y p.spelled i)
 
   -- a call refused at its first token: the part is absent

@@ -2,6 +2,8 @@
 use Rattle.std.proofs.Common.{◌≡◌, ℕ, ◌+◌, ◌≤◌, Bool, true, false, not, ◌&&◌, Some, List, [], ◌∷◌, ◌⊎◌, drop, length, refl, sym, ◌∙◌, ap, subst, inl, inr, arith}
 use Rattle.std.specs.Prelude.{cond, slice_get, Result, Ok, Err}
 use Rattle.std.proofs.lemmas.Option.{slice_get_within}
+use Rattle.fp_base.proofs.Bools.{never_true, and_left, and_right, or_cases}
+use Rattle.fp_base.proofs.Lists.{drop_here}
 use Rattle.fp_grammar.specs.declared.halt.Halt.{Halt}
 use Rattle.fp_grammar.specs.declared.halt.Halt.TheVariants.{Unexpected, NoMemory}
 use Rattle.fp_grammar.specs.Grammar.{Grammar, Spells, Among}
@@ -11,8 +13,8 @@ use Rattle.fp_grammar.specs.Promises.{IsGood, RefsGood, Fits}
 use Rattle.fp_grammar.specs.Looks.{Look, Sees, rules_out, left, opens, begun}
 use Rattle.fp_grammar.specs.Looks.Look.{one, other, with, without}
 use Rattle.fp_grammar.specs.Parses.{Accepts, Refuses, Parses, NextAmong, IsStuck}
-use Rattle.fp_grammar.proofs.Lists.{and-left, and-right, or-cases, not-true, disjoint-apart, Among-subset}
-use Rattle.fp_grammar.proofs.Tokens.{rest_at, read_at}
+use Rattle.fp_grammar.proofs.Lists.{disjoint-apart, Among-subset}
+use Rattle.fp_grammar.proofs.Tokens.{read_at}
 use Rattle.fp_grammar.proofs.Fits.{told_of, good_of}
 use Rattle.fp_grammar.proofs.Opens.{opens_one}
 use Rattle.fp_grammar.proofs.Further.{Fails, fails_behind, first_further_accepts, first_further_refuses, second_further_accepts, second_further_refuses}
@@ -39,9 +41,9 @@ record Parts {T X : Type 0} (a b : Grammar T X) : Type 0 where
 
 parts_of : {T X : Type 0} (a b : Grammar T X) → is_predictive (alt a b) ≡ true → Parts a b
 parts_of a b e =
-    let e1 = and-right (is_predictive a) _ e in
-    let e2 = and-right (is_predictive b) _ e1 in
-    record { predictive_a = and-left (is_predictive a) _ e; predictive_b = and-left (is_predictive b) _ e1; not_a = and-left (not (nullable a)) _ e2; not_b = and-left (not (nullable b)) _ (and-right (not (nullable a)) _ e2) }
+    let e1 = and_right (is_predictive a) _ e in
+    let e2 = and_right (is_predictive b) _ e1 in
+    record { predictive_a = and_left (is_predictive a) _ e; predictive_b = and_left (is_predictive b) _ e1; not_a = and_left (not (nullable a)) _ e2; not_b = and_left (not (nullable b)) _ (and_right (not (nullable a)) _ e2) }
 
 -- a look at a token that begins a spelling: it was read
 some_read : {T X : Type 0} (kind : T → ℕ) (g : Grammar T X) (ks : List ℕ) (tokens : List T) (from to : ℕ) → NextAmong kind ks tokens from → is_predictive g ≡ true → RefsGood kind g → opens ks g ≡ true → (w : List T) → to ≡ from + length w → IsStuck (Spells kind g) w (drop to tokens) → from + 1 ≤ to
@@ -49,14 +51,14 @@ some_read kind g ks tokens from to n predictive refs b (t ∷ w) e stuck = omega
 some_read kind g ks tokens from to n predictive refs b [] e stuck =
     let o = opens_one kind g ks predictive refs b n.0 n.2 in
     let f : to ≡ from = omega (arith, e) in
-    absurd (stuck n.0 (drop (from + 1) tokens) o.0 o.1 (ap (λ m. drop m tokens) f ∙ rest_at tokens from n.0 (sym n.1)) o.2)
+    absurd (stuck n.0 (drop (from + 1) tokens) o.0 o.1 (ap (λ m. drop m tokens) f ∙ drop_here tokens from n.0 (sym n.1)) o.2)
 
 module _ {T : Type 0} {kind : T → ℕ} where
   -- the first token is none that a begins with
   fails_first : {X : Type 0} (a : Grammar T X) (ks : List ℕ) (tokens : List T) (from : ℕ) → NextAmong kind ks tokens from → is_predictive a ≡ true → not (nullable a) ≡ true → RefsGood kind a → disjoint ks (first a) ≡ true → Fails kind a tokens from from
   fails_first {X = X} a ks tokens from n predictive not_null refs d = record {
     ends = record { w = []; place = omega arith; splits = refl; stuck = stuck };
-    none = λ x s. not-true (nullable a) not_null (good.empty x s);
+    none = λ x s. never_true (nullable a) not_null (good.empty x s);
   }
     where
       good : IsGood kind (Spells kind a) (nullable a) (productive a) (first a) (extends a)
@@ -64,7 +66,7 @@ module _ {T : Type 0} {kind : T → ℕ} where
 
       stuck : (t : T) (s more : List T) (x : X) → drop from tokens ≡ t ∷ s → Spells kind a (t ∷ more) x → ⊥
       stuck t s more x e i =
-          let f : t ∷ s ≡ n.0 ∷ drop (from + 1) tokens = sym e ∙ rest_at tokens from n.0 (sym n.1) in
+          let f : t ∷ s ≡ n.0 ∷ drop (from + 1) tokens = sym e ∙ drop_here tokens from n.0 (sym n.1) in
           let g : t ≡ n.0 = cc in
           disjoint-apart (kind n.0) ks (first a) d n.2 (subst (λ v. Among (kind v) (first a)) g (good.begin t more x i))
 
@@ -72,7 +74,7 @@ module _ {T : Type 0} {kind : T → ℕ} where
   fails_other : {X : Type 0} (a : Grammar T X) (ks : List ℕ) (tokens : List T) (from : ℕ) → (NextAmong kind ks tokens from → ⊥) → is_predictive a ≡ true → not (nullable a) ≡ true → RefsGood kind a → subset (first a) ks ≡ true → Fails kind a tokens from from
   fails_other {X = X} a ks tokens from n predictive not_null refs d = record {
     ends = record { w = []; place = omega arith; splits = refl; stuck = stuck };
-    none = λ x s. not-true (nullable a) not_null (good.empty x s);
+    none = λ x s. never_true (nullable a) not_null (good.empty x s);
   }
     where
       good : IsGood kind (Spells kind a) (nullable a) (productive a) (first a) (extends a)
@@ -86,8 +88,8 @@ module _ {T : Type 0} {kind : T → ℕ} where
   -- the second is none that a goes on with
   fails_second : {X : Type 0} (a : Grammar T X) (ks : List ℕ) (tokens : List T) (from : ℕ) → NextAmong kind ks tokens from → is_predictive a ≡ true → RefsGood kind a → is_plain a ≡ true → not (alone ks a) ≡ true → ((t : T) → Some t ≡ slice_get tokens (from + 1) → Among (kind t) (seconds ks a) → ⊥) → Fails kind a tokens from (from + 1)
   fails_second {X = X} a ks tokens from n predictive refs plain not_alone unlike = record {
-    ends = record { w = n.0 ∷ []; place = omega arith; splits = rest_at tokens from n.0 (sym n.1); stuck = stuck };
-    none = λ x s. not-true (alone ks a) not_alone ((told_of a predictive refs).alone_by ks n.0 x s n.2);
+    ends = record { w = n.0 ∷ []; place = omega arith; splits = drop_here tokens from n.0 (sym n.1); stuck = stuck };
+    none = λ x s. never_true (alone ks a) not_alone ((told_of a predictive refs).alone_by ks n.0 x s n.2);
   }
     where
       stuck : (t : T) (s more : List T) (x : X) → drop (from + 1) tokens ≡ t ∷ s → Spells kind a (n.0 ∷ t ∷ more) x → ⊥
@@ -96,30 +98,30 @@ module _ {T : Type 0} {kind : T → ℕ} where
   out_of : {X : Type 0} (look : Look) (a : Grammar T X) (tokens : List T) (from : ℕ) → Sees kind look tokens from → is_predictive a ≡ true → not (nullable a) ≡ true → RefsGood kind a → rules_out look a ≡ true → Out kind look a tokens from
   out_of (one ks) a tokens from n predictive not_null refs d = record { at = from; low = omega arith; fails = fails_first a ks tokens from n predictive not_null refs d }
   out_of (other ks) a tokens from n predictive not_null refs d = record { at = from; low = omega arith; fails = fails_other a ks tokens from n predictive not_null refs d }
-  out_of (with ks js) a tokens from (n, m) predictive not_null refs d = go (or-cases (disjoint ks (first a)) _ d)
+  out_of (with ks js) a tokens from (n, m) predictive not_null refs d = go (or_cases (disjoint ks (first a)) _ d)
     where
       go : (disjoint ks (first a) ≡ true) ⊎ ((is_plain a && (not (alone ks a) && disjoint js (seconds ks a))) ≡ true) → Out kind (with ks js) a tokens from
       go (inl e) = record { at = from; low = omega arith; fails = fails_first a ks tokens from n predictive not_null refs e }
       go (inr e) =
-          let e1 = and-right (is_plain a) _ e in
+          let e1 = and_right (is_plain a) _ e in
           record {
             at = from + 1;
             low = omega arith;
-            fails = fails_second a ks tokens from n predictive refs (and-left (is_plain a) _ e) (and-left (not (alone ks a)) _ e1) (λ t f h.
+            fails = fails_second a ks tokens from n predictive refs (and_left (is_plain a) _ e) (and_left (not (alone ks a)) _ e1) (λ t f h.
                 let g : m.0 ≡ t = let i = m.1 in cc in
-                disjoint-apart (kind t) js (seconds ks a) (and-right (not (alone ks a)) _ e1) (subst (λ v. Among (kind v) js) g m.2) h);
+                disjoint-apart (kind t) js (seconds ks a) (and_right (not (alone ks a)) _ e1) (subst (λ v. Among (kind v) js) g m.2) h);
           }
-  out_of (without ks js) a tokens from (n, m) predictive not_null refs d = go (or-cases (disjoint ks (first a)) _ d)
+  out_of (without ks js) a tokens from (n, m) predictive not_null refs d = go (or_cases (disjoint ks (first a)) _ d)
     where
       go : (disjoint ks (first a) ≡ true) ⊎ ((is_plain a && (not (alone ks a) && subset (seconds ks a) js)) ≡ true) → Out kind (without ks js) a tokens from
       go (inl e) = record { at = from; low = omega arith; fails = fails_first a ks tokens from n predictive not_null refs e }
       go (inr e) =
-          let e1 = and-right (is_plain a) _ e in
+          let e1 = and_right (is_plain a) _ e in
           record {
             at = from + 1;
             low = omega arith;
-            fails = fails_second a ks tokens from n predictive refs (and-left (is_plain a) _ e) (and-left (not (alone ks a)) _ e1) (λ t f h.
-                m (t, f, Among-subset (kind t) (seconds ks a) js (and-right (not (alone ks a)) _ e1) h, slice_get_within tokens (from + 1) t (sym f)));
+            fails = fails_second a ks tokens from n predictive refs (and_left (is_plain a) _ e) (and_left (not (alone ks a)) _ e1) (λ t f h.
+                m (t, f, Among-subset (kind t) (seconds ks a) js (and_right (not (alone ks a)) _ e1) h, slice_get_within tokens (from + 1) t (sym f)));
           }
 
   -- what isn't empty takes a token at least
@@ -127,7 +129,7 @@ module _ {T : Type 0} {kind : T → ℕ} where
   takes look a tokens from to x predictive not_null refs p = by_look look (some p.w p.place p.spelled)
     where
       some : (w : List T) → to ≡ from + length w → Spells kind a w x → from + 1 ≤ to
-      some [] e s = absurd (not-true (nullable a) not_null ((good_of a predictive refs).empty x s))
+      some [] e s = absurd (never_true (nullable a) not_null ((good_of a predictive refs).empty x s))
       some (t ∷ w) e s = omega (arith, e)
 
       by_look : (look : Look) → from + 1 ≤ to → least look from ≤ to
@@ -219,7 +221,7 @@ module _ {T : Type 0} {kind : T → ℕ} where
     place = omega arith;
     splits = refl;
     viable = inl refl;
-    none = λ x s. not-true (nullable g) not_null ((good_of g fits.predictive fits.refs).empty x s);
+    none = λ x s. never_true (nullable g) not_null ((good_of g fits.predictive fits.refs).empty x s);
     stuck = stuck;
   }
     where

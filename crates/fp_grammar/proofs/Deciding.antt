@@ -2,6 +2,8 @@
 use Rattle.std.proofs.Common.{◌≡◌, ℕ, zero, suc, ◌+◌, ◌<◌, Bool, true, false, not, ◌&&◌, Option, Some, None, List, [], ◌∷◌, ◌++◌, ◌⊎◌, drop, length, refl, sym, ◌∙◌, ap, subst, inl, inr, arith, length-append, length-drop}
 use Rattle.std.specs.Prelude.{slice_get}
 use Rattle.std.proofs.lemmas.Option.{slice_get_within}
+use Rattle.std.proofs.lemmas.Bool.{cases_eq}
+use Rattle.fp_base.proofs.Bools.{never_true, and_left, and_right}
 use Rattle.fp_grammar.specs.Grammar.{Grammar, Spells, Among}
 use Rattle.fp_grammar.specs.Grammar.Grammar.{token, one_of, seq, map, with_tokens, alt, optional, many, alternating, chain, separated, separated_tail, ref}
 use Rattle.fp_grammar.specs.Sets.{is_predictive, nullable, first, extends, disjoint, member}
@@ -9,7 +11,7 @@ use Rattle.fp_grammar.specs.Promises.{RefsGood, Fits}
 use Rattle.fp_grammar.specs.Decided.{Answer, RefsDecided}
 use Rattle.fp_grammar.specs.Decided.Answer.{accepted, refused}
 use Rattle.fp_grammar.specs.Parses.{Accepts, Refuses, NextAmong}
-use Rattle.fp_grammar.proofs.Lists.{and-left, and-right, not-true, member-true, Among-from_member}
+use Rattle.fp_grammar.proofs.Lists.{member-true, Among-from_member}
 use Rattle.fp_grammar.proofs.Fits.{good_of}
 use Rattle.fp_grammar.proofs.Walk.{Reached, begin, next, done, stop, first_refused}
 use Rattle.fp_grammar.proofs.Steps.{absent, map_accepts, map_refuses, with_tokens_accepts, with_tokens_refuses, optional_absent, optional_accepts, optional_refuses, token_accepts, token_refuses, one_of_accepts, one_of_refuses}
@@ -17,9 +19,6 @@ use Rattle.fp_grammar.proofs.ListSteps.{many_next, many_absent, many_refuses, se
 use Rattle.fp_grammar.proofs.TurnSteps.{turn_next, turn_absent, turn_refuses, turned_fits}
 use Rattle.fp_grammar.proofs.ChainSteps.{Building, chain_begin, chain_first_refused, chain_next, chain_done, chain_full, chain_stop}
 use Rattle.fp_grammar.proofs.Further.{either_answer}
-
-same_number : (n m : ℕ) → (n ≡ m) ⊎ (n ≡ m → ⊥)
-same_number n m = grind arith
 
 among_at : {T : Type 0} (kind : T → ℕ) (ks : List ℕ) (tokens : List T) (at : ℕ) (t : T) → Some t ≡ slice_get tokens at → (b : Bool) → b ≡ member (kind t) ks → NextAmong kind ks tokens at ⊎ (NextAmong kind ks tokens at → ⊥)
 among_at kind ks tokens at t e true f = inl (t, e, Among-from_member (kind t) ks (sym f), slice_get_within tokens at t (sym e))
@@ -36,7 +35,7 @@ module _ {T : Type 0} {kind : T → ℕ} where
   token_answer_at : (k : ℕ) (tokens : List T) (from : ℕ) (o : Option T) → o ≡ slice_get tokens from → Answer kind (token k) tokens from
   token_answer_at k tokens from None e = refused from (token_refuses k tokens from (λ t f g. cc))
   token_answer_at k tokens from (Some t) e =
-      elim (same_number (kind t) k) [
+      elim (cases_eq (kind t) k) [
         | inl f ↦ accepted t (from + 1) (token_accepts k t tokens from e f)
         | inr f ↦ refused from (token_refuses k tokens from (λ s g h. let i : s ≡ t = cc in f (ap kind (sym i) ∙ h)))
       ]
@@ -53,7 +52,7 @@ module _ {T : Type 0} {kind : T → ℕ} where
   reads {X = X} {a = a} {tokens = tokens} {mid = mid} {to = to} {x = x} predictive not_null refs p = go p.w p.splits p.spelled
     where
       go : (w : List T) → drop mid tokens ≡ w ++ drop to tokens → Spells kind a w x → length (drop to tokens) < length (drop mid tokens)
-      go [] e s = absurd (not-true (nullable a) not_null ((good_of a predictive refs).empty x s))
+      go [] e s = absurd (never_true (nullable a) not_null ((good_of a predictive refs).empty x s))
       go (t ∷ w) e s = omega (arith, ap length e, length-append (t ∷ w) (drop to tokens))
 
   seq_rest : {X Y : Type 0} (a : Grammar T X) (b : Grammar T Y) (tokens : List T) (from : ℕ) → Fits kind (seq a b) → (x : X) (mid : ℕ) → Accepts kind a tokens from x mid → Answer kind b tokens mid → Answer kind (seq a b) tokens from
@@ -75,7 +74,7 @@ module _ {T : Type 0} {kind : T → ℕ} where
   optional_answer : {X : Type 0} (a : Grammar T X) (tokens : List T) (from : ℕ) → Answer kind a tokens from → Answer kind (optional a) tokens from
   optional_answer a tokens from (accepted x to p) = accepted (Some x) to (optional_accepts p)
   optional_answer a tokens from (refused to p) =
-      elim (same_number from to) [
+      elim (cases_eq from to) [
         | inl e ↦ accepted None from (optional_absent (absent (subst (λ n. Refuses kind a tokens from n) (sym e) p)))
         | inr e ↦ refused to (optional_refuses e p)
       ]
@@ -83,12 +82,12 @@ module _ {T : Type 0} {kind : T → ℕ} where
   -- more of several, with as many steps at most as tokens are left
   many_step : {A X : Type 0} {g : Grammar T X} (a : Grammar T A) (tokens : List T) (from mid : ℕ) (k : List A → X) → Fits kind (many a) → Reached kind g (many a) k tokens from mid → ((k' : List A → X) (to : ℕ) → length (drop to tokens) < length (drop mid tokens) → Reached kind g (many a) k' tokens from to → Answer kind g tokens from) → Answer kind a tokens mid → Answer kind g tokens from
   many_step a tokens from mid k fits r more (accepted x to p) =
-      let e = and-right (is_predictive a) _ fits.predictive in
-      more (λ xs. k (x ∷ xs)) to (reads (and-left (is_predictive a) _ fits.predictive) (and-left (not (nullable a)) _ e) fits.refs p) (many_next r p)
+      let e = and_right (is_predictive a) _ fits.predictive in
+      more (λ xs. k (x ∷ xs)) to (reads (and_left (is_predictive a) _ fits.predictive) (and_left (not (nullable a)) _ e) fits.refs p) (many_next r p)
   many_step a tokens from mid k fits r more (refused to p) =
-      let e = and-right (is_predictive a) _ fits.predictive in
-      elim (same_number mid to) [
-        | inl f ↦ accepted (k []) mid (done r (many_absent (and-left (not (nullable a)) _ e) (and-left (is_predictive a) _ fits.predictive) fits.refs (absent (subst (λ n. Refuses kind a tokens mid n) (sym f) p))))
+      let e = and_right (is_predictive a) _ fits.predictive in
+      elim (cases_eq mid to) [
+        | inl f ↦ accepted (k []) mid (done r (many_absent (and_left (not (nullable a)) _ e) (and_left (is_predictive a) _ fits.predictive) fits.refs (absent (subst (λ n. Refuses kind a tokens mid n) (sym f) p))))
         | inr f ↦ refused to (stop r (many_refuses fits f p))
       ]
 
@@ -99,11 +98,11 @@ module _ {T : Type 0} {kind : T → ℕ} where
   -- more of the one and the other, with as many steps at most as tokens are left
   turn_step : {A X : Type 0} {g : Grammar T X} (a b : Grammar T A) (tokens : List T) (from mid : ℕ) (k : List A → X) → Fits kind (alternating a b) → Reached kind g (alternating a b) k tokens from mid → ((k' : List A → X) (to : ℕ) → length (drop to tokens) < length (drop mid tokens) → Reached kind g (alternating b a) k' tokens from to → Answer kind g tokens from) → Answer kind a tokens mid → Answer kind g tokens from
   turn_step a b tokens from mid k fits r more (accepted x to p) =
-      let e1 = and-right (is_predictive a) _ fits.predictive in
-      let e2 = and-right (is_predictive b) _ e1 in
-      more (λ xs. k (x ∷ xs)) to (reads (and-left (is_predictive a) _ fits.predictive) (and-left (not (nullable a)) _ e2) fits.refs.0 p) (turn_next r p)
+      let e1 = and_right (is_predictive a) _ fits.predictive in
+      let e2 = and_right (is_predictive b) _ e1 in
+      more (λ xs. k (x ∷ xs)) to (reads (and_left (is_predictive a) _ fits.predictive) (and_left (not (nullable a)) _ e2) fits.refs.0 p) (turn_next r p)
   turn_step a b tokens from mid k fits r more (refused to p) =
-      elim (same_number mid to) [
+      elim (cases_eq mid to) [
         | inl f ↦ accepted (k []) mid (done r (turn_absent fits (absent (subst (λ n. Refuses kind a tokens mid n) (sym f) p))))
         | inr f ↦ refused to (stop r (turn_refuses fits f p))
       ]
@@ -115,10 +114,10 @@ module _ {T : Type 0} {kind : T → ℕ} where
   chain_step : {X Y : Type 0} (a : Grammar T X) (b : Grammar T Y) (allows : X → Bool) (build : X → Y → X) (tokens : List T) (from mid : ℕ) (sum : X) (ok : Bool) → ok ≡ allows sum → Fits kind (many b) → Building kind a b allows build tokens from sum mid → ((sum : X) (to : ℕ) → length (drop to tokens) < length (drop mid tokens) → Building kind a b allows build tokens from sum to → Answer kind (chain a b allows build) tokens from) → Answer kind b tokens mid → Answer kind (chain a b allows build) tokens from
   chain_step a b allows build tokens from mid sum false e fits r more p = accepted sum mid (chain_full r (sym e))
   chain_step a b allows build tokens from mid sum true e fits r more (accepted z to p) =
-      let f = and-right (is_predictive b) _ fits.predictive in
-      more (build sum z) to (reads (and-left (is_predictive b) _ fits.predictive) (and-left (not (nullable b)) _ f) fits.refs p) (chain_next r (sym e) p)
+      let f = and_right (is_predictive b) _ fits.predictive in
+      more (build sum z) to (reads (and_left (is_predictive b) _ fits.predictive) (and_left (not (nullable b)) _ f) fits.refs p) (chain_next r (sym e) p)
   chain_step a b allows build tokens from mid sum true e fits r more (refused to p) =
-      elim (same_number mid to) [
+      elim (cases_eq mid to) [
         | inl f ↦ accepted sum mid (chain_done r (absent (subst (λ n. Refuses kind b tokens mid n) (sym f) p)))
         | inr f ↦ refused to (chain_stop r (sym e) f p)
       ]
@@ -143,11 +142,11 @@ module _ {T : Type 0} {kind : T → ℕ} where
 
   separated_step : {A X : Type 0} {g : Grammar T X} (a : Grammar T A) (seps : List ℕ) (tokens : List T) (from mid : ℕ) (k : List A → X) → Fits kind (separated a seps) → Reached kind g (separated a seps) k tokens from mid → ((k' : List A → X) (to : ℕ) → length (drop to tokens) < length (drop mid tokens) → Reached kind g (separated a seps) k' tokens from to → Answer kind g tokens from) → Answer kind a tokens mid → Answer kind g tokens from
   separated_step a seps tokens from mid k fits r more (accepted x to p) =
-      let e = and-right (is_predictive a) _ fits.predictive in
-      let l = reads (and-left (is_predictive a) _ fits.predictive) (and-left (not (nullable a)) _ e) fits.refs p in
+      let e = and_right (is_predictive a) _ fits.predictive in
+      let l = reads (and_left (is_predictive a) _ fits.predictive) (and_left (not (nullable a)) _ e) fits.refs p in
       tail_step a seps tokens from to (λ xs. k (x ∷ xs)) (separated_next r p) (λ r'. more (λ xs. k (x ∷ xs)) (to + 1) (omega (arith, l, length-drop (to + 1) tokens, length-drop to tokens)) r')
   separated_step a seps tokens from mid k fits r more (refused to p) =
-      elim (same_number mid to) [
+      elim (cases_eq mid to) [
         | inl f ↦ accepted (k []) mid (done r (separated_absent fits (absent (subst (λ n. Refuses kind a tokens mid n) (sym f) p))))
         | inr f ↦ refused to (stop r (separated_refuses fits f p))
       ]
@@ -161,26 +160,26 @@ module _ {T : Type 0} {kind : T → ℕ} where
   answer_of (one_of ks) predictive refs d tokens from = one_of_answer ks tokens from
   answer_of (seq a b) predictive refs d tokens from =
       let fits : Fits kind (seq a b) = record { predictive = predictive; some = d.0; refs = refs } in
-      seq_answer a b tokens from fits (answer_of a (and-left (is_predictive a) _ predictive) refs.0 d.1 tokens from) (λ mid. answer_of b (and-left (is_predictive b) _ (and-right (is_predictive a) _ predictive)) refs.1 d.2 tokens mid)
+      seq_answer a b tokens from fits (answer_of a (and_left (is_predictive a) _ predictive) refs.0 d.1 tokens from) (λ mid. answer_of b (and_left (is_predictive b) _ (and_right (is_predictive a) _ predictive)) refs.1 d.2 tokens mid)
   answer_of (map f a) predictive refs d tokens from = map_answer f a tokens from (answer_of a predictive refs d tokens from)
   answer_of (with_tokens a) predictive refs d tokens from = with_tokens_answer a tokens from (answer_of a predictive refs d tokens from)
   answer_of (alt a b) predictive refs d tokens from =
-      either_answer a b tokens from (answer_of a (and-left (is_predictive a) _ predictive) refs.0 d.0 tokens from) (answer_of b (and-left (is_predictive b) _ (and-right (is_predictive a) _ predictive)) refs.1 d.1 tokens from)
-  answer_of (optional a) predictive refs d tokens from = optional_answer a tokens from (answer_of a (and-left (is_predictive a) _ predictive) refs d tokens from)
+      either_answer a b tokens from (answer_of a (and_left (is_predictive a) _ predictive) refs.0 d.0 tokens from) (answer_of b (and_left (is_predictive b) _ (and_right (is_predictive a) _ predictive)) refs.1 d.1 tokens from)
+  answer_of (optional a) predictive refs d tokens from = optional_answer a tokens from (answer_of a (and_left (is_predictive a) _ predictive) refs d tokens from)
   answer_of (many a) predictive refs d tokens from =
       let fits : Fits kind (many a) = record { predictive = predictive; some = refl; refs = refs } in
-      many_from (length (drop from tokens) + 1) a tokens from from (λ xs. xs) fits (λ at. answer_of a (and-left (is_predictive a) _ predictive) refs d tokens at) (omega arith) (begin tokens from fits)
+      many_from (length (drop from tokens) + 1) a tokens from from (λ xs. xs) fits (λ at. answer_of a (and_left (is_predictive a) _ predictive) refs d tokens at) (omega arith) (begin tokens from fits)
   answer_of (alternating a b) predictive refs d tokens from =
       let fits : Fits kind (alternating a b) = record { predictive = predictive; some = refl; refs = refs } in
-      turns_from (length (drop from tokens) + 1) a b tokens from from (λ xs. xs) fits (λ at. answer_of a (and-left (is_predictive a) _ predictive) refs.0 d.0 tokens at) (λ at. answer_of b (and-left (is_predictive b) _ (and-right (is_predictive a) _ predictive)) refs.1 d.1 tokens at) (omega arith) (begin tokens from fits)
+      turns_from (length (drop from tokens) + 1) a b tokens from from (λ xs. xs) fits (λ at. answer_of a (and_left (is_predictive a) _ predictive) refs.0 d.0 tokens at) (λ at. answer_of b (and_left (is_predictive b) _ (and_right (is_predictive a) _ predictive)) refs.1 d.1 tokens at) (omega arith) (begin tokens from fits)
   answer_of (chain a b allows build) predictive refs d tokens from =
       let fits : Fits kind (chain a b allows build) = record { predictive = predictive; some = d.0; refs = refs } in
-      let e1 = and-left (is_predictive b && (not (nullable b) && disjoint (extends b) (first b))) _ (and-right (is_predictive a) _ predictive) in
-      chain_answer a b allows build tokens from fits (answer_of a (and-left (is_predictive a) _ predictive) refs.0 d.1 tokens from) (λ at. answer_of b (and-left (is_predictive b) _ e1) refs.1 d.2 tokens at)
+      let e1 = and_left (is_predictive b && (not (nullable b) && disjoint (extends b) (first b))) _ (and_right (is_predictive a) _ predictive) in
+      chain_answer a b allows build tokens from fits (answer_of a (and_left (is_predictive a) _ predictive) refs.0 d.1 tokens from) (λ at. answer_of b (and_left (is_predictive b) _ e1) refs.1 d.2 tokens at)
   answer_of (separated a seps) predictive refs d tokens from =
       let fits : Fits kind (separated a seps) = record { predictive = predictive; some = refl; refs = refs } in
-      separated_from (length (drop from tokens) + 1) a seps tokens from from (λ xs. xs) fits (λ at. answer_of a (and-left (is_predictive a) _ predictive) refs d tokens at) (omega arith) (begin tokens from fits)
+      separated_from (length (drop from tokens) + 1) a seps tokens from from (λ xs. xs) fits (λ at. answer_of a (and_left (is_predictive a) _ predictive) refs d tokens at) (omega arith) (begin tokens from fits)
   answer_of (separated_tail a seps) predictive refs d tokens from =
       let fits : Fits kind (separated_tail a seps) = record { predictive = predictive; some = refl; refs = refs } in
-      tail_step a seps tokens from from (λ xs. xs) (begin tokens from fits) (λ r. separated_from (length (drop (from + 1) tokens) + 1) a seps tokens from (from + 1) (λ xs. xs) (record { predictive = predictive; some = refl; refs = refs }) (λ at. answer_of a (and-left (is_predictive a) _ predictive) refs d tokens at) (omega arith) r)
+      tail_step a seps tokens from from (λ xs. xs) (begin tokens from fits) (λ r. separated_from (length (drop (from + 1) tokens) + 1) a seps tokens from (from + 1) (λ xs. xs) (record { predictive = predictive; some = refl; refs = refs }) (λ at. answer_of a (and_left (is_predictive a) _ predictive) refs d tokens at) (omega arith) r)
   answer_of (ref n) predictive refs d tokens from = d tokens from

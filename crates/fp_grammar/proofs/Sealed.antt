@@ -1,10 +1,11 @@
 -- A sealed production keeps what its sets promise, and is parsed as what is under the seal.
 use Rattle.std.proofs.Common.{◌≡◌, ℕ, true, not, List}
+use Rattle.fp_base.proofs.Bools.{never_true}
 use Rattle.fp_grammar.specs.Grammar.{Grammar}
 use Rattle.fp_grammar.specs.Sets.{nullable, first, extends, is_predictive, subset}
 use Rattle.fp_grammar.specs.Seal.{seal}
 use Rattle.fp_grammar.specs.Parses.{Accepts, Refuses}
-use Rattle.fp_grammar.proofs.Lists.{not-true, Among-subset}
+use Rattle.fp_grammar.proofs.Lists.{Among-subset}
 use Rattle.fp_grammar.specs.Promises.{RefsGood}
 use Rattle.fp_grammar.proofs.Fits.{good_of}
 
@@ -15,7 +16,7 @@ module _ {T : Type 0} {kind : T → ℕ} where
       let good = good_of g predictive refs in
       record {
         spelling = good.spelling;
-        empty = λ x s. absurd (not-true (nullable g) not_null (good.empty x s));
+        empty = λ x s. absurd (never_true (nullable g) not_null (good.empty x s));
         begin = λ t w x s. Among-subset (kind t) (first g) fs f (good.begin t w x s);
         extend = λ u t w x y s i. Among-subset (kind t) (extends g) es e (good.extend u t w x y s i);
         unique = good.unique;

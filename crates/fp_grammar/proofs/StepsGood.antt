@@ -1,9 +1,10 @@
 -- A language that is read in steps keeps what its sets promise, if the grammars of the pieces do.
 use Rattle.std.proofs.Common.{◌≡◌, ℕ, true, false, List, [], ◌∷◌, ◌++◌, refl, sym, ◌∙◌, ap, subst, append_assoc, append-nil}
+use Rattle.fp_base.proofs.Bools.{never_true}
 use Rattle.fp_grammar.specs.Grammar.{Spells, Among}
 use Rattle.fp_grammar.specs.Sets.{nullable, productive, first, extends}
 use Rattle.fp_grammar.specs.Promises.{Fits, IsGood}
-use Rattle.fp_grammar.proofs.Lists.{Cuts, cuts_of, not-true, disjoint-apart, Among-subset}
+use Rattle.fp_grammar.proofs.Lists.{Cuts, cuts_of, disjoint-apart, Among-subset}
 use Rattle.fp_grammar.proofs.Lists.Cuts.{same, longer, shorter}
 use Rattle.fp_grammar.proofs.Fits.{good_of}
 use Rattle.fp_grammar.specs.Steps.{Next, Steps, SpellsFrom, Driven, from_state}
@@ -48,18 +49,18 @@ module _ {T S Y X : Type 0} {kind : T → ℕ} {steps : Steps T S Y X} {over : L
   begins s w x (more _ s' _ u v y _ f p e m) t r g = front u (sym f ∙ g) p
     where
       front : (u : List T) → u ++ v ≡ t ∷ r → Spells kind (steps.piece s) u y → Among (kind t) (first (steps.piece s))
-      front [] h p = absurd (not-true (nullable (steps.piece s)) (d.filled s) ((piece_good s).empty y p))
+      front [] h p = absurd (never_true (nullable (steps.piece s)) (d.filled s) ((piece_good s).empty y p))
       front (t' ∷ u) h p = let i : t' ≡ t = cc in (piece_good s).begin t u y (subst (λ l. Spells kind (steps.piece s) (l ∷ u) y) i p)
 
   pub begins_apart : (s : S) (w : List T) (x : X) → SpellsFrom kind steps s w x → BeginsApart kind over w
   begins_apart s w x m t r f h = disjoint-apart (kind t) over (first (steps.piece s)) (d.apart s) h (begins s w x m t r f)
 
   pub never_empty : (s : S) (w : List T) (x : X) → SpellsFrom kind steps s w x → w ≡ [] → ⊥
-  never_empty s w x (last _ _ y _ p e) f = not-true (nullable (steps.piece s)) (d.filled s) ((piece_good s).empty y (subst (λ l. Spells kind (steps.piece s) l y) f p))
+  never_empty s w x (last _ _ y _ p e) f = never_true (nullable (steps.piece s)) (d.filled s) ((piece_good s).empty y (subst (λ l. Spells kind (steps.piece s) l y) f p))
   never_empty s w x (more _ s' _ u v y _ f p e m) g = front u (sym f ∙ g) p
     where
       front : (u : List T) → u ++ v ≡ [] → Spells kind (steps.piece s) u y → ⊥
-      front [] h p = not-true (nullable (steps.piece s)) (d.filled s) ((piece_good s).empty y p)
+      front [] h p = never_true (nullable (steps.piece s)) (d.filled s) ((piece_good s).empty y p)
       front (t' ∷ u) h p = cc
 
   -- what follows is a spelling, so it begins apart also with more behind it

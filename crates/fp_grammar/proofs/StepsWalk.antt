@@ -3,10 +3,10 @@ use Rattle.std.proofs.Common.{◌≡◌, ℕ, ◌<◌, length, List, [], ◌∷�
 use Rattle.fp_grammar.specs.Grammar.{Grammar, Spells}
 use Rattle.fp_grammar.specs.Sets.{nullable, productive, first}
 use Rattle.std.specs.Prelude.{Result, Ok, Err}
+use Rattle.fp_base.proofs.Bools.{never_true}
 use Rattle.fp_grammar.specs.declared.halt.Halt.{Halt}
 use Rattle.fp_grammar.specs.declared.halt.Halt.TheVariants.{Unexpected, NoMemory}
 use Rattle.fp_grammar.specs.Parses.{Accepts, Refuses, Parses}
-use Rattle.fp_grammar.proofs.Lists.{not-true}
 use Rattle.fp_grammar.proofs.Cutting.{Agrees, cut_stuck, cut_none}
 use Rattle.fp_grammar.proofs.Walk.{Reached, Agrees-append, Agrees-cons, Agrees-none, begin, done, stop}
 use Rattle.fp_grammar.specs.Steps.{Next, Steps, SpellsFrom, Driven, from_state}
@@ -55,7 +55,7 @@ module _ {T S Y X : Type 0} {kind : T → ℕ} {steps : Steps T S Y X} {over : L
   reads {s = s} {mid = mid} {to = to} {y = y} p = go p.w p.splits p.spelled
     where
       go : (w : List T) → drop mid tokens ≡ w ++ drop to tokens → Spells kind (steps.piece s) w y → length (drop to tokens) < length (drop mid tokens)
-      go [] e h = absurd (not-true (nullable (steps.piece s)) (d.filled s) ((piece_good d s).empty y h))
+      go [] e h = absurd (never_true (nullable (steps.piece s)) (d.filled s) ((piece_good d s).empty y h))
       go (t ∷ w) e h = omega (arith, ap length e, length-append (t ∷ w) (drop to tokens))
 
   -- the last piece

@@ -119,7 +119,7 @@ pub fn shared_beginning<G: Alike>()
 pub trait Stepwise {
     type Token;
 
-    type Piece;
+    type Portion;
 
     type Node;
 
@@ -127,7 +127,7 @@ pub trait Stepwise {
 
     ghost kind: { Self.Token → ℕ };
 
-    ghost steps: { Steps Self.Token State Self.Piece Self.Node };
+    ghost steps: { Steps Self.Token State Self.Portion Self.Node };
 
     ghost over: { List ℕ };
 
@@ -138,9 +138,9 @@ pub trait Stepwise {
 /// last piece ends it, and where a piece is refused the whole is.
 pub fn piece_by_piece<G: Stepwise>()
     ensures fits { (s : G.State) → Fits G.kind (from_state G.kind G.steps G.over s) }
-    ensures goes_on { (s after : G.State) (tokens : List G.Token) (from at : ℕ) (piece : G.Piece) (answer : Result (G.Node × ℕ) Halt) → Accepts G.kind (G.steps.piece s) tokens from piece at → G.steps.leads s piece ≡ on after → Parses G.kind (from_state G.kind G.steps G.over after) tokens at answer → Parses G.kind (from_state G.kind G.steps G.over s) tokens from answer }
-    ensures ends { (s : G.State) (tokens : List G.Token) (from to : ℕ) (piece : G.Piece) (node : G.Node) → Accepts G.kind (G.steps.piece s) tokens from piece to → G.steps.leads s piece ≡ ends node → Accepts G.kind (from_state G.kind G.steps G.over s) tokens from node to }
+    ensures goes_on { (s after : G.State) (tokens : List G.Token) (from at : ℕ) (piece : G.Portion) (answer : Result (G.Node × ℕ) Halt) → Accepts G.kind (G.steps.piece s) tokens from piece at → G.steps.leads s piece ≡ on after → Parses G.kind (from_state G.kind G.steps G.over after) tokens at answer → Parses G.kind (from_state G.kind G.steps G.over s) tokens from answer }
+    ensures ends { (s : G.State) (tokens : List G.Token) (from to : ℕ) (piece : G.Portion) (node : G.Node) → Accepts G.kind (G.steps.piece s) tokens from piece to → G.steps.leads s piece ≡ ends node → Accepts G.kind (from_state G.kind G.steps G.over s) tokens from node to }
     ensures stops { (s : G.State) (tokens : List G.Token) (from to : ℕ) → Refuses G.kind (G.steps.piece s) tokens from to → Refuses G.kind (from_state G.kind G.steps G.over s) tokens from to }
-    ensures reads { (s : G.State) (tokens : List G.Token) (from to : ℕ) (piece : G.Piece) → Accepts G.kind (G.steps.piece s) tokens from piece to → length (drop to tokens) < length (drop from tokens) }
+    ensures reads { (s : G.State) (tokens : List G.Token) (from to : ℕ) (piece : G.Portion) → Accepts G.kind (G.steps.piece s) tokens from piece to → length (drop to tokens) < length (drop from tokens) }
     ensures decided { ((s : G.State) → RefsDecided G.kind (G.steps.piece s)) → (s : G.State) (tokens : List G.Token) (from : ℕ) → Answer G.kind (from_state G.kind G.steps G.over s) tokens from }
 {}

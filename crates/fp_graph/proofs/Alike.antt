@@ -1,10 +1,7 @@
 -- Relations that hold of the same vertices have the same cycles, chains and orders.
-use Rattle.std.proofs.Common.{◌≡◌, ℕ, Bool, true, false, MatchBool, List, sym, ◌∙◌, arith}
+use Rattle.std.proofs.Common.{◌≡◌, ℕ, Bool, List, sym, ◌∙◌, arith}
+use Rattle.fp_base.proofs.Bools.{flag_same}
 use Rattle.fp_graph.specs.Chains.{LeadsThrough, one, more, IsOnCycle, Chain, alone, longer, AreFlags, IsOrder}
-
-flag_same : {P Q : Type 0} (flag : Bool) → (P → Q) → (Q → P) → MatchBool flag P (P → ⊥) → MatchBool flag Q (Q → ⊥)
-flag_same true f g m = f m
-flag_same false f g m = λ q. m (g q)
 
 module _ (A B : ℕ → ℕ → Type 0) (f : (v w : ℕ) → A v w → B v w) where
   leads_alike : {v w : ℕ} → LeadsThrough A v w → LeadsThrough B v w

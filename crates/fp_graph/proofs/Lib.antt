@@ -9,3 +9,4 @@ mod Settling
 mod Steps
 mod Deepening
 mod Listed
+pub mod Leading

@@ -1,15 +1,13 @@
 -- What is written of instances comes to one list of them.
-use Rattle.std.proofs.Common.{◌≡◌, ℕ, suc, ◌<◌, ℤ, pos, List, [], ◌∷◌, length, slice_get, Option, Some, None, refl, sym, ap, ◌∙◌, arith}
-use Rattle.fp_base.proofs.Lists.{get_within}
+use Rattle.std.proofs.Common.{◌≡◌, ◌<◌, ℤ, pos, List, Option, Some, None, sym, ap, ◌∙◌, arith}
+use Rattle.fp_base.proofs.Lists.{get_within, same_items}
 use Rattle.fp_base.proofs.Options.{one_some}
 use Rattle.fp_base.proofs.Spots.{item_below}
+use Rattle.fp_base.proofs.Numbers.{pos_same}
 use Rattle.fp_tables.specs.declared.topology.Instance.{Instance}
 use Rattle.fp_written_parts.specs.declared.port.Given.{Given}
 use Rattle.fp_written_topologies.specs.declared.instance.WrittenInstance.{WrittenInstance}
 use Rattle.fp_instances.specs.Resolved.{AreInstances, IsInstance, IsNumber}
-
-pos_same : (m n : ℕ) → pos m ≡ pos n → m ≡ n
-pos_same m n e = cc
 
 number_same : {A : Type 0} (here : A → ℤ) → ((m n : A) → here m ≡ here n → m ≡ n) → (o : Option Given) (a b : Option A) → IsNumber here o a → IsNumber here o b → a ≡ b
 number_same here one None a b h k = h ∙ sym k
@@ -23,13 +21,6 @@ one_instance w x y h k =
   where
     made : x.name ≡ y.name → x.component ≡ y.component → x.base ≡ y.base → x.queue ≡ y.queue → x.stack ≡ y.stack → x.priority ≡ y.priority → x.cpu ≡ y.cpu → x ≡ y
     made a b c d e f g i = record { name = a i; component = b i; base = c i; queue = d i; stack = e i; priority = f i; cpu = g i }
-
-same_items : {A : Type 0} (ys zs : List A) → length ys ≡ length zs → ((k : ℕ) (y z : A) → slice_get ys k ≡ Some y → slice_get zs k ≡ Some z → y ≡ z) → ys ≡ zs
-same_items [] [] e h = refl
-same_items [] (z ∷ zs) e h = absurd (omega (arith, e))
-same_items (y ∷ ys) [] e h = absurd (omega (arith, e))
-same_items {A = A} (y ∷ ys) (z ∷ zs) e h =
-    ap (λ (x : A). x ∷ ys) (h 0 y z refl refl) ∙ ap (λ (xs : List A). z ∷ xs) (same_items ys zs (omega (arith, e)) (λ k a b p q. h (suc k) a b p q))
 
 pub one_instances : (ws : List WrittenInstance) (xs ys : List Instance) → AreInstances ws xs → AreInstances ws ys → xs ≡ ys
 one_instances ws xs ys h k =

@@ -8,10 +8,11 @@ use Rattle.fp_base.specs.declared.rule.Rule.TheVariants.{NumberOutOfRange}
 use Rattle.fp_base.specs.Least.{ByOptional, IsUnbroken, broken_at}
 use Rattle.fp_tables.specs.declared.component.Component.{Component}
 use Rattle.fp_written_parts.specs.declared.port.Given.{Given}
+use Rattle.fp_written_parts.specs.Numbered.{HasNumber}
 use Rattle.fp_component_rules.specs.PortBroken.{IsOutside}
 use Rattle.fp_instances.specs.InstanceBroken.{BrokenInstance, BrokenNumber, BrokenNumbers}
 use Rattle.fp_instances.specs.declared.instance_facts.InstanceFacts.{InstanceFacts}
-use Rattle.fp_written_topologies.specs.Given.{HasNumber, HasNumberWhereGiven, InstanceHasNumbers}
+use Rattle.fp_written_topologies.specs.Given.{HasNumberWhereGiven, InstanceHasNumbers}
 use Rattle.fp_written_topologies.specs.declared.instance.WrittenInstance.{WrittenInstance}
 use Rattle.fp_instances.specs.Broken.{InstancesBroken}
 use Rattle.fp_instances.specs.Facts.{all_facts, facts_of}

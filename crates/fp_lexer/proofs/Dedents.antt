@@ -5,9 +5,10 @@ use Rattle.std.specs.Str.{IsUtf8, IsCharBoundary}
 use Rattle.std.proofs.lemmas.Bool.{eqb-true, eq-eqb, ne_eqb}
 use Rattle.std.proofs.lemmas.List.{drop_more}
 use Rattle.std.proofs.lemmas.Str.{IsCharBoundary-after_ascii, IsCharBoundary-start}
+use Rattle.fp_base.proofs.Bools.{and_left}
 use Rattle.fp_lexer.specs.Bytes.{dedent, newline_len}
 use Rattle.fp_lexer.specs.Scan.{spaces}
-use Rattle.fp_lexer.proofs.Runs.{bool_cases, cond_true, cond_false, and_left}
+use Rattle.fp_lexer.proofs.Runs.{bool_cases, cond_true, cond_false}
 use Rattle.fp_lexer.proofs.Lines.{newline_forms}
 use Rattle.fp_lexer.proofs.Copies.{stays}
 

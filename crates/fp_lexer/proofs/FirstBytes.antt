@@ -6,12 +6,13 @@ use Rattle.std.specs.Option.{is_some}
 use Rattle.std.proofs.lemmas.Bool.{eqb-true}
 use Rattle.std.proofs.lemmas.Bool.Decides.{nat_tests}
 use Rattle.fp_base.specs.Names.{is_letter, is_digit, is_name_byte, is_name}
+use Rattle.fp_base.proofs.Bools.{and_left, and_right}
 use Rattle.fp_lexer.specs.Words.{words, marks}
 use Rattle.fp_lexer.specs.Scan.{one_mark}
 use Rattle.fp_lexer.specs.Tokens.{IsFloat, is_hex, is_hex_tail, Spelled, is_number}
 use Rattle.fp_lexer.specs.declared.token.Word.{Word}
 use Rattle.fp_lexer.specs.declared.token.Word.TheVariants.{Name, Reserved, Number, Float, Str, Mark, Newline, Before, After}
-use Rattle.fp_lexer.proofs.Runs.{cond_true, cond_false, and_left, and_right}
+use Rattle.fp_lexer.proofs.Runs.{cond_true, cond_false}
 
 abbrev pub is_empty : List ℕ → Bool
 is_empty [] = true

@@ -6,9 +6,10 @@ use Rattle.std.proofs.lemmas.List.Sums.{prefix_len-le-length}
 use Rattle.std.proofs.lemmas.Bool.{ne_eqb, eqb-true, eqb-false}
 use Rattle.std.proofs.lemmas.Bool.Decides.{nat_tests}
 use Rattle.fp_base.specs.Names.{is_digit}
+use Rattle.fp_base.proofs.Bools.{and_left, and_right}
 use Rattle.fp_lexer.specs.Scan.{fraction_len, sign_len, signed_at, signed_len, exponent_len, tail_len, float_len}
 use Rattle.fp_lexer.specs.Tokens.{is_number, is_fraction, is_signed, is_exponent, IsFloat}
-use Rattle.fp_lexer.proofs.Runs.{bool_cases, cond_true, cond_false, and_left, and_right}
+use Rattle.fp_lexer.proofs.Runs.{bool_cases, cond_true, cond_false}
 use Rattle.fp_lexer.proofs.Longest.{all_le_prefix, prefix_all}
 
 pub prefix_exact : (p : ℕ → Bool) (v s : List ℕ) → list_all p v ≡ true → p (get_or s 0 0) ≡ false → prefix_len p (v ++ s) ≡ length v

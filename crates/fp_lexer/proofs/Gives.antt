@@ -6,6 +6,7 @@ use Rattle.std.proofs.lemmas.Bool.{ne_eqb, eqb-true}
 use Rattle.std.proofs.lemmas.List.{drop_more}
 use Rattle.std.proofs.lemmas.List.Sums.{prefix_len-le-length}
 use Rattle.fp_base.specs.Names.{is_letter, is_digit, is_name_byte, is_name}
+use Rattle.fp_base.proofs.Bools.{and_left, and_right}
 use Rattle.fp_lexer.specs.Bytes.{is_hex_digit, body_text, line, newline_len, newline_at, indent_at, trimmed}
 use Rattle.fp_lexer.specs.Words.{words}
 use Rattle.fp_lexer.specs.Scan.{run_value, run_hex, hex_starts, tail_len, float_len, string_len, other, long_len}
@@ -16,7 +17,7 @@ use Rattle.fp_lexer.specs.declared.shape.Shape.{Shape}
 use Rattle.fp_lexer.specs.declared.shape.Shape.TheVariants as shape
 use Rattle.fp_lexer.specs.declared.token.Word.{Word}
 use Rattle.fp_lexer.specs.declared.token.Word.TheVariants.{Name, Reserved, Number, Str, Before, After}
-use Rattle.fp_lexer.proofs.Runs.{cond_true, cond_false, run_value-is, run_hex-is, and_left, and_right}
+use Rattle.fp_lexer.proofs.Runs.{cond_true, cond_false, run_value-is, run_hex-is}
 use Rattle.fp_lexer.proofs.Lines.{line_splits, line_takes, newline_forms}
 use Rattle.fp_lexer.proofs.FirstBytes.{digit_first}
 use Rattle.fp_lexer.proofs.Lined.{is_lead, lined_longest, lead_none, quoted, long_quoted}

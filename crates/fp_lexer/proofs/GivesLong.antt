@@ -8,9 +8,10 @@ use Rattle.fp_lexer.specs.Found.{IsPart, IsFlawed, GivesLexeme}
 use Rattle.fp_lexer.specs.Broken.{NoneBegins}
 use Rattle.fp_lexer.specs.Tokens.{begins_long, IsLongBody, IsLexeme}
 use Rattle.fp_base.specs.declared.rule.Rule.TheVariants.{BadEscape}
+use Rattle.fp_base.proofs.Bools.{and_left, and_right}
 use Rattle.fp_lexer.specs.declared.shape.Shape.TheVariants as shape
 use Rattle.fp_lexer.specs.declared.token.Word.TheVariants.{Str}
-use Rattle.fp_lexer.proofs.Runs.{cond_true, and_left, and_right}
+use Rattle.fp_lexer.proofs.Runs.{cond_true}
 use Rattle.fp_lexer.proofs.Lined.{lined_longest, lead_none, quoted, long_quoted}
 use Rattle.fp_lexer.proofs.LongStrings.{long_sound, long_body, bad_is, bad_first_is, bad_none, bad_within, same_body}
 use Rattle.fp_lexer.proofs.Parts.{quoted_part}

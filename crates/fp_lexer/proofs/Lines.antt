@@ -3,8 +3,9 @@ use Rattle.std.proofs.Common.{◌≡◌, ℕ, ◌<◌, ◌≤◌, ◌+◌, List,
 use Rattle.std.specs.Prelude.{◌==◌}
 use Rattle.std.proofs.lemmas.Bool.{eqb-true, eq-eqb, ne_eqb}
 use Rattle.std.proofs.lemmas.List.{drop_more, drop_all}
+use Rattle.fp_base.proofs.Bools.{and_left, and_right}
 use Rattle.fp_lexer.specs.Bytes.{newline_of, newline_len, line}
-use Rattle.fp_lexer.proofs.Runs.{bool_cases, cond_true, cond_false, and_left, and_right}
+use Rattle.fp_lexer.proofs.Runs.{bool_cases, cond_true, cond_false}
 
 pub newline_here : (text : List ℕ) (at : ℕ) → at < length text → newline_len (drop at text) ≡ newline_of (get_or text at 0) (get_or text (at + 1) 0)
 newline_here text at h =

@@ -3,11 +3,12 @@ use Rattle.std.proofs.Common.{◌≡◌, ℕ, ◌<◌, ◌≤◌, ◌+◌, List,
 use Rattle.std.specs.Prelude.{◌==◌, slice_index, nat_lt, ◌-◌}
 use Rattle.std.proofs.lemmas.Bool.{eqb-true, ne_eqb, ltb-true}
 use Rattle.std.proofs.lemmas.List.{drop_more, drop_all}
+use Rattle.fp_base.proofs.Bools.{and_left, and_right}
 use Rattle.fp_lexer.specs.Bytes.{escapes, newline_len}
 use Rattle.fp_lexer.specs.Scan.{long_len, bad_len, spaces, one_more, past_bytes}
 use Rattle.fp_lexer.specs.Tokens.{IsLongBody}
 use Rattle.fp_lexer.specs.Broken.{HasBadEscape}
-use Rattle.fp_lexer.proofs.Runs.{bool_cases, cond_true, cond_false, and_left, and_right}
+use Rattle.fp_lexer.proofs.Runs.{bool_cases, cond_true, cond_false}
 use Rattle.fp_lexer.proofs.Strings.{some_more, one_more_some, past_more}
 
 -- it begins with `"""`

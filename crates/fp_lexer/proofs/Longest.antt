@@ -7,6 +7,8 @@ use Rattle.std.proofs.lemmas.Bool.{eqb-true}
 use Rattle.std.proofs.lemmas.Option.{some_pair_parts}
 use Rattle.std.proofs.lemmas.List.Sums.{prefix_len-le-length}
 use Rattle.fp_base.specs.Names.{is_letter, is_digit, is_name_byte, is_name}
+use Rattle.fp_base.proofs.Bools.{and_left, and_right}
+use Rattle.fp_base.proofs.Bytes.{name_bytes}
 use Rattle.fp_lexer.specs.Words.{marks}
 use Rattle.fp_lexer.specs.Scan.{one_mark, one_mark_shape, other}
 use Rattle.fp_lexer.specs.Found.{IsSmall, HasPart, what_of}
@@ -15,7 +17,7 @@ use Rattle.fp_lexer.specs.declared.shape.Shape.TheVariants as shape
 use Rattle.fp_lexer.specs.Tokens.{Spells, Spelled, IsLongest}
 use Rattle.fp_lexer.specs.declared.token.Word.{Word}
 use Rattle.fp_lexer.specs.declared.token.Word.TheVariants.{Name, Mark, Newline}
-use Rattle.fp_lexer.proofs.Runs.{bool_cases, cond_true, cond_false, and_left, and_right, or_cases}
+use Rattle.fp_lexer.proofs.Runs.{bool_cases, cond_true, cond_false, or_cases}
 use Rattle.fp_lexer.specs.Bytes.{newline_len}
 use Rattle.fp_lexer.proofs.Lines.{newline_forms}
 use Rattle.fp_lexer.proofs.Lined.{is_lead, no_lead, letter_no_lead}
@@ -243,15 +245,11 @@ two_length b c (x ∷ u) e = ap (λ (y : ℕ). y ∷ u) (eqb-true x b (and_left 
 
 -- ---- a `$` and a name
 
-name_all : (u : List ℕ) → is_name u ≡ true → list_all is_name_byte u ≡ true
-name_all [] e = refl
-name_all (x ∷ u) e = ap (λ (v : Bool). (v || is_digit x) && list_all is_name_byte u) (and_left (is_letter x) (list_all is_name_byte u) e) ∙ and_right (is_letter x) (list_all is_name_byte u) e
-
 pub dollar_longest : (indent : ℕ) (t name : List ℕ) → name ≡ take (prefix_len is_name_byte t) t → is_name name ≡ true → IsLongest indent (36 ∷ t) (36 ∷ name) (Some (Name name))
 dollar_longest indent t name i named = longest_from indent 36 t (36 ∷ name) (drop (prefix_len is_name_byte t) t) (Some (Name name)) refl
     (ap (λ (x : List ℕ). 36 ∷ x) (sym (take-append-drop (prefix_len is_name_byte t) t) ∙ ap (λ (x : List ℕ). x ++ drop (prefix_len is_name_byte t) t) (sym i))) (named, inr refl)
     (λ u after tail h.
-    let le = all_le_prefix is_name_byte u after (name_all u h) in
+    let le = all_le_prefix is_name_byte u after (name_bytes u h) in
     let e = ap (prefix_len is_name_byte) tail in
     let l = length-take (prefix_len is_name_byte t) t in
     let m = prefix_len-le-length is_name_byte t in

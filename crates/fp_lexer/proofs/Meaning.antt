@@ -7,10 +7,11 @@ use Rattle.std.proofs.lemmas.Slice.Eq.{bytes_eq-Decides}
 use Rattle.std.proofs.lemmas.Option.{same_Some}
 use Rattle.fp_lexer.specs.Words.{words, marks}
 use Rattle.fp_base.specs.Names.{is_name}
+use Rattle.fp_base.proofs.Bools.{and_left, and_right}
 use Rattle.fp_lexer.specs.Tokens.{Spelled, Spells}
 use Rattle.fp_lexer.specs.declared.token.Word.{Word}
 use Rattle.fp_lexer.specs.declared.token.Word.TheVariants.{Name, Reserved, Number, Float, Str, Mark, Newline, Before, After}
-use Rattle.fp_lexer.proofs.Runs.{and_left, and_right, bool_cases, cond_true, cond_false}
+use Rattle.fp_lexer.proofs.Runs.{bool_cases, cond_true, cond_false}
 use Rattle.fp_lexer.proofs.FirstBytes.{digit_first, number_first, hex_first, float_first}
 use Rattle.fp_lexer.proofs.Lined.{lined_same, not_spelled}
 use Rattle.fp_lexer.proofs.Numbers.{numeral_of, numeral_same}

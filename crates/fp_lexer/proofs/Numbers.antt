@@ -6,13 +6,14 @@ use Rattle.std.proofs.lemmas.Bool.{eqb-true}
 use Rattle.std.proofs.lemmas.Bool.Decides.{nat_tests}
 use Rattle.std.proofs.lemmas.List.Sums.{prefix_len-le-length}
 use Rattle.fp_base.specs.Names.{is_letter, is_digit, is_name_byte, is_name}
+use Rattle.fp_base.proofs.Bools.{and_left, and_right}
 use Rattle.fp_lexer.specs.Bytes.{is_hex_digit}
 use Rattle.fp_lexer.specs.Words.{words, marks}
 use Rattle.fp_lexer.specs.Scan.{hex_starts, tail_len, float_len}
 use Rattle.fp_lexer.specs.Tokens.{Spelled, IsLongest, IsFloat, is_number, is_hex, is_hex_tail, is_hex_digits, value_after, hex_after}
 use Rattle.fp_lexer.specs.declared.token.Word.{Word}
 use Rattle.fp_lexer.specs.declared.token.Word.TheVariants.{Name, Reserved, Number, Float, Str, Mark, Newline, Before, After}
-use Rattle.fp_lexer.proofs.Runs.{and_left, and_right, cond_true}
+use Rattle.fp_lexer.proofs.Runs.{cond_true}
 use Rattle.fp_lexer.proofs.FirstBytes.{shape, shaped, all_at, digit_first, digit_no_letter}
 use Rattle.fp_lexer.proofs.Lined.{IsLead, lead_of}
 use Rattle.fp_lexer.proofs.Longest.{all_le_prefix, prefix_all}

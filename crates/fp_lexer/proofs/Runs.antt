@@ -1,10 +1,11 @@
 -- The digits, letters and the like that come first.
-use Rattle.std.proofs.Common.{◌≡◌, ℕ, ◌<◌, ◌≤◌, ◌+◌, ◌*◌, ◌-◌, List, [], ◌∷◌, length, take, drop, get_or, sym, ap, ◌∙◌, arith, suc, zero, refl, cond, true, false, Bool, ◌&&◌, ◌||◌}
+use Rattle.std.proofs.Common.{◌≡◌, ℕ, ◌<◌, ◌≤◌, ◌+◌, ◌*◌, ◌-◌, List, [], ◌∷◌, length, take, drop, get_or, sym, ap, ◌∙◌, arith, suc, zero, refl, cond, true, false, Bool, ◌||◌}
 use Rattle.std.specs.List.{prefix_len, list_all}
 use Rattle.std.proofs.lemmas.List.{drop_more}
 use Rattle.std.specs.Str.{IsAscii}
 use Rattle.std.proofs.lemmas.Bool.Decides.{nat_tests}
 use Rattle.fp_base.specs.Names.{is_digit, is_name_byte}
+use Rattle.fp_base.proofs.Bools.{and_left, and_right}
 use Rattle.fp_lexer.specs.Bytes.{is_hex_digit, hex_digit}
 use Rattle.fp_lexer.specs.Scan.{run_value, run_hex}
 use Rattle.fp_lexer.specs.Tokens.{value_after, hex_after}
@@ -19,21 +20,9 @@ cond_true b x y e = ap (λ (v : Bool). cond v x y) e
 pub cond_false : {A : Type 0} (b : Bool) (x y : A) → b ≡ false → cond b x y ≡ y
 cond_false b x y e = ap (λ (v : Bool). cond v x y) e
 
-pub and_left : (a b : Bool) → (a && b) ≡ true → a ≡ true
-and_left true b e = refl
-and_left false b e = e
-
-pub and_right : (a b : Bool) → (a && b) ≡ true → b ≡ true
-and_right true b e = e
-and_right false b e = cc
-
 pub or_cases : (a b : Bool) (P : Type 0) → (a || b) ≡ true → (a ≡ true → P) → (b ≡ true → P) → P
 or_cases true b P e f g = f refl
 or_cases false b P e f g = g e
-
-pub or_true : (a : Bool) → (a || true) ≡ true
-or_true true = refl
-or_true false = refl
 
 pub le_run_value : (n : ℕ) (xs : List ℕ) → n ≤ run_value n xs
 le_run_value n [] = omega arith

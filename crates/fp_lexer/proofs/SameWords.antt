@@ -3,6 +3,7 @@ use Rattle.std.proofs.Common.{◌≡◌, ℕ, ◌-◌, List, [], ◌∷◌, ◌+
 use Rattle.std.specs.Prelude.{◌==◌, slice_index}
 use Rattle.std.proofs.lemmas.Bool.{eqb-true}
 use Rattle.fp_base.specs.declared.place.Span.{Span}
+use Rattle.fp_base.proofs.Bools.{and_left, and_right}
 use Rattle.fp_lexer.specs.Bytes.{line, newline_of, newline_len, newline_at, trimmed, body_text, long_text, indent_at}
 use Rattle.fp_lexer.specs.Tokens.{Spells, Lined, OneLine, ManyLines, begins_long, IsLexeme, Lexeme, Cuts, Lexed, tokens_of, with_token, span_at}
 use Rattle.fp_lexer.specs.Newlines.{kept, is_newline, ignored_by_rest, ignored_before, ignores, Ground, counts, ignored, separated, after, after_newline}
@@ -10,7 +11,7 @@ use Rattle.fp_lexer.specs.Alike.{bytes_of, seen, token_pieces, WrittenAlike, All
 use Rattle.fp_lexer.specs.declared.token.Word.{Word}
 use Rattle.fp_lexer.specs.declared.token.Word.TheVariants.{Name, Reserved, Number, Float, Str, Mark, Newline, Before, After}
 use Rattle.fp_lexer.specs.declared.token.Token.{Token}
-use Rattle.fp_lexer.proofs.Runs.{bool_cases, cond_true, cond_false, and_left, and_right}
+use Rattle.fp_lexer.proofs.Runs.{bool_cases, cond_true, cond_false}
 use Rattle.fp_lexer.proofs.Dedents.{and_none}
 use Rattle.fp_lexer.proofs.Lines.{newline_forms}
 use Rattle.fp_lexer.proofs.Lined.{not_spelled}

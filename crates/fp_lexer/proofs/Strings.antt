@@ -2,10 +2,10 @@
 use Rattle.std.proofs.Common.{◌≡◌, ℕ, ◌+◌, List, [], ◌∷◌, ◌++◌, length, Some, None, Option, sym, ap, ◌∙◌, arith, suc, refl, cond, true, false, Bool, not, ◌||◌, ◌&&◌}
 use Rattle.std.specs.Prelude.{◌==◌}
 use Rattle.std.proofs.lemmas.Bool.{eqb-true}
-use Rattle.fp_base.proofs.Bools.{neither, not_true}
+use Rattle.fp_base.proofs.Bools.{neither, not_true, and_left, and_right}
 use Rattle.fp_lexer.specs.Bytes.{is_body}
 use Rattle.fp_lexer.specs.Scan.{string_len, one_more, past_bytes}
-use Rattle.fp_lexer.proofs.Runs.{bool_cases, cond_true, cond_false, and_left, and_right}
+use Rattle.fp_lexer.proofs.Runs.{bool_cases, cond_true, cond_false}
 
 pub some_more : (n : ℕ) → one_more (Some n) ≡ Some (suc n)
 some_more n = ap (λ (k : ℕ). Some k) (omega arith)

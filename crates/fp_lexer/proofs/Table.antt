@@ -3,9 +3,9 @@ use Rattle.std.proofs.Common.{◌≡◌, ℕ, ◌<◌, ◌≤◌, List, [], ◌�
 use Rattle.std.specs.Prelude.{nat_le, nat_lt, ◌==◌, slice_index}
 use Rattle.std.proofs.lemmas.Bool.{leb-true, ltb-true}
 use Rattle.std.proofs.lemmas.Option.{same_Some}
+use Rattle.fp_base.proofs.Bools.{and_left, and_right}
 use Rattle.fp_lexer.specs.Words.{words}
 use Rattle.fp_lexer.specs.Scan.{rows, rows_in, rows_of}
-use Rattle.fp_lexer.proofs.Runs.{and_left, and_right}
 
 abbrev pub texts : List (Bor (List ℕ)) → List (List ℕ)
 texts ts = map (λ (b : Bor (List ℕ)). b.now) ts

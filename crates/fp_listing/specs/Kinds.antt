@@ -7,10 +7,10 @@ use Rattle.fp_tables.specs.declared.kind.Kind.{Kind}
 use Rattle.fp_tables.specs.declared.kind.Kind.TheVariants as kind
 use Rattle.fp_tables.specs.declared.kind.Formal.{Formal}
 use Rattle.fp_tables.specs.declared.kind.TypeDef.{TypeDef}
-use Rattle.fp_tables.specs.declared.component.Full.{Full}
 use Rattle.fp_tables.specs.declared.component.Full.TheVariants as full
 use Rattle.fp_tables.specs.declared.component.Way.{Way}
 use Rattle.fp_tables.specs.declared.component.Way.TheVariants as way
+use Rattle.fp_tables.specs.Words.{full_word}
 use Rattle.fp_logtext.specs.Names.{or_nothing}
 
 -- the qualified name of a type, nothing where the position names none
@@ -42,17 +42,6 @@ formals_text types fs = codes "(" ++ joined (map (formal_text types) fs) ++ code
 abbrev pub result_text : List TypeDef → Option Kind → List ℕ
 result_text types None = []
 result_text types (Some k) = codes " -> " ++ kind_text types k
-
-abbrev pub full_word : Full → List ℕ
-full_word full.Assert = codes "assert"
-full_word full.Block = codes "block"
-full_word full.Dropped = codes "drop"
-full_word full.Hook = codes "hook"
-
-abbrev pub way_word : Way → List ℕ
-way_word (way.Later priority f) = codes "async"
-way_word way.Sync = codes "sync"
-way_word way.Guarded = codes "guarded"
 
 -- the priority in the queue and what happens where it is full, of what goes through the queue
 abbrev pub queue_text : Way → List ℕ

@@ -1,6 +1,6 @@
 -- The members of a component as a listing prints them, a line each. FPP Language Specification, "Component Definitions" and the sections
 -- on the members of components. Set and save commands stand with their parameters.
-use Rattle.std.specs.Prelude.{ℕ, ◌==◌, cond, codes, decimal, List, [], ◌∷◌, ◌++◌, flat_map, Option, None, Some, option_map, slice_get}
+use Rattle.std.specs.Prelude.{ℕ, ◌==◌, codes, decimal, List, [], ◌∷◌, ◌++◌, flat_map, Option, None, Some, option_map, slice_get}
 use Rattle.std.specs.List.{find, enumerate_from}
 use Rattle.fp_base.specs.Rendered.{quoted, value_text}
 use Rattle.fp_tables.specs.Lists.{some_and}
@@ -24,8 +24,9 @@ use Rattle.fp_tables.specs.declared.component.Way.{Way}
 use Rattle.fp_tables.specs.declared.kind.PortDef.{PortDef}
 use Rattle.fp_tables.specs.declared.machine.Machine.{Machine}
 use Rattle.fp_tables.specs.declared.model.Model.{Model}
+use Rattle.fp_tables.specs.Words.{way_word, update_word}
 use Rattle.fp_logtext.specs.Names.{or_nothing}
-use Rattle.fp_listing.specs.Kinds.{kind_text, formals_text, way_word, queue_text}
+use Rattle.fp_listing.specs.Kinds.{kind_text, formals_text, queue_text}
 use Rattle.fp_listing.specs.Definitions.{size_text}
 
 abbrev pub special_words : Special → List ℕ
@@ -51,9 +52,6 @@ queueing_word queueing.Queued = codes "queued"
 abbrev pub throttle_text : Option ℕ → List ℕ
 throttle_text None = []
 throttle_text (Some n) = codes " throttle " ++ decimal n
-
-abbrev pub update_word : Channel → List ℕ
-update_word c = cond c.on_change (codes "on change") (codes "always")
 
 -- the opcode of the first command that sets a parameter, or saves it
 abbrev pub set_opcode : List Command → ℕ → Option ℕ

@@ -1,7 +1,8 @@
 ghost use Rattle.std.specs.Prelude.{◌≡◌, ◌++◌, map, OnOk};
 ghost use Rattle.std.specs.Option.{option_copied};
+ghost use Rattle.fp_tables.specs.Words.{way_word, full_word};
 ghost use Rattle.fp_base.specs.Rendered.{joined};
-ghost use Rattle.fp_listing.specs.Kinds.{type_name, kind_text, formal_text, formals_text, result_text, full_word, way_word, queue_text};
+ghost use Rattle.fp_listing.specs.Kinds.{type_name, kind_text, formal_text, formals_text, result_text, queue_text};
 
 use fp_base::{NoMemory, Row};
 use fp_logtext::{push_name, push_number, push_text};

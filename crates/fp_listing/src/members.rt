@@ -1,5 +1,6 @@
 ghost use Rattle.std.specs.Prelude.{◌≡◌, ◌++◌, flat_map, slice_get, OnOk};
 ghost use Rattle.std.specs.List.{enumerate_from};
+ghost use Rattle.fp_tables.specs.Words.{update_word};
 ghost use Rattle.fp_logtext.specs.Names.{or_nothing};
 ghost use Rattle.fp_listing.specs.Members as M;
 
@@ -278,7 +279,7 @@ fn push_events(model: &Model, events: &[Event], out: &mut Row<u8>) -> Result<(),
 }
 
 fn push_update(channel: &Channel, out: &mut Row<u8>) -> Result<(), NoMemory>
-    ensures { OnOk result (out.new ≡ out.old ++ M.update_word channel.now) }
+    ensures { OnOk result (out.new ≡ out.old ++ update_word channel.now) }
 {
     if channel.on_change {
         push_text(out, "on change")

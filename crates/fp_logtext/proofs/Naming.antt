@@ -31,10 +31,10 @@ use Rattle.fp_base.proofs.Options.{mapped_some, then_some, some_of}
 use Rattle.fp_logtext.specs.Names.{action_of, vertex_of, signal_of, machine_at, signal_name}
 use Rattle.fp_logtext.specs.Named.{point_is_named, origin_is_named, arrival_is_named, going_is_named, what_is_named}
 use Rattle.fp_logtext.specs.Fitting.{is_of, suit_point, values_fit}
-use Rattle.fp_run_laws.proofs.Lists.{all_implied, mapped_test, some_mapped, some_and_at}
+use Rattle.fp_run_laws.proofs.Lists.{all_implied, mapped_test, some_mapped}
 use Rattle.fp_run_laws.proofs.Parts.{port_in, command_in, event_in, channel_in, param_in}
 use Rattle.fp_logtext.proofs.Components.{machine_in}
-use Rattle.fp_tables.proofs.Optional.{some_and_of}
+use Rattle.fp_tables.proofs.Optional.{some_and_of, some_and_at}
 use Rattle.fp_events.proofs.Fitting.{kind_there}
 
 module _ (t : Described) (program : Program) where

@@ -1,11 +1,12 @@
 -- Starts and moves of a machine that an instance of a sound model runs.
-use Rattle.std.proofs.Common.{◌≡◌, ℕ, ◌<◌, Bool, true, false, cond, eqb, ltb, List, [], ◌∷◌, Option, Some, None, length, refl, sym, ap, ◌∙◌, arith}
+use Rattle.std.proofs.Common.{◌≡◌, ℕ, ◌<◌, Bool, true, false, cond, eqb, ltb, List, [], Option, Some, None, length, refl, sym, ap, ◌∙◌, arith}
 use Rattle.std.proofs.lemmas.Bool.Decides.{nat_tests}
 use Rattle.std.proofs.lemmas.List.{length-replicate}
 use Rattle.std.specs.List.{list_all, slice_get, find}
 use Rattle.std.specs.Option.{option_map, unwrap_or, is_some}
 use Rattle.fp_base.proofs.Options.{some_of}
 use Rattle.fp_base.proofs.Bools.{both}
+use Rattle.fp_base.proofs.Passing.{found_passes}
 use Rattle.fp_tables.specs.Lists.{if_some}
 use Rattle.fp_tables.specs.Lookup.{Described}
 use Rattle.fp_tables.specs.Machines as machines
@@ -32,14 +33,6 @@ use Rattle.fp_machine_flat.proofs.SoundParts.{initial_low, on_target_low}
 use Rattle.fp_machine_flat.proofs.Ranks.{rank, is_ranked, rank_low}
 use Rattle.fp_machine_flat.proofs.Laid.{find_holds, nearest_found, inherited_all, transitions_lie, leaf_within}
 use Rattle.fp_machine_flat.proofs.Given.{IsGiven, IsFit, all_more, of_kind, ask_keeps, step_on, goes_fit, state_parts}
-
-find_itself : {X : Type 0} (q : X → Bool) (xs : List X) (x : X) → find q xs ≡ Some x → q x ≡ true
-find_itself q [] x e = absurd (cc)
-find_itself q (y ∷ xs) x e = go (q y) refl e (find_itself q xs x)
-  where
-    go : (b : Bool) → q y ≡ b → cond b (Some y) (find q xs) ≡ Some x → (find q xs ≡ Some x → q x ≡ true) → q x ≡ true
-    go true is e again = let same : y ≡ x = cc in ap q (sym same) ∙ is
-    go false is e again = again e
 
 module _ (types : List TypeDef) (m : Machine) (g : IsGiven types m) (answers : ℕ → List Bool) where
   way : (k : Option Kind) (around source : List ℕ) (step : Step) (t : ℕ) (asked : List ℕ) → step_is_given types m k step ≡ true → step.target ≡ Some t → t < length m.vertices →
@@ -127,7 +120,7 @@ module _ (types : List TypeDef) (m : Machine) (g : IsGiven types m) (answers : �
           let found : find q (inherited m line) ≡ Some x = sym (nearest_found m signal line) ∙ e in (
             step_given signal x.1
                 (find_holds q (λ (p : ℕ × On). on_is_given types m p.1) (inherited m line) x (inherited_all m (on_is_given types m) transitions_given line) found)
-                (find_itself q (inherited m line) x found),
+                (found_passes q (inherited m line) x found),
             find_holds q (λ (p : ℕ × On). on_lies m p.1) (inherited m line) x (inherited_all m (on_lies m) (transitions_lie m g.sound) line) found,
           )
 

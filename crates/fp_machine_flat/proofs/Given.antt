@@ -1,12 +1,13 @@
 -- In a machine of a sound model what stands on the way takes no value but the one that is given.
 use Rattle.std.proofs.Common.{◌≡◌, ℕ, zero, suc, ◌+◌, ◌-◌, ◌<◌, ◌≤◌, Bool, true, false, not, cond, ◌&&◌, List, [], ◌∷◌, ◌++◌, Option, Some, None, length, refl, ◌∙◌, arith}
 use Rattle.std.proofs.lemmas.List.{length-set}
-use Rattle.std.proofs.lemmas.List.Folds.{list_all-append}
 use Rattle.std.specs.List.{list_all, slice_get, filter}
 use Rattle.std.specs.Prelude.{reverse}
 use Rattle.std.specs.Option.{option_map, unwrap_or}
 use Rattle.fp_base.proofs.Lists.{all_get}
 use Rattle.fp_base.proofs.Bools.{both}
+use Rattle.fp_base.proofs.Spots.{item_below}
+use Rattle.fp_base.proofs.Passing.{all_joined}
 use Rattle.fp_tables.specs.Lists.{if_some, some_and, is_in}
 use Rattle.fp_tables.specs.Components.{same_kind}
 use Rattle.fp_tables.specs.Machines.{target, is_given, actions_are_given, guard_is_given, choice_is_given, behind_is_given, step_is_given, on_is_given, vertex_is_given}
@@ -22,14 +23,11 @@ use Rattle.fp_tables.specs.declared.machine.On.{On}
 use Rattle.fp_events.specs.Machine.{Walk, node, parent, upward, target_of, lists, entry_of, exit_of, crossing, answer, ask, onward, goes, IsRanked}
 use Rattle.fp_machine_flat.specs.Moving.{is_leaf}
 use Rattle.fp_machine_flat.specs.SoundMachine.{IsSoundMachine}
-use Rattle.fp_machine_flat.proofs.SoundParts.{get_some, vertex_of, initial_leads, choice_leads, state_low, choice_low}
+use Rattle.fp_machine_flat.proofs.SoundParts.{vertex_of, initial_leads, choice_leads, state_low, choice_low}
 
 pub all_more : {A : Type 0} (p q : A → Bool) → ((x : A) → p x ≡ true → q x ≡ true) → (xs : List A) → list_all p xs ≡ true → list_all q xs ≡ true
 all_more p q more [] h = refl
 all_more p q more (x ∷ xs) h = let b = both (p x) (list_all p xs) h in rw (more x b.0, all_more p q more xs b.1) refl
-
-all_beside : {A : Type 0} (p : A → Bool) (xs ys : List A) → list_all p xs ≡ true → list_all p ys ≡ true → list_all p (xs ++ ys) ≡ true
-all_beside p xs ys h k = list_all-append p xs ys ∙ rw (h, k) refl
 
 module _ (types : List TypeDef) (m : Machine) where
   -- what a machine says of values, beside its shape
@@ -67,7 +65,7 @@ module _ (types : List TypeDef) (m : Machine) where
   untyped_fit k n w h = record { given = untyped_all k w.actions h.given; leaf = h.leaf; counts = h.counts }
 
   joined : (k : Option Kind) (xs ys : List ℕ) → Given k xs → Given k ys → Given k (xs ++ ys)
-  joined k xs ys h e = all_beside (λ a. is_given types m k (slice_get m.actions a)) xs ys h e
+  joined k xs ys h e = all_joined (λ a. is_given types m k (slice_get m.actions a)) xs ys h e
 
   -- ---- what stands behind a target
 
@@ -188,7 +186,7 @@ module _ (types : List TypeDef) (m : Machine) where
 
     onward_fit : (again : List ℕ → List ℕ → Step → List ℕ → Walk) (n v : ℕ) (asked : List ℕ) (k : Option Kind) (o : Option Node) → Going v again n → n ≤ length m.vertices →
         v < length m.vertices → node m v ≡ o → choice_is_given types m k (behind_is_given types m k (suc n)) o ≡ true → IsFit k (length asked) (onward m answers again v asked o)
-    onward_fit again n v asked k None going few low is h = let x = get_some m.vertices v low in absurd (none_there (slice_get m.vertices v) x.0 x.1 is)
+    onward_fit again n v asked k None going few low is h = let x = item_below m.vertices v low in absurd (none_there (slice_get m.vertices v) x.0 x.1 is)
       where
         none_there : (o : Option Vertex) (x : Vertex) → o ≡ Some x → option_map (λ (y : Vertex). y.node) o ≡ None → ⊥
         none_there None x e f = absurd (cc)

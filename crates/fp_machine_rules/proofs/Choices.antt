@@ -17,7 +17,9 @@ use Rattle.fp_base.proofs.Spots.{get_push, before_or_not, item_below}
 use Rattle.fp_machine_rules.proofs.Steps.{among_none}
 use Rattle.fp_machine_rules.proofs.Outward.{parent_stands, stands_parent}
 use Rattle.fp_base.proofs.Options.{same_some}
-use Rattle.fp_machine_rules.proofs.Deciding.{true_false, decided}
+use Rattle.fp_base.proofs.Lists.{no_items}
+use Rattle.fp_base.proofs.Bools.{not_both}
+use Rattle.fp_machine_rules.proofs.Deciding.{decided}
 
 pub flags_more : (P : ℕ → Type 0) (n : ℕ) (b : Bool) (flags flags' : List Bool) → AreFlags P n flags → MatchBool b (P n) (P n → ⊥) → flags' ≡ flags ++ b ∷ []
     → length flags' ≡ n + 1 → AreFlags P (n + 1) flags'
@@ -140,7 +142,7 @@ module _ (items : List Item) where
   pub state_told : (v : ℕ) (x : Item) → slice_get items v ≡ Some x → (b : Bool) → b ≡ is_state x.form → MatchBool b (IsState items v) (IsState items v → ⊥)
   state_told v x at b is =
       decided b (IsState items v) (λ e. record { item = x; here = at; holds = sym is ∙ e })
-      (λ e s. true_false b (is ∙ (ap (λ (y : Item). is_state y.form) (some_item x s.item (sym at ∙ s.here)) ∙ s.holds)) e)
+      (λ e s. not_both (is ∙ (ap (λ (y : Item). is_state y.form) (some_item x s.item (sym at ∙ s.here)) ∙ s.holds)) e)
 
   pub state_none : (v : ℕ) → slice_get items v ≡ None → IsState items v → ⊥
   state_none v e s = differ (sym e ∙ s.here)
@@ -225,9 +227,5 @@ pub reaches_nothing : (rows : List (List Target)) (starts : List Target) → sta
 reaches_nothing rows starts none (begins {v = v} a l) = among_none (target.To v) (subst (λ (s : List Target). IsAmong s (target.To v)) none a)
 reaches_nothing rows starts none (goes_on r e l) = reaches_nothing rows starts none r
 
-none_at : {A : Type 0} (ys : List A) → length ys ≡ 0 → ys ≡ []
-none_at [] s = refl
-none_at (y ∷ ys) s = absurd (omega arith)
-
 pub none_of_length : {A : Type 0} (xs : List A) (b : Bool) → b ≡ true → b ≡ (length xs == 0) → xs ≡ []
-none_of_length xs b t e = none_at xs (eqb-true (length xs) 0 (sym e ∙ t))
+none_of_length xs b t e = no_items xs (eqb-true (length xs) 0 (sym e ∙ t))

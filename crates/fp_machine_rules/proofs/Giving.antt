@@ -20,21 +20,15 @@ use Rattle.fp_base.proofs.Spots.{item_below}
 use Rattle.fp_machine_rules.proofs.Places.{behind, in_one_part}
 use Rattle.fp_machine_rules.proofs.Steps.{among_none}
 use Rattle.fp_machine_rules.proofs.Choices.{to_through, from_through, rows_length}
-use Rattle.fp_base.proofs.Bools.{both, or_cases, neither}
-use Rattle.fp_base.proofs.Options.{same_some, then_some}
-use Rattle.fp_machine_rules.proofs.Deciding.{true_false, decided, and_not, flags_tell}
+use Rattle.fp_base.proofs.Bools.{both, or_cases, neither, not_both}
+use Rattle.fp_base.proofs.Options.{same_some, then_some, no_some}
+use Rattle.fp_machine_rules.proofs.Deciding.{decided, and_not, flags_tell}
 
 some_target : (a b : Target) → ◌≡◌ {A = Option Target} (Some a) (Some b) → a ≡ b
 some_target a b z = cc
 
 some_item : (a b : Item) → ◌≡◌ {A = Option Item} (Some a) (Some b) → a ≡ b
 some_item a b z = cc
-
-none_some : (k : ℕ) → ◌≡◌ {A = Option ℕ} None (Some k) → ⊥
-none_some k e = cc
-
-some_number : (a b : ℕ) → ◌≡◌ {A = Option ℕ} (Some a) (Some b) → a ≡ b
-some_number a b z = cc
 
 module _ (items : List Item) (signals : List (Option ℕ)) (wanted : ℕ) where
   abbrev Other : Form → Type 0
@@ -44,9 +38,9 @@ module _ (items : List Item) (signals : List (Option ℕ)) (wanted : ℕ) where
   false_true z = cc
 
   other_of : (f : Form) → gives_other signals wanted f ≡ true → Other f
-  other_of (form.Initial t) e = (None, values.initial, none_some wanted)
-  other_of form.Entry e = (None, values.entry, none_some wanted)
-  other_of form.Exit e = (None, values.exit, none_some wanted)
+  other_of (form.Initial t) e = (None, values.initial, λ e. no_some e)
+  other_of form.Entry e = (None, values.entry, λ e. no_some e)
+  other_of form.Exit e = (None, values.exit, λ e. no_some e)
   other_of (form.State n) e = absurd (false_true e)
   other_of (form.Declares d) e = absurd (false_true e)
   other_of (form.Choice n a b) e = absurd (false_true e)
@@ -68,8 +62,8 @@ module _ (items : List Item) (signals : List (Option ℕ)) (wanted : ℕ) where
         where
           differ : ◌≡◌ {A = Bool} false true → ⊥
           differ z = cc
-      go (Some None) is h = (None, values.on is, none_some wanted)
-      go (Some (Some k)) is h = (Some k, values.on is, λ s. not_true (k == wanted) h (eq-eqb k wanted (some_number k wanted s)))
+      go (Some None) is h = (None, values.on is, λ e. no_some e)
+      go (Some (Some k)) is h = (Some k, values.on is, λ s. not_true (k == wanted) h (eq-eqb k wanted (same_some s)))
 
   other_value : (value : Option ℕ) → (value ≡ Some wanted → ⊥) → signal_other (Some value) wanted ≡ true
   other_value None n = refl
@@ -122,10 +116,10 @@ module _ (items : List Item) (signals : List (Option ℕ)) (wanted : ℕ) where
 
       back : gives_other signals wanted x.form ≡ false → {value : Option ℕ} → IsGiven items signals v value → (value ≡ Some wanted → ⊥) → ⊥
       back e (values.own {f = f} s h) n =
-          true_false (gives_other signals wanted f) (of_other h n)
+          not_both (of_other h n)
           (ap (λ (k : Form). gives_other signals wanted k) (sym s.form ∙ ap (λ (y : Item). y.form) (some_item s.item x (sym s.here ∙ at))) ∙ e)
       back e (values.entered c s h en th) n =
-          true_false (is_choice x.form) (ap (λ (y : Item). is_choice y.form) (some_item x c.item (sym at ∙ c.here)) ∙ c.holds) plain
+          not_both (ap (λ (y : Item). is_choice y.form) (some_item x c.item (sym at ∙ c.here)) ∙ c.holds) plain
 
   pub plain_given : (v : ℕ) (f : Form) → plain_form items v ≡ Some f
       → MatchBool (gives_other signals wanted f) (IsGivenOther items signals wanted v) (IsGivenOther items signals wanted v → ⊥)
@@ -204,7 +198,7 @@ module _ (items : List Item) (signals : List (Option ℕ)) (wanted : ℕ) where
         not_given : gives_other signals wanted x.form ≡ false → (is_choice x.form && is_marked seen v) ≡ false → {value : Option ℕ} → IsGiven items signals v value
             → (value ≡ Some wanted → ⊥) → ⊥
         not_given e g (values.own {f = f} s h) n =
-            true_false (gives_other signals wanted f) (of_other h n)
+            not_both (of_other h n)
             (ap (λ (k : Form). gives_other signals wanted k) (sym s.form ∙ ap (λ (y : Item). y.form) (some_item s.item x (sym s.here ∙ at))) ∙ e)
         not_given e g (values.entered {way = w} {target = b} {f = f} c s h en th) n =
             and_not (is_choice x.form) (is_marked seen v) g

@@ -1,5 +1,7 @@
 -- The transitions that count at a state, gathered from the state outward.
 use Rattle.std.proofs.Common.{◌≡◌, ℕ, ◌<◌, ◌⊎◌, ◌==◌, ◌||◌, Bool, true, false, cond, List, [], ◌∷◌, ◌++◌, length, slice_get, Option, Some, None, option_and_then, is_some, refl, sym, ap, subst, ◌∙◌, inl, inr, arith}
+use Rattle.std.proofs.lemmas.Bool.{or_from}
+use Rattle.fp_base.proofs.Bools.{neither}
 use Rattle.fp_machine_rules.specs.declared.item.Target.{Target}
 use Rattle.fp_machine_rules.specs.declared.item.Item.{Item}
 use Rattle.fp_machine_rules.specs.declared.gathering.Move.{Move}
@@ -45,13 +47,6 @@ some_or_none : (o : Option Target) → ((t : Target) × (o ≡ Some t)) ⊎ (o �
 some_or_none (Some t) = inl (t, refl)
 some_or_none None = inr refl
 
-or_parts : (a b : Bool) → (a || b) ≡ false → (a ≡ false) × (b ≡ false)
-or_parts true b e = absurd cc
-or_parts false b e = (refl, e)
-
-or_given : (a b : Bool) → a ≡ false → b ≡ false → (a || b) ≡ false
-or_given a b e f = ap (λ (x : Bool). x || b) e ∙ f
-
 none_of : (o : Option Target) → is_some o ≡ false → o ≡ None
 none_of None e = refl
 none_of (Some t) e = absurd cc
@@ -80,7 +75,7 @@ module _ (xs ys : List Move) (had : ℕ → Bool) (row : List Target) (has : ℕ
           ∙ (three (had s) (is_some (first_on s xs)) (is_some (first_on s ys)) ∙ ap (λ (x : Bool). had s || x) (joined s)))
 
       fresh : (s : ℕ) → has s ≡ false → (had s ≡ false) × (first_on s xs ≡ None)
-      fresh s e = let p = or_parts (had s) (is_some (first_on s xs)) (sym (a.notes s) ∙ e) in (p.0, none_of (first_on s xs) p.1)
+      fresh s e = let p = neither (had s) (is_some (first_on s xs)) (sym (a.notes s) ∙ e) in (p.0, none_of (first_on s xs) p.1)
 
       adds : (s : ℕ) (t : Target) → had s ≡ false → first_on s (xs ++ ys) ≡ Some t → IsAmong row'' t
       adds s t h e = go (some_or_none (first_on s xs))
@@ -90,7 +85,7 @@ module _ (xs ys : List Move) (had : ℕ → Bool) (row : List Target) (has : ℕ
 
           go : ((u : Target) × (first_on s xs ≡ Some u)) ⊎ (first_on s xs ≡ None) → IsAmong row'' t
           go (inl u) = b.keeps t (a.adds s t h (u.1 ∙ (sym (first_before s xs ys u.0 u.1) ∙ e)))
-          go (inr n) = b.adds s t (a.notes s ∙ or_given (had s) (is_some (first_on s xs)) h (ap (λ (o : Option Target). is_some o) n)) (sym (first_behind s xs ys n) ∙ e)
+          go (inr n) = b.adds s t (a.notes s ∙ or_from (had s) (is_some (first_on s xs)) h (ap (λ (o : Option Target). is_some o) n)) (sym (first_behind s xs ys n) ∙ e)
 
       only_first : (t : Target) → IsAmong row t ⊎ ((s : ℕ) × (had s ≡ false) × (first_on s xs ≡ Some t)) → IsAmong row t ⊎ ((s : ℕ) × (had s ≡ false) × (first_on s (xs ++ ys) ≡ Some t))
       only_first t (inl h) = inl h
@@ -161,7 +156,7 @@ module _ (items : List Item) (state : ℕ) where
       from_here : (s : ℕ) (t : Target) → had s ≡ false → Counts items v s t → Left s t
       from_here s t n (own e) = inl (a.adds s t n e)
       from_here s t n (inherited {around = p} e stands c) =
-          inr (p, stands_parent v p stands, a.notes s ∙ or_given (had s) (is_some (first_on s (moves items (Some v)))) n (ap (λ (o : Option Target). is_some o) e), c)
+          inr (p, stands_parent v p stands, a.notes s ∙ or_from (had s) (is_some (first_on s (moves items (Some v)))) n (ap (λ (o : Option Target). is_some o) e), c)
 
       whole_by : (s : ℕ) (t : Target) → IsAmong row t ⊎ ((w : ℕ) × (Some v ≡ Some w) × (had s ≡ false) × Counts items w s t) → Left s t
       whole_by s t (inl i) = inl (a.keeps t i)
@@ -172,7 +167,7 @@ module _ (items : List Item) (state : ℕ) where
 
       lifts : (p s : ℕ) (t : Target) → parent_at items v ≡ Some p → has s ≡ false → Counts items p s t → Counts items state s t
       lifts p s t e n c =
-          let b = or_parts (had s) (is_some (first_on s (moves items (Some v)))) (sym (a.notes s) ∙ n) in
+          let b = neither (had s) (is_some (first_on s (moves items (Some v)))) (sym (a.notes s) ∙ n) in
           h.lifts v s t refl b.0 (inherited (none_of (first_on s (moves items (Some v))) b.1) (parent_stands v p e) c)
 
   pub counting_ends : (around : Option ℕ) (had : ℕ → Bool) (row : List Target) → around ≡ None → IsCounting items state around had row → AreCounted items state row

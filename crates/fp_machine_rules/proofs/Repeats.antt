@@ -1,14 +1,14 @@
 -- What stands a second time, and the initial transitions of states.
-use Rattle.std.proofs.Common.{◌≡◌, ℕ, ◌+◌, ◌<◌, ◌⊎◌, ◌&&◌, ◌||◌, ◌==◌, not, Bool, true, false, cond, MatchBool, List, [], ◌∷◌, ◌++◌, length, slice_get, Option, Some, None, Ordering, option_map, unwrap_or, refl, sym, ap, subst, ◌∙◌, inl, inr, arith, eq-eqb}
+use Rattle.std.proofs.Common.{◌≡◌, ℕ, ◌+◌, ◌<◌, ◌⊎◌, ◌||◌, ◌==◌, not, Bool, true, false, MatchBool, List, [], ◌∷◌, ◌++◌, length, slice_get, Option, Some, None, option_map, unwrap_or, refl, sym, ap, subst, ◌∙◌, inl, inr, arith, eq-eqb}
 use Rattle.std.specs.Option.{option_cmp}
-use Rattle.std.specs.Ordering.{nat_cmp, ordering_then, is_eq}
-use Rattle.std.specs.declared.cmp.Ordering.TheVariants.{Less, Equal, Greater}
+use Rattle.std.specs.Ordering.{nat_cmp, is_eq}
 use Rattle.std.proofs.lemmas.Bool.Decides.{nat_tests}
 use Rattle.std.proofs.lemmas.Option.{slice_get_within}
 use Rattle.std.proofs.lemmas.Bool.{eqb-true}
-use Rattle.fp_base.proofs.Bools.{both, join, or_cases, or_left, or_right, not_true}
+use Rattle.fp_base.proofs.Bools.{both, join, or_cases, or_left, or_right, not_true, not_both}
 use Rattle.fp_base.proofs.Options.{same_some}
 use Rattle.fp_base.proofs.Spots.{get_push, below_or_at}
+use Rattle.fp_base.proofs.Comparing.{both_equal, numbers_equal}
 use Rattle.fp_machine_rules.specs.declared.item.Item.{Item}
 use Rattle.fp_machine_rules.specs.declared.gathering.Parts.{Parts}
 use Rattle.fp_machine_rules.specs.Forms.{is_state}
@@ -17,17 +17,9 @@ use Rattle.fp_machine_rules.specs.Gathered.{AreGathered, parts_count_wrong, stat
 use Rattle.fp_machine_rules.specs.Repeated.{Key, IsRepeated, key_cmp, is_key, is_noted}
 use Rattle.fp_machine_rules.specs.Undefined.{flags_from}
 use Rattle.fp_machine_rules.specs.Leaving.{AreFlags}
-use Rattle.fp_machine_rules.proofs.Deciding.{true_false, decided, and_not, flags_tell}
+use Rattle.fp_machine_rules.proofs.Deciding.{decided, and_not, flags_tell}
 
 -- ---- keys
-
-both_equal : (a b : Ordering) → is_eq (ordering_then a b) ≡ (is_eq a && is_eq b)
-both_equal Less b = refl
-both_equal Equal b = refl
-both_equal Greater b = refl
-
-numbers_equal : (m n : ℕ) → is_eq (nat_cmp m n) ≡ true → m ≡ n
-numbers_equal m n e = grind (arith, nat_tests)
 
 number_itself : (n : ℕ) → is_eq (nat_cmp n n) ≡ true
 number_itself n = grind (arith, nat_tests)
@@ -69,7 +61,7 @@ pub record IsFlagged (keys : List (Option Key)) (n : ℕ) (had : Key → Bool) (
 
 pub flagging_begins : (keys : List (Option Key)) (had : Key → Bool) → ((q : Key) → had q ≡ false) → IsFlagged keys 0 had []
 flagging_begins keys had none =
-    record { each = refl; exact = λ v b e. absurd (empty b e); noted = λ q e. absurd (true_false (had q) e (none q)); all = λ k q l e. absurd (omega arith) }
+    record { each = refl; exact = λ v b e. absurd (empty b e); noted = λ q e. absurd (not_both e (none q)); all = λ k q l e. absurd (omega arith) }
   where
     empty : (b : Bool) → ◌≡◌ {A = Option Bool} None (Some b) → ⊥
     empty b e = cc
@@ -92,7 +84,7 @@ module _ (keys : List (Option Key)) (n : ℕ) (key : Option Key) (had has : Key 
       told_by (Some x) at =
           decided (had x) (IsRepeated keys n)
           (λ e. let t = h.noted x e in record { earlier = t.0; before = t.1; same = x; there = t.2; here = at })
-          (λ e r. true_false (had x) (h.all r.earlier x r.before (r.there ∙ sym r.here ∙ at)) e)
+          (λ e r. not_both (h.all r.earlier x r.before (r.there ∙ sym r.here ∙ at)) e)
 
       exact_by : (v : ℕ) (b : Bool) → (slice_get flags v ≡ Some b) ⊎ ((v ≡ length flags) × (is_noted had key ≡ b)) → MatchBool b (IsRepeated keys v) (IsRepeated keys v → ⊥)
       exact_by v b (inl e) = h.exact v b e
@@ -133,7 +125,7 @@ count_told items table top flags h is = flags_tell (StateCountsWrong items) (sta
         to e =
             let p = both (is_state x.form) (unwrap_or (option_map parts_count_wrong (slice_get table v)) false) e in (
               record { item = x; here = here; holds = p.0 },
-              λ s. true_false (length (initials items (Some v)) == wanted_beside (names items (Some v))) (eq-eqb _ _ s) (not_true _ (sym wrong ∙ p.1)),
+              λ s. not_both (eq-eqb _ _ s) (not_true _ (sym wrong ∙ p.1)),
             )
 
         back : state_counts_wrong table v x ≡ false → StateCountsWrong items v → ⊥
@@ -145,10 +137,3 @@ count_told items table top flags h is = flags_tell (StateCountsWrong items) (sta
             differ : (b : Bool) → (b ≡ true → ⊥) → not b ≡ true
             differ true n = absurd (n refl)
             differ false n = refl
-
--- what is asked for, or was there
-pub noted_more : (now asked had : Bool) → now ≡ cond asked true had → now ≡ (had || asked)
-noted_more now true true e = e
-noted_more now true false e = e
-noted_more now false true e = e
-noted_more now false false e = e

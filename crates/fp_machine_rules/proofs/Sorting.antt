@@ -1,5 +1,5 @@
 -- Members gathered by their states, one item after another.
-use Rattle.std.proofs.Common.{◌≡◌, ◌≢◌, ℕ, zero, suc, ◌<◌, ◌⊎◌, ◌==◌, Bool, true, false, cond, List, [], ◌∷◌, ◌++◌, length, set, replicate, flat_map, slice_get, Option, Some, None, refl, sym, ap, subst, ◌∙◌, inl, inr, arith, length-set, eq-eqb}
+use Rattle.std.proofs.Common.{◌≡◌, ◌≢◌, ℕ, zero, suc, ◌<◌, ◌⊎◌, Bool, true, false, cond, List, [], ◌∷◌, ◌++◌, length, set, replicate, flat_map, slice_get, Option, Some, None, refl, sym, ap, subst, ◌∙◌, inl, inr, arith, length-set, eq-eqb}
 use Rattle.std.proofs.lemmas.List.{append-nil, length-replicate}
 use Rattle.std.proofs.lemmas.List.Elements.{filter-append}
 use Rattle.std.proofs.lemmas.Grind.{flat_map-append}
@@ -12,9 +12,7 @@ use Rattle.fp_machine_rules.specs.Forms.{IsLaid}
 use Rattle.fp_machine_rules.specs.Members.{members, same_place, name_in, initial_in, move_in}
 use Rattle.fp_machine_rules.specs.Gathered.{parts, with_member, no_parts, AreGathered, HasPlace}
 use Rattle.fp_base.proofs.Spots.{get_set_same, get_set_other, same_or_other}
-
-eq_no : (p q : ℕ) → (p ≡ q → ⊥) → (p == q) ≡ false
-eq_no p q n = grind arith
+use Rattle.fp_base.proofs.Numbers.{number_other}
 
 one_kept : (p : Option ℕ) (x : Item) → same_place p x.parent ≡ true → members (x ∷ []) p ≡ x ∷ []
 one_kept p x e = ap (λ (b : Bool). cond b (x ∷ []) []) e
@@ -75,7 +73,7 @@ module _ (xs : List Item) (x : Item) (n : ℕ) (table : List Parts) (top : Parts
           ∙ ap (λ (k : ℕ). Some (parts (xs ++ x ∷ []) (Some k))) (sym s)))
       exact_by v lv (inr d) =
           get_set_other table q v (with_member (parts xs (Some q)) x) d
-          ∙ (h.exact v lv ∙ ap Some (sym (parts_other xs x (Some v) (ap (λ (o : Option ℕ). same_place (Some v) o) e ∙ eq_no v q d))))
+          ∙ (h.exact v lv ∙ ap Some (sym (parts_other xs x (Some v) (ap (λ (o : Option ℕ). same_place (Some v) o) e ∙ number_other v q d))))
 
       exact : (v : ℕ) → v < n → slice_get table' v ≡ Some (parts (xs ++ x ∷ []) (Some v))
       exact v lv = ap (λ (t : List Parts). slice_get t v) now ∙ exact_by v lv (same_or_other v q)

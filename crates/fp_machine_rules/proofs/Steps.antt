@@ -17,6 +17,7 @@ use Rattle.fp_machine_rules.specs.Leaving.{AreCounted, AreSteps, AreRows, AreFla
 use Rattle.fp_machine_rules.specs.Undefined.{is_undefined, is_marked, flag, flags_from}
 use Rattle.fp_machine_rules.specs.Visits.{row_at}
 use Rattle.fp_base.proofs.Spots.{get_push, before_or_not, item_below}
+use Rattle.fp_base.proofs.Bools.{not_both}
 
 pub among_none : {A : Type 0} (x : A) → IsAmong [] x → ⊥
 among_none x (k, e) = cc
@@ -82,16 +83,10 @@ module _ (items : List Item) (v : ℕ) where
   pub steps_other : (f : Form) (row : List Target) → form_at items v ≡ Some f → is_vertex f ≡ false → row ≡ [] → AreSteps items v row
   steps_other f row e no_vertex none t = (λ h. absurd (among_none t (subst (λ (r : List Target). IsAmong r t) none h)), λ l. absurd (go l))
     where
-      true_false : (b : Bool) → b ≡ true → b ≡ false → ⊥
-      true_false b x y = differ (sym x ∙ y)
-        where
-          differ : ◌≡◌ {A = Bool} true false → ⊥
-          differ z = cc
-
       go : Leaves items v t → ⊥
       go l =
-          leaves_by f t e l (λ n o s. true_false (is_vertex f) (ap (λ (g : Form). is_vertex g) s) no_vertex)
-          (λ n o s. true_false (is_vertex f) (ap (λ (g : Form). is_vertex g) s) no_vertex) (λ s. true_false (is_vertex f) (vertex_of_state f s) no_vertex)
+          leaves_by f t e l (λ n o s. not_both (ap (λ (g : Form). is_vertex g) s) no_vertex)
+          (λ n o s. not_both (ap (λ (g : Form). is_vertex g) s) no_vertex) (λ s. not_both (vertex_of_state f s) no_vertex)
 
   pub steps_choice : (name : ℕ) (met unmet : Target) (row : List Target) → form_at items v ≡ Some (form.Choice name met unmet) → row ≡ met ∷ unmet ∷ []
       → AreSteps items v row

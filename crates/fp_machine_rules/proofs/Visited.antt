@@ -7,6 +7,7 @@ use Rattle.fp_machine_rules.specs.Reaching.{IsAmong, Edge, Reaches, begins, goes
 use Rattle.fp_machine_rules.specs.Visits.{IsSeen, IsVisit, IsAdded, Adds, count_true, row_at}
 use Rattle.fp_base.proofs.Lists.{get_front, get_last}
 use Rattle.fp_base.proofs.Spots.{get_set_same, get_set_other, same_or_other, before_or_not, item_below}
+use Rattle.fp_base.proofs.Numbers.{no_flag}
 use Rattle.fp_machine_rules.proofs.Places.{behind, in_one_part, count_short, count_set}
 
 to_parts : (v w : ℕ) → ◌≡◌ {A = Target} (To v) (To w) → v ≡ w
@@ -233,17 +234,12 @@ count_none : (n : ℕ) → count_true (replicate n false) ≡ 0
 count_none zero = refl
 count_none (suc n) = count_none n
 
-none_in : (n v : ℕ) → slice_get (replicate n false) v ≡ Some true → ⊥
-none_in zero v e = cc
-none_in (suc n) zero e = cc
-none_in (suc n) (suc v) e = none_in n v e
-
 -- nothing is marked, and nothing is listed
 pub unvisited : (n : ℕ) (seen : List Bool) (found : List ℕ) → seen ≡ replicate n false → found ≡ [] → IsVisit seen found
 unvisited n seen found s f =
     subst (λ (xs : List Bool). IsVisit xs found) (sym s)
     (subst (λ (ys : List ℕ). IsVisit (replicate n false) ys) (sym f)
-    (record { listed = λ v h. absurd (none_in n v h); marked = λ v h. absurd (empty v h); counted = count_none n }))
+    (record { listed = λ v h. absurd (no_flag n v h); marked = λ v h. absurd (empty v h); counted = count_none n }))
   where
     empty : (v : ℕ) → IsAmong [] v → ⊥
     empty v (k, e) = cc

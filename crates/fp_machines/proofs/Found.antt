@@ -1,5 +1,5 @@
 -- What is looked up and then looked up again.
-use Rattle.std.proofs.Common.{◌≡◌, ℕ, false, Option, Some, None, refl, sym, ap, ◌∙◌, Result, Ok, Err, OnOk}
+use Rattle.std.proofs.Common.{◌≡◌, ℕ, false, Option, Some, None, refl, sym, ap, ◌∙◌}
 use Rattle.std.specs.Prelude.{option_and_then}
 use Rattle.fp_machines.specs.Found.{or_first}
 
@@ -18,7 +18,3 @@ some_then f (Some j) m k r e h q = q ∙ (ap f (sym (same h)) ∙ ap (option_and
 pub left_free : (had : Option ℕ) (at : ℕ) → had ≡ or_first had false at
 left_free None at = refl
 left_free (Some k) at = refl
-
-pub on_ok_then : {T E : Type 0} (r : Result T E) (P Q : Type 0) → (P → Q) → OnOk r P → OnOk r Q
-on_ok_then (Ok x) P Q f h = f h
-on_ok_then (Err e) P Q f h = h

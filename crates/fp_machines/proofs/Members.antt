@@ -1,10 +1,12 @@
 -- Members gathered by their states, one element after another.
-use Rattle.std.proofs.Common.{◌≡◌, ◌≢◌, ℕ, ◌<◌, ◌⊎◌, ◌==◌, Bool, true, false, cond, List, [], ◌∷◌, ◌++◌, length, set, filter, slice_get, get_or, Option, Some, None, refl, sym, ap, ◌∙◌, inl, inr, arith, length-set, eq-eqb}
+use Rattle.std.proofs.Common.{◌≡◌, ◌≢◌, ℕ, ◌<◌, ◌⊎◌, Bool, true, false, cond, List, [], ◌∷◌, ◌++◌, length, set, filter, slice_get, get_or, Option, Some, None, refl, sym, ap, ◌∙◌, inl, inr, arith, length-set, eq-eqb}
 use Rattle.std.specs.List.{filter_map}
 use Rattle.std.proofs.lemmas.List.{append-nil}
 use Rattle.std.proofs.lemmas.List.Elements.{filter-append}
 use Rattle.std.proofs.lemmas.Option.{get_or_from_slice_get}
+use Rattle.std.specs.Option.{option_to_list}
 use Rattle.fp_base.proofs.Spots.{get_set_same, get_set_other, same_or_other}
+use Rattle.fp_base.proofs.Numbers.{number_other}
 use Rattle.fp_tree.specs.declared.machine.BehaviorElement.{BehaviorElement}
 use Rattle.fp_tree.specs.declared.machine.ElementForm.{ElementForm}
 use Rattle.fp_tree.specs.declared.machine.ElementForm.TheVariants as element
@@ -13,11 +15,8 @@ use Rattle.fp_tables.specs.declared.machine.Step.{Step}
 use Rattle.fp_machine_rules.specs.Members.{same_place}
 use Rattle.fp_machines.specs.declared.gathering.Parts.{Parts}
 use Rattle.fp_machines.specs.Gathered.{AreGathered, no_parts, or_else, parts, parts_in, with_member}
-use Rattle.fp_machines.specs.Made.{entry_in, exit_in, first, initial_in, on_in, or_none}
+use Rattle.fp_machines.specs.Made.{entry_in, exit_in, first, initial_in, on_in}
 use Rattle.fp_machines.proofs.Kept.{kept_more}
-
-eq_no : (p q : ℕ) → (p ≡ q → ⊥) → (p == q) ≡ false
-eq_no p q n = grind arith
 
 -- ---- those that stand in one state
 
@@ -35,7 +34,7 @@ abbrev or_given : {A : Type 0} → Option A → Option A → Option A
 or_given None o = o
 or_given (Some x) o = Some x
 
-first_more : {A : Type 0} (xs : List A) (o : Option A) → first (xs ++ or_none o) ≡ or_given (first xs) o
+first_more : {A : Type 0} (xs : List A) (o : Option A) → first (xs ++ option_to_list o) ≡ or_given (first xs) o
 first_more [] None = refl
 first_more [] (Some x) = refl
 first_more (x ∷ xs) o = refl
@@ -57,7 +56,7 @@ four_same i i' n n' x x' o o' p q r t = cc
 module _ (es : List BehaviorElement) where
   abbrev added : Option ℕ → Parts → ElementForm → Parts
   added p ps f =
-      four (or_given ps.initial (initial_in es p f)) (or_given ps.entry (entry_in es f)) (or_given ps.exit (exit_in es f)) (ps.on ++ or_none (on_in es p f))
+      four (or_given ps.initial (initial_in es p f)) (or_given ps.entry (entry_in es f)) (or_given ps.exit (exit_in es f)) (ps.on ++ option_to_list (on_in es p f))
 
   added_none : (ps : Parts) → four (or_given ps.initial None) (or_given ps.entry None) (or_given ps.exit None) (ps.on ++ []) ≡ ps
   added_none ps = four_same _ _ _ _ _ _ _ _ (given_none ps.initial) (given_none ps.entry) (given_none ps.exit) (append-nil ps.on)
@@ -122,7 +121,7 @@ module _ (es : List BehaviorElement) where
             ∙ (ap Some (put_is within) ∙ ap (λ (m : ℕ). Some (parts es (xs ++ e ∷ []) (Some m))) (sym k)))
         exact_by v l (inr d) =
             get_set_other table q v put d
-            ∙ (h.exact v l ∙ ap Some (sym (parts_other xs e (Some v) (ap (λ (o : Option ℕ). same_place (Some v) o) s ∙ eq_no v q d))))
+            ∙ (h.exact v l ∙ ap Some (sym (parts_other xs e (Some v) (ap (λ (o : Option ℕ). same_place (Some v) o) s ∙ number_other v q d))))
 
         exact : (v : ℕ) → v < n → slice_get table' v ≡ Some (parts es (xs ++ e ∷ []) (Some v))
         exact v l = ap (λ (t : List Parts). slice_get t v) is ∙ exact_by v l (same_or_other v q)

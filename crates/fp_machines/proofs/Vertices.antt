@@ -1,6 +1,7 @@
 -- States and choices by what was gathered.
 use Rattle.std.proofs.Common.{◌≡◌, ℕ, suc, ◌+◌, ◌<◌, ◌⊎◌, List, [], ◌∷◌, ◌++◌, length, slice_get, Option, Some, refl, sym, ap, subst, ◌∙◌, inl, inr, arith}
 use Rattle.std.proofs.lemmas.List.{append-nil}
+use Rattle.std.specs.Option.{option_to_list}
 use Rattle.fp_base.proofs.Options.{same_some}
 use Rattle.fp_tree.specs.declared.machine.BehaviorElement.{BehaviorElement}
 use Rattle.fp_tree.specs.declared.machine.ElementForm.{ElementForm}
@@ -8,7 +9,7 @@ use Rattle.fp_tree.specs.declared.machine.ElementForm.TheVariants as element
 use Rattle.fp_tables.specs.declared.machine.Vertex.{Vertex}
 use Rattle.fp_machines.specs.declared.gathering.Parts.{Parts}
 use Rattle.fp_machines.specs.Gathered.{AreGathered, parts, vertex_by, vertices_by}
-use Rattle.fp_machines.specs.Made.{or_none, vertex_in, vertices_from}
+use Rattle.fp_machines.specs.Made.{vertex_in, vertices_from}
 
 module _ (es : List BehaviorElement) where
   same_vertex : (at : ℕ) (p : Option ℕ) (f : ElementForm) → vertex_by es (parts es es (Some at)) p f ≡ vertex_in es at p f
@@ -37,8 +38,8 @@ module _ (es : List BehaviorElement) where
   same_from at [] table l h = refl
   same_from at (e ∷ more) [] l h = absurd (omega arith)
   same_from at (e ∷ more) (ps ∷ table) l h =
-      ap (λ (v : Option Vertex). or_none v ++ vertices_by es more table) (ap (λ (q : Parts). vertex_by es q e.parent e.form) here ∙ same_vertex at e.parent e.form)
-      ∙ ap (λ (vs : List Vertex). or_none (vertex_in es at e.parent e.form) ++ vs) (same_from (at + 1) more table (omega arith) behind)
+      ap (λ (v : Option Vertex). option_to_list v ++ vertices_by es more table) (ap (λ (q : Parts). vertex_by es q e.parent e.form) here ∙ same_vertex at e.parent e.form)
+      ∙ ap (λ (vs : List Vertex). option_to_list (vertex_in es at e.parent e.form) ++ vs) (same_from (at + 1) more table (omega arith) behind)
     where
       here : ps ≡ parts es es (Some at)
       here =

@@ -1,6 +1,7 @@
 -- What stands directly in each state, and in the machine itself, gathered by the states.
 use Rattle.std.specs.Prelude.{◌≡◌, ◌<◌, ℕ, List, [], ◌∷◌, ◌++◌, filter, length, slice_get, unwrap_or, Option, None, Some}
 use Rattle.std.specs.List.{filter_map}
+use Rattle.std.specs.Option.{option_to_list}
 use Rattle.fp_tree.specs.declared.machine.BehaviorElement.{BehaviorElement}
 use Rattle.fp_tree.specs.declared.machine.ElementForm.{ElementForm}
 use Rattle.fp_tree.specs.declared.machine.ElementForm.TheVariants as element
@@ -9,7 +10,7 @@ use Rattle.fp_tables.specs.declared.machine.Node.TheVariants as node
 use Rattle.fp_tables.specs.declared.machine.Vertex.{Vertex}
 use Rattle.fp_machine_rules.specs.Members.{same_place}
 use Rattle.fp_machines.specs.declared.gathering.Parts.{Parts}
-use Rattle.fp_machines.specs.Made.{actions_of, choice_node, entry_in, exit_in, first, initial_in, on_in, or_none, step_of, vertex_with}
+use Rattle.fp_machines.specs.Made.{actions_of, choice_node, entry_in, exit_in, first, initial_in, on_in, step_of, vertex_with}
 
 abbrev pub no_parts : Parts
 no_parts = record { initial = None; entry = None; exit = None; on = [] }
@@ -43,7 +44,7 @@ module _ (es : List BehaviorElement) where
   with_member p ps (element.Initial g) = record ps { initial = or_else ps.initial (step_of es p g) }
   with_member p ps (element.Entry d) = record ps { entry = or_else ps.entry (actions_of es d) }
   with_member p ps (element.Exit d) = record ps { exit = or_else ps.exit (actions_of es d) }
-  with_member p ps (element.On o) = record ps { on = ps.on ++ or_none (on_in es p (element.On o)) }
+  with_member p ps (element.On o) = record ps { on = ps.on ++ option_to_list (on_in es p (element.On o)) }
   with_member p ps _ = ps
 
   -- for so many positions, and for the machine itself
@@ -62,4 +63,4 @@ module _ (es : List BehaviorElement) where
   abbrev pub vertices_by : List BehaviorElement → List Parts → List Vertex
   vertices_by [] table = []
   vertices_by (e ∷ more) [] = []
-  vertices_by (e ∷ more) (ps ∷ table) = or_none (vertex_by ps e.parent e.form) ++ vertices_by more table
+  vertices_by (e ∷ more) (ps ∷ table) = option_to_list (vertex_by ps e.parent e.form) ++ vertices_by more table

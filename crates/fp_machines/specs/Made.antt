@@ -4,6 +4,7 @@
 -- out; in a machine that breaks no rule there is no such name.
 use Rattle.std.specs.Prelude.{ℕ, ◌+◌, Bool, true, false, List, [], ◌∷◌, ◌++◌, filter, take, length, slice_get, unwrap_or, option_map, option_and_then, Option, Some, None}
 use Rattle.std.specs.List.{filter_map}
+use Rattle.std.specs.Option.{option_to_list}
 use Rattle.fp_tree.specs.declared.name.Name.{Name}
 use Rattle.fp_tree.specs.declared.name.Qual.{Qual}
 use Rattle.fp_tree.specs.declared.machine.ActionUse.{ActionUse}
@@ -74,14 +75,10 @@ kind_at kinds at = option_and_then (λ (o : Option Kind). o) (slice_get kinds at
 abbrev pub named : Option Kind → TypedName → Named
 named k t = record { name = t.name.text; kind = k }
 
-abbrev pub or_none : {A : Type 0} → Option A → List A
-or_none None = []
-or_none (Some x) = x ∷ []
-
 -- those that a part gives, from a position on
 abbrev pub declared_from : (ElementForm → Option TypedName) → List (Option Kind) → ℕ → List BehaviorElement → List Named
 declared_from part kinds at [] = []
-declared_from part kinds at (e ∷ more) = or_none (option_map (named (kind_at kinds at)) (part e.form)) ++ declared_from part kinds (at + 1) more
+declared_from part kinds at (e ∷ more) = option_to_list (option_map (named (kind_at kinds at)) (part e.form)) ++ declared_from part kinds (at + 1) more
 
 -- ---- over the elements
 
@@ -193,7 +190,7 @@ module _ (es : List BehaviorElement) where
   -- in source order, which is preorder, from a position on
   abbrev pub vertices_from : ℕ → List BehaviorElement → List Vertex
   vertices_from at [] = []
-  vertices_from at (e ∷ more) = or_none (vertex_in at e.parent e.form) ++ vertices_from (at + 1) more
+  vertices_from at (e ∷ more) = option_to_list (vertex_in at e.parent e.form) ++ vertices_from (at + 1) more
 
   -- ---- the machine of a name, with the kinds of what its elements declare
 

@@ -1,5 +1,6 @@
 ghost use Rattle.std.specs.Prelude.{◌≡◌, ◌++◌, IfOk, OnOk, Some, option_map};
-ghost use Rattle.fp_machines.specs.Made.{action_in, declared_from, guard_in, kind_at, named, or_none, signal_in};
+ghost use Rattle.std.specs.Option.{option_to_list};
+ghost use Rattle.fp_machines.specs.Made.{action_in, declared_from, guard_in, kind_at, named, signal_in};
 
 use fp_base::{NoMemory, Row};
 use fp_tables::{Kind, Named};
@@ -29,7 +30,7 @@ fn push_named(
     typed: &TypedName,
     row: &mut Row<Named>,
 ) -> Result<(), NoMemory>
-    ensures { OnOk result (row.new ≡ row.old ++ or_none (Some (named kind typed.now))) }
+    ensures { OnOk result (row.new ≡ row.old ++ option_to_list (Some (named kind typed.now))) }
 {
     let name = typed.name.text.copy(alloc)?;
     row.push(Named { name, kind })
@@ -41,9 +42,9 @@ fn push_declared(
     form: &ElementForm,
     declared: &mut Declared,
 ) -> Result<(), NoMemory>
-    ensures signals { OnOk result (declared.new.signals ≡ declared.old.signals ++ or_none (option_map (named kind) (signal_in form.now))) }
-    ensures actions { OnOk result (declared.new.actions ≡ declared.old.actions ++ or_none (option_map (named kind) (action_in form.now))) }
-    ensures guards { OnOk result (declared.new.guards ≡ declared.old.guards ++ or_none (option_map (named kind) (guard_in form.now))) }
+    ensures signals { OnOk result (declared.new.signals ≡ declared.old.signals ++ option_to_list (option_map (named kind) (signal_in form.now))) }
+    ensures actions { OnOk result (declared.new.actions ≡ declared.old.actions ++ option_to_list (option_map (named kind) (action_in form.now))) }
+    ensures guards { OnOk result (declared.new.guards ≡ declared.old.guards ++ option_to_list (option_map (named kind) (guard_in form.now))) }
 {
     match form {
         ElementForm::Signal(typed) => push_named(alloc, kind, typed.get(), &mut declared.signals),

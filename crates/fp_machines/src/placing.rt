@@ -1,7 +1,8 @@
 ghost use Rattle.std.specs.Prelude.{◌≡◌, ◌<◌, ◌^◌, ◌++◌, [], List, IfOk, OnOk, Some, length, unwrap_or};
+ghost use Rattle.std.specs.Option.{option_to_list};
 ghost use Rattle.fp_tree.specs.declared.machine.BehaviorElement.{BehaviorElement as Element};
 ghost use Rattle.fp_machines.specs.Gathered.{node_with, vertex_by, vertices_by};
-ghost use Rattle.fp_machines.specs.Made.{choice_node, or_none, vertex_with};
+ghost use Rattle.fp_machines.specs.Made.{choice_node, vertex_with};
 ghost use Rattle.fp_machines.specs.Named.{AreNames};
 
 use crate::gathering::Parts;
@@ -66,7 +67,7 @@ fn push_vertex(
     node: Node,
     vertices: &mut Row<Vertex>,
 ) -> Result<(), NoMemory>
-    ensures { OnOk result ((es : List Element) → AreNames es names.now → vertices.new ≡ vertices.old ++ or_none (Some (vertex_with es name.now parent node))) }
+    ensures { OnOk result ((es : List Element) → AreNames es names.now → vertices.new ≡ vertices.old ++ option_to_list (Some (vertex_with es name.now parent node))) }
 {
     let name = name.text.copy(alloc)?;
     let parent = names.vertex(parent);
@@ -83,7 +84,7 @@ fn push_form(
     vertices: &mut Row<Vertex>,
 ) -> Result<(), NoMemory>
     requires short { length names.now.outlines < 2 ^ 32 }
-    ensures { OnOk result ((es : List Element) → AreNames es names.now → vertices.new ≡ vertices.old ++ or_none (vertex_by es parts parent form.now)) }
+    ensures { OnOk result ((es : List Element) → AreNames es names.now → vertices.new ≡ vertices.old ++ option_to_list (vertex_by es parts parent form.now)) }
 {
     match form {
         ElementForm::State(name) => {
@@ -119,7 +120,7 @@ fn push_element(
     vertices: &mut Row<Vertex>,
 ) -> Result<(), NoMemory>
     requires short { length names.now.outlines < 2 ^ 32 }
-    ensures { OnOk result ((es : List Element) → AreNames es names.now → vertices.new ≡ vertices.old ++ or_none (vertex_by es parts element.now.parent element.now.form)) }
+    ensures { OnOk result ((es : List Element) → AreNames es names.now → vertices.new ≡ vertices.old ++ option_to_list (vertex_by es parts element.now.parent element.now.form)) }
 {
     let parent = position_if(element.parent)?;
     push_form(alloc, names, parent, &element.form, parts, vertices)

@@ -1,6 +1,7 @@
 ghost use Rattle.std.specs.Prelude.{◌≡◌, ◌<◌, ◌^◌, ◌++◌, List, IfOk, OnOk, length, option_and_then, option_map};
+ghost use Rattle.std.specs.Option.{option_to_list};
 ghost use Rattle.fp_tree.specs.declared.machine.BehaviorElement.{BehaviorElement as Element};
-ghost use Rattle.fp_machines.specs.Made.{action_meant, actions_if, actions_of, guard_meant, on_with, or_none, signal_meant, step_of, way_of};
+ghost use Rattle.fp_machines.specs.Made.{action_meant, actions_if, actions_of, guard_meant, on_with, signal_meant, step_of, way_of};
 ghost use Rattle.fp_machines.specs.Named.{AreNames};
 
 use crate::naming::Names;
@@ -10,7 +11,7 @@ use fp_tree::{ActionUse, Do, Goto, Name, OnSignal, Transition};
 use std::alloc::Global;
 
 fn push_action(names: &Names, action: &ActionUse, row: &mut Row<u32>) -> Result<(), NoMemory>
-    ensures { OnOk result ((es : List Element) → AreNames es names.now → row.new ≡ row.old ++ or_none (action_meant es action.now)) }
+    ensures { OnOk result ((es : List Element) → AreNames es names.now → row.new ≡ row.old ++ option_to_list (action_meant es action.now)) }
 {
     match names.action(&action.name) {
         None => Ok(()),
@@ -111,7 +112,7 @@ pub fn push_on(
     row: &mut Row<On>,
 ) -> Result<(), NoMemory>
     requires short { length names.now.outlines < 2 ^ 32 }
-    ensures { OnOk result ((es : List Element) → AreNames es names.now → row.new ≡ row.old ++ or_none (option_map (on_with es parent on.now) (signal_meant es on.now.signal))) }
+    ensures { OnOk result ((es : List Element) → AreNames es names.now → row.new ≡ row.old ++ option_to_list (option_map (on_with es parent on.now) (signal_meant es on.now.signal))) }
 {
     match names.signal(&on.signal) {
         None => Ok(()),

@@ -5,3 +5,5 @@ pub mod OneValue
 pub mod OneOrigin
 mod Worked
 pub mod Since
+pub mod Opened
+pub mod UseWalks

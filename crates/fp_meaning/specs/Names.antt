@@ -1,6 +1,8 @@
 -- The definitions of a source and the uses of names in it, in source order: what its items define and use. FPP Language Specification,
 -- "Definitions", "Names of Definitions".
-use Rattle.std.specs.Prelude.{List, [], ◌∷◌, ◌++◌, map, flat_map}
+use Rattle.std.specs.Prelude.{◌≡◌, true, List, [], ◌∷◌, ◌++◌, map, flat_map}
+use Rattle.std.specs.List.{list_all}
+use Rattle.fp_base.specs.Names.{is_name}
 use Rattle.fp_tree.specs.declared.source.Source.{Source}
 use Rattle.fp_tree.specs.declared.name.Name.{Name}
 use Rattle.fp_tree.specs.declared.name.Qual.{Qual}
@@ -118,3 +120,7 @@ uses_of (item.Written since p) = in_expression p.scope p.expression
 
 abbrev pub mentions : Source → List Mention
 mentions source = flat_map uses_of (items source)
+
+-- each part of what a definition is called is a name
+abbrev pub IsMadeOfNames : Definition → Type 0
+IsMadeOfNames d = list_all is_name d.name ≡ true

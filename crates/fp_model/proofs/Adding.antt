@@ -4,8 +4,10 @@ use Rattle.std.specs.Prelude.{Result, Ok, Err, IfOk}
 use Rattle.std.proofs.lemmas.List.{append-nil, take_all}
 use Rattle.std.proofs.lemmas.Grind.{flat_map-append}
 use Rattle.std.proofs.lemmas.Option.{none-some, slice_get_within}
+use Rattle.std.specs.Option.{option_flatten}
 use Rattle.fp_base.proofs.Lists.{take_next}
 use Rattle.fp_base.proofs.Options.{same_some}
+use Rattle.fp_base.proofs.Numbers.{none_behind}
 use Rattle.fp_base.specs.declared.value.Value.{Value}
 use Rattle.fp_tree.specs.declared.source.Source.{Source}
 use Rattle.fp_tree.specs.declared.definition.Constant.{Constant as Written}
@@ -18,15 +20,12 @@ use Rattle.fp_type_forms.proofs.Only.{all_joined}
 use Rattle.fp_model.specs.declared.constants.ConstantsFound.{ConstantsFound}
 use Rattle.fp_model.specs.Defined.{AreConstants, IsConstant}
 use Rattle.fp_model.specs.Definitions.{ConstantHere, constant_here, constants_of}
-use Rattle.fp_model.specs.Given.{Adds, AddsIf, AddsItem, Counts, StandFrom, constant_with, entry, value_at}
+use Rattle.fp_model.specs.Given.{Adds, AddsIf, AddsItem, Counts, StandFrom, constant_with, value_at}
 use Rattle.fp_model.proofs.Standing.{item_stands}
 
 pub if_ok_both : {A E : Type 0} (r : Result A E) (P Q R : A → Type 0) → ((x : A) → P x → Q x → R x) → IfOk r P → IfOk r Q → IfOk r R
 if_ok_both (Ok x) P Q R to h k = to x h k
 if_ok_both (Err e) P Q R to h k = tt
-
-plus_none : (n : ℕ) → n ≡ n + 0
-plus_none n = omega arith
 
 module _ (values : List (Option Value)) where
   adds_none : (source : Source) (ps : List Placed) (before after : ConstantsFound) → after.constants ≡ before.constants → after.next ≡ before.next + length ps → Adds source ps [] before after
@@ -37,7 +36,7 @@ module _ (values : List (Option Value)) where
   }
 
   pub nothing_more : (before : ConstantsFound) → AddsIf values [] [] before before
-  nothing_more before source stand = adds_none source [] before before refl (plus_none before.next)
+  nothing_more before source stand = adds_none source [] before before refl (none_behind before.next)
 
   -- past the value of an expression that is no constant's
   pub past_one : (p : Placed) (before after : ConstantsFound) → after.constants ≡ before.constants → Counts (length values) before.next after.next → AddsIf values (p ∷ []) [] before after
@@ -47,7 +46,7 @@ module _ (values : List (Option Value)) where
     pub one_more : (v : Value) (before after : ConstantsFound) → value_at values before.next ≡ Some v → after.constants ≡ before.constants ++ constant_with scope d v ∷ []
         → Counts (length values) before.next after.next → AddsIf values (placed scope d.value ∷ []) (constant_here scope d ∷ []) before after
     one_more v before after at adds counts source stand =
-        let same : stand.0.0 ≡ v = same_some (sym (ap entry stand.0.1) ∙ at) in
+        let same : stand.0.0 ≡ v = same_some (sym (ap option_flatten stand.0.1) ∙ at) in
         let is : IsConstant source (constant_here scope d) (constant_with scope d v) = record { name = refl; value = subst (λ (w : Value). Val source scope (opened d.value) w) same stand.0.2; note = refl } in
         record {
           constants = λ gs are.
@@ -57,7 +56,7 @@ module _ (values : List (Option Value)) where
         }
 
     pub never_missing : (before after : ConstantsFound) → value_at values before.next ≡ None → AddsIf values (placed scope d.value ∷ []) (constant_here scope d ∷ []) before after
-    never_missing before after none source stand = absurd (none-some stand.0.0 (sym none ∙ ap entry stand.0.1))
+    never_missing before after none source stand = absurd (none-some stand.0.0 (sym none ∙ ap option_flatten stand.0.1))
 
 -- of the first items
 abbrev pub FoundFirst : List (Option Value) → List Item → ℕ → ConstantsFound → Type 0

@@ -7,7 +7,7 @@ use Rattle.fp_tables.specs.declared.kind.TypeDef.{TypeDef}
 use Rattle.fp_tables.specs.declared.model.Model.{Model}
 use Rattle.fp_meaning.specs.Layout.{items}
 use Rattle.fp_type_forms.specs.Written.{AllAt, IsWritten, types}
-use Rattle.fp_component_forms.specs.Written.{ComponentIs, PortDefIs, component_of, components, port_definitions, port_of}
+use Rattle.fp_component_forms.specs.Written.{ComponentIs, PortDefIs, component_declared, components, port_definitions, port_declared}
 use Rattle.fp_components.specs.Resolved.{port_def_of}
 use Rattle.fp_source_types.specs.Typed.{AreTypesOf}
 use Rattle.fp_model.specs.Defined.{HasParts}
@@ -24,13 +24,13 @@ pub types_long : (source : Source) (ts : List TypeDef) (of : AreTypesOf source (
 types_long source ts of = as_long (IsWritten source) 0 (types source) of.written of.are ∙ same_length source ts of
 
 module _ (source : Source) (m : Model) (h : HasParts source m) where
-  pub ports_long : length (flat_map port_of (items source)) ≡ length m.ports
+  pub ports_long : length (flat_map port_declared (items source)) ≡ length m.ports
   ports_long =
       let p = h.2 in
       as_long (PortDefIs source) 0 (port_definitions source) p.written.definitions p.are.definitions ∙ sym (length-map p.written.definitions port_def_of)
       ∙ ap (λ (ps : List PortDef). length ps) (sym p.ports)
 
-  pub components_long : length (flat_map component_of (items source)) ≡ length m.components
+  pub components_long : length (flat_map component_declared (items source)) ≡ length m.components
   components_long =
       let p = h.2 in
       as_long (ComponentIs source) 0 (components source) p.written.components p.are.components ∙ sym p.components.each

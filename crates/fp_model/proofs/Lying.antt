@@ -1,11 +1,12 @@
 -- The types that a given type names are among the given ones.
-use Rattle.std.proofs.Common.{◌≡◌, ℕ, suc, ◌<◌, Bool, true, List, [], ◌∷◌, length, map, Option, Some, slice_get, refl, sym, ap, subst, ◌∙◌, arith}
+use Rattle.std.proofs.Common.{◌≡◌, ℕ, ◌<◌, Bool, true, List, length, map, Option, Some, slice_get, refl, sym, ap, subst, ◌∙◌, arith}
 use Rattle.std.specs.Prelude.{nat_lt, option_map}
 use Rattle.std.specs.List.{list_all}
 use Rattle.std.proofs.lemmas.Bool.Decides.{nat_tests}
 use Rattle.std.proofs.lemmas.List.{length-map}
 use Rattle.std.proofs.lemmas.Option.{slice_get-map, slice_get_within}
 use Rattle.fp_base.proofs.Bools.{join}
+use Rattle.fp_base.proofs.Passing.{all_items}
 use Rattle.fp_base.specs.declared.value.Value.{Value}
 use Rattle.fp_tree.specs.declared.source.Source.{Source}
 use Rattle.fp_tables.specs.Positions.{form_lies, kind_lies}
@@ -57,10 +58,6 @@ module _ (ws : List WrittenType) where
   form_lies_where (struct ms) = fields_measured ms
   form_lies_where (enum h m) = kind_measured m
 
-pub all_by_place : {A : Type 0} (p : A → Bool) (xs : List A) → ((i : ℕ) (x : A) → slice_get xs i ≡ Some x → p x ≡ true) → list_all p xs ≡ true
-all_by_place p [] each = refl
-all_by_place p (x ∷ xs) each = join (p x) (list_all p xs) (each 0 x refl) (all_by_place p xs (λ i y e. each (suc i) y e))
-
 pub same_length : (source : Source) (types : List TypeDef) (of : AreTypesOf source (map (λ (d : TypeDef). Some d) types)) → length of.written ≡ length types
 same_length source types of = sym of.types.each ∙ length-map types (λ (d : TypeDef). Some d)
 
@@ -74,4 +71,4 @@ module _ (source : Source) (types : List TypeDef) (of : AreTypesOf source (map (
       subst (λ (n : ℕ). form_lies n d.form ≡ true) (same_length source types of) (form_lies_where of.written (form_measured is.0 s.2))
 
   pub types_lie : list_all (λ (d : TypeDef). form_lies (length types) d.form) types ≡ true
-  types_lie = all_by_place (λ (d : TypeDef). form_lies (length types) d.form) types one_lies
+  types_lie = all_items (λ (d : TypeDef). form_lies (length types) d.form) types one_lies

@@ -1,12 +1,13 @@
 -- Matched ports have one size.
 use Rattle.std.proofs.Common.{◌≡◌, ℕ, suc, ◌<◌, Bool, true, inr, List, [], ◌∷◌, ◌++◌, length, map, flat_map, slice_get, Option, Some, None, refl, sym, ap, subst, ◌∙◌, arith}
-use Rattle.std.specs.Prelude.{◌==◌, zero, ℤ, pos, find, position, option_and_then, option_map, unwrap_or}
+use Rattle.std.specs.Prelude.{zero, ℤ, pos, find, position, option_and_then, option_map, unwrap_or}
 use Rattle.std.specs.List.{list_all}
-use Rattle.std.proofs.lemmas.Bool.Decides.{nat_tests}
 use Rattle.std.proofs.lemmas.Option.{none-some}
 use Rattle.fp_base.proofs.Lists.{get_within}
 use Rattle.fp_base.proofs.Options.{same_some}
 use Rattle.fp_base.proofs.Spots.{item_below}
+use Rattle.fp_base.proofs.Passing.{all_items}
+use Rattle.fp_base.proofs.Numbers.{number_same, pos_same}
 use Rattle.fp_base.specs.Least.{IsUnbroken}
 use Rattle.fp_tree.specs.declared.source.Source.{Source}
 use Rattle.fp_tables.proofs.Firsts.{find_by_position}
@@ -28,7 +29,6 @@ use Rattle.fp_component_rules.specs.Broken.{ComponentsBroken, size_of}
 use Rattle.fp_component_rules.specs.Consistent.{AreConsistent, IsConsistent}
 use Rattle.fp_components.specs.Resolved.{IsComponent, IsNumber, match_in}
 use Rattle.fp_model.specs.Joined.{Joined, StatesHold}
-use Rattle.fp_model.proofs.Lying.{all_by_place}
 
 -- the first that passes stands at the position of the first that passes
 found_there : {A : Type 0} (p : A → Bool) (xs : List A) (k : ℕ) (x : A) → position p xs ≡ Some k → find p xs ≡ Some x → slice_get xs k ≡ Some x
@@ -51,12 +51,6 @@ sized : (o : Option Given) (n : ℤ) → IsNumber (pos 1) o n → size_of o ≡ 
 sized None n h = ap (λ (x : ℤ). Some x) (sym h)
 sized (Some g) n h = h
 
-same_pos : (m n : ℕ) → pos m ≡ pos n → m ≡ n
-same_pos m n e = cc
-
-one_number : (m n : ℕ) → m ≡ n → (m == n) ≡ true
-one_number m n e = grind (arith, nat_tests)
-
 module _ (interfaces : List WrittenInterface) (definitions : List WrittenPortDef) (ws : List WrittenType) (w : WrittenComponent) (c : Component) (is : IsComponent interfaces definitions ws w c)
     (consistent : IsConsistent interfaces w) where
   -- a port of the component comes from one that is given there
@@ -69,7 +63,7 @@ module _ (interfaces : List WrittenInterface) (definitions : List WrittenPortDef
 
   paired : list_all (has_one_size c.ports) c.matches ≡ true
   paired =
-      all_by_place (has_one_size c.ports) c.matches (λ k q at.
+      all_items (has_one_size c.ports) c.matches (λ k q at.
       let low = get_within c.matches k q at in
       let each = is.matches.each in
       let d = item_below (flat_map match_in w.members) k (omega (arith, low, each)) in
@@ -78,15 +72,15 @@ module _ (interfaces : List WrittenInterface) (definitions : List WrittenPortDef
       let pair = consistent.pairs is.all is.given there.0 d.0 there.1 in
       let one = size_at q.0 pair.one (found_there (is_named d.0.first) is.all q.0 pair.one names.first pair.first) in
       let other = size_at q.1 pair.other (found_there (is_named d.0.second) is.all q.1 pair.other names.second pair.second) in
-      let same : one.0 ≡ other.0 = same_pos one.0 other.0 (pair.sizes (pos one.0) (pos other.0) one.2 other.2) in
-      one_number (size_in c.ports q.0) (size_in c.ports q.1) (one.1 ∙ same ∙ sym other.1))
+      let same : one.0 ≡ other.0 = pos_same one.0 other.0 (pair.sizes (pos one.0) (pos other.0) one.2 other.2) in
+      number_same (size_in c.ports q.0) (size_in c.ports q.1) (one.1 ∙ same ∙ sym other.1))
 
 pub matched : ((interfaces : List WrittenInterface) (components : List WrittenComponent) → IsUnbroken (ComponentsBroken interfaces components) → AreConsistent interfaces components)
     → (source : Source) (m : Model) → StatesHold source → Joined source m → matched_ports_have_one_size m ≡ true
 matched law source m h j =
     let p = j.parts.2 in
     let whole = law p.written.interfaces p.written.components (λ f b. h.parts f (record { written = p.written; are = p.are; types = m.types; given = j.types; broken = inr (inr b) })) in
-    all_by_place (λ (c : Component). list_all (has_one_size c.ports) c.matches) m.components (λ k c at.
+    all_items (λ (c : Component). list_all (has_one_size c.ports) c.matches) m.components (λ k c at.
     let low = get_within m.components k c at in
     let each = p.components.each in
     let w = item_below p.written.components k (omega (arith, low, each)) in

@@ -1,13 +1,9 @@
 -- What is the least of phases, and that none of them is broken.
-use Rattle.std.proofs.Common.{inl, inr, [], ◌∷◌, Option, Some, refl}
+use Rattle.std.proofs.Common.{inl, inr, [], ◌∷◌, Option}
 use Rattle.fp_base.specs.declared.refusal.Refusal.{Refusal}
 use Rattle.fp_base.specs.Least.{IsLeast, IsUnbroken, Phased}
 use Rattle.fp_base.proofs.Calculus.{least_same}
 use Rattle.fp_model.specs.Phases.{InPhases}
-
--- that of the first, whatever the later ones break
-pub least_first : {P Q : Refusal → Type 0} (f : Refusal) → IsLeast P (Some f) → IsLeast (Phased P Q) (Some f)
-least_first f l = record { holds = λ g e. inl (l.holds g e); least = λ g. elim [ inl p ↦ l.least g p | inr q ↦ absurd (q.1 f (l.holds f refl)) ] }
 
 -- that of the later ones, where the first isn't broken
 pub least_later : {P Q : Refusal → Type 0} (o : Option Refusal) → IsUnbroken P → IsLeast Q o → IsLeast (Phased P Q) o

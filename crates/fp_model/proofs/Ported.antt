@@ -1,12 +1,12 @@
 -- No two definitions of ports have one name.
-use Rattle.std.proofs.Common.{◌≡◌, ℕ, suc, Bool, true, false, not, ◌&&◌, ◌||◌, List, [], ◌∷◌, map, slice_get, Some, refl, sym, ap, subst, ◌∙◌}
+use Rattle.std.proofs.Common.{◌≡◌, ℕ, suc, true, not, ◌&&◌, List, [], ◌∷◌, map, slice_get, Some, refl, sym, ap, subst, ◌∙◌}
 use Rattle.std.specs.Prelude.{zero}
 use Rattle.std.specs.List.{AllByRecursion as Each, list_any}
 use Rattle.std.specs.Str.{bytes_eq}
 use Rattle.std.proofs.lemmas.Option.{none-some, slice_get-map}
-use Rattle.std.proofs.lemmas.Slice.Eq.{bytes_eq-Decides}
-use Rattle.fp_base.proofs.Bools.{both}
+use Rattle.fp_base.proofs.Bools.{both, never_true, or_left, or_right}
 use Rattle.fp_base.proofs.Options.{mapped_some, same_some}
+use Rattle.fp_base.proofs.Bytes.{bytes_same}
 use Rattle.fp_base.specs.Least.{IsUnbroken}
 use Rattle.fp_part_values.proofs.Standing.{each_given}
 use Rattle.fp_tree.specs.declared.source.Source.{Source}
@@ -22,13 +22,13 @@ use Rattle.fp_meaning.specs.declared.item.Item.{Item}
 use Rattle.fp_meaning.specs.declared.item.Item.TheVariants as item
 use Rattle.fp_meaning.specs.Broken.{BrokenByDefinitions}
 use Rattle.fp_meaning.specs.Layout.{items}
-use Rattle.fp_meaning.specs.Names.{Path, defined, definitions, definitions_of, group_of, model_group, model_name, name_of}
+use Rattle.fp_meaning.specs.Names.{Path, defined, definitions, definitions_of, group_of, model_group, model_name, name_of, IsMadeOfNames}
 use Rattle.fp_meaning.specs.Sites.{ModelDef, component, instance, interface, machine, topology}
-use Rattle.fp_component_forms.specs.Written.{PortDefIs, Scoped, port_in, port_of, qualified, same_group}
+use Rattle.fp_component_forms.specs.Written.{PortDefIs, Scoped, port_in, port_declared, qualified, same_group}
 use Rattle.fp_components.specs.Resolved.{port_def_of}
 use Rattle.fp_source_types.specs.Named.{DefinitionsAreNamed}
 use Rattle.fp_written_parts.specs.declared.port.WrittenPortDef.{WrittenPortDef}
-use Rattle.fp_topology_forms.proofs.Texts.{HasNames, source_once, texts_in, written_apart}
+use Rattle.fp_topology_forms.proofs.Texts.{source_once, texts_in, written_apart}
 use Rattle.fp_sound_parts.specs.Premises.{DefinitionsDiffer}
 use Rattle.fp_model.specs.Defined.{HasParts}
 
@@ -45,7 +45,7 @@ of_ports group.Interface e = absurd (cc)
 abbrev text_of : Scoped Port → List ℕ
 text_of s = qualified s.scope s.node.name
 
-port_texts : (i : Item) → texts_in group.Port (definitions_of i) ≡ map text_of (port_of i)
+port_texts : (i : Item) → texts_in group.Port (definitions_of i) ≡ map text_of (port_declared i)
 port_texts (item.Defined s) = of_definition s.scope s.definition
   where
     of_definition : (scope : Path) (d : Def) → texts_in group.Port (defined (group_of d) scope (name_of d) ∷ []) ≡ map text_of (port_in scope d)
@@ -68,45 +68,31 @@ port_texts (item.Declared d) = of_model d.scope d.definition
 port_texts (item.Used since n) = refl
 port_texts (item.Written since p) = refl
 
-is_same : (a b : List ℕ) → a ≡ b → bytes_eq a b ≡ true
-is_same a b e = (bytes_eq-Decides a b).1 e
-
-or_left : (a b : Bool) → a ≡ true → (a || b) ≡ true
-or_left a b h = rw h refl
-
-or_right : (a b : Bool) → b ≡ true → (a || b) ≡ true
-or_right true b h = refl
-or_right false b h = h
-
-no_longer : (b : Bool) → not b ≡ true → b ≡ true → ⊥
-no_longer true h e = cc
-no_longer false h e = cc
-
 module _ {A : Type 0} (name : A → List ℕ) where
   among : (t : List ℕ) (xs : List A) (k : ℕ) (e : A) → slice_get xs k ≡ Some e → t ≡ name e → list_any (bytes_eq t) (map name xs) ≡ true
   among t [] k e at same = absurd (none-some e at)
-  among t (x ∷ xs) zero e at same = or_left (bytes_eq t (name x)) (list_any (bytes_eq t) (map name xs)) (is_same t (name x) (same ∙ ap name (sym (same_some at))))
+  among t (x ∷ xs) zero e at same = or_left (bytes_eq t (name x)) (list_any (bytes_eq t) (map name xs)) (bytes_same t (name x) (same ∙ ap name (sym (same_some at))))
   among t (x ∷ xs) (suc k) e at same = or_right (bytes_eq t (name x)) (list_any (bytes_eq t) (map name xs)) (among t xs k e at same)
 
   apart : (xs : List A) → texts_differ (map name xs) ≡ true → (j k : ℕ) (d e : A) → slice_get xs j ≡ Some d → slice_get xs k ≡ Some e → name d ≡ name e → j ≡ k
   apart [] h j k d e at there same = absurd (none-some d at)
   apart (x ∷ xs) h zero zero d e at there same = refl
   apart (x ∷ xs) h zero (suc k) d e at there same =
-      absurd (no_longer (list_any (bytes_eq (name x)) (map name xs)) (both (not (list_any (bytes_eq (name x)) (map name xs))) (texts_differ (map name xs)) h).0
+      absurd (never_true (list_any (bytes_eq (name x)) (map name xs)) (both (not (list_any (bytes_eq (name x)) (map name xs))) (texts_differ (map name xs)) h).0
       (among (name x) xs k e there (ap name (same_some at) ∙ same)))
   apart (x ∷ xs) h (suc j) zero d e at there same =
-      absurd (no_longer (list_any (bytes_eq (name x)) (map name xs)) (both (not (list_any (bytes_eq (name x)) (map name xs))) (texts_differ (map name xs)) h).0
+      absurd (never_true (list_any (bytes_eq (name x)) (map name xs)) (both (not (list_any (bytes_eq (name x)) (map name xs))) (texts_differ (map name xs)) h).0
       (among (name x) xs j d at (ap name (same_some there) ∙ sym same)))
   apart (x ∷ xs) h (suc j) (suc k) d e at there same =
       ap (λ (n : ℕ). suc n) (apart xs (both (not (list_any (bytes_eq (name x)) (map name xs))) (texts_differ (map name xs)) h).1 j k d e at there same)
 
 module _ (source : Source) (m : Model) (p : HasParts source m) (once : IsUnbroken (BrokenByDefinitions source)) (named : DefinitionsAreNamed source) where
-  each_named : Each HasNames (definitions source)
-  each_named = each_given HasNames (definitions source) named
+  each_named : Each IsMadeOfNames (definitions source)
+  each_named = each_given IsMadeOfNames (definitions source) named
 
   written_differ : texts_differ (map (λ (w : WrittenPortDef). w.name) p.2.written.definitions) ≡ true
   written_differ =
-      written_apart group.Port (λ (d : Port). d.name) port_of (PortDefIs source) (λ (w : WrittenPortDef). w.name) (λ s w h. h.name) of_ports port_texts (items source) p.2.written.definitions
+      written_apart group.Port (λ (d : Port). d.name) port_declared (PortDefIs source) (λ (w : WrittenPortDef). w.name) (λ s w h. h.name) of_ports port_texts (items source) p.2.written.definitions
       p.2.are.definitions (source_once source once) each_named
 
   -- what stands there comes from what is written there

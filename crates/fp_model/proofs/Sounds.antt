@@ -3,6 +3,7 @@ use Rattle.std.proofs.Common.{◌≡◌, ℕ, Bool, true, false, ◌&&◌, ◌||
 use Rattle.std.specs.Prelude.{nat_lt}
 use Rattle.std.specs.List.{list_all}
 use Rattle.fp_base.proofs.Bools.{both}
+use Rattle.fp_base.proofs.Passing.{all_items}
 use Rattle.fp_tables.specs.Chains.{chains_are_short}
 use Rattle.fp_tables.specs.Lists.{all_from, if_some}
 use Rattle.fp_tables.specs.Machines as machines
@@ -22,7 +23,6 @@ use Rattle.fp_types.specs.WellWritten.{AreSoundTypes}
 use Rattle.fp_sound_parts.specs.ComponentSound.{AreSound, HaveSoundLists}
 use Rattle.fp_sound_parts.specs.Sound.{HasSoundBody, HasSoundOutline}
 use Rattle.fp_sound_parts.specs.Machines.{AreSoundMachines, IsSoundMachine}
-use Rattle.fp_model.proofs.Lying.{all_by_place}
 
 -- the tests of a model's lists
 positions : (a b c d e f g : Bool) → a ≡ true → b ≡ true → c ≡ true → d ≡ true → e ≡ true → f ≡ true → g ≡ true → ((((((a && b) && c) && d) && e) && f) && g) ≡ true
@@ -49,7 +49,7 @@ components_short m h = third_last _ (list_all component_is_short m.components) _
 
 module _ (m : Model) where
   each_outline_lies : AreSoundMachines m.types m.machines → list_all (machine_lies (length m.types)) m.machines ≡ true
-  each_outline_lies are = all_by_place (machine_lies (length m.types)) m.machines (λ k x at. (are k x at).outline.lies)
+  each_outline_lies are = all_items (machine_lies (length m.types)) m.machines (λ k x at. (are k x at).outline.lies)
 
   pub positions_hold : list_all (λ (d : TypeDef). form_lies (length m.types) d.form) m.types ≡ true → HaveSoundLists m.types m.machines m.ports m.components → AreSoundMachines m.types m.machines
       → list_all (λ (i : Instance). nat_lt i.component (length m.components)) m.instances ≡ true → list_all (topology_lies m) m.topologies ≡ true → list_all (item_lies m) m.order ≡ true → positions_lie m ≡ true
@@ -77,7 +77,7 @@ module _ (m : Model) where
   module _ (s : AreSoundLists) where
     -- what is so of each machine
     each_there : (test : Machine → Bool) → ((x : Machine) → IsSoundMachine m.types x → test x ≡ true) → list_all test m.machines ≡ true
-    each_there test is = all_by_place test m.machines (λ k x at. is x (s.machines k x at))
+    each_there test is = all_items test m.machines (λ k x at. is x (s.machines k x at))
 
     each_outline : (test : Machine → Bool) → ((x : Machine) → HasSoundOutline m.types x → test x ≡ true) → list_all test m.machines ≡ true
     each_outline test is = each_there test (λ x h. is x h.outline)

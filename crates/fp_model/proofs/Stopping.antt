@@ -4,9 +4,8 @@ use Rattle.std.specs.Prelude.{Result, Ok, Err, IfErr, IsErrAnd, OnOk, unwrap_or}
 use Rattle.fp_base.specs.declared.refusal.Refusal.{Refusal}
 use Rattle.fp_base.specs.declared.refusal.Stop.{Stop}
 use Rattle.fp_base.specs.declared.refusal.Stop.TheVariants as stop
-use Rattle.fp_base.specs.Least.{IsLeast, IsUnbroken}
-use Rattle.fp_base.proofs.Calculus.{least_either, least_none, none_broken}
-use Rattle.fp_consts.specs.Answered.{IsStop}
+use Rattle.fp_base.specs.Least.{IsLeast, IsUnbroken, IsStop}
+use Rattle.fp_base.proofs.Calculus.{least_either, least_none, none_broken, least_first}
 use Rattle.fp_names.specs.Answers as names
 use Rattle.fp_tree.specs.declared.source.Source.{Source}
 use Rattle.fp_tables.specs.declared.model.Model.{Model}
@@ -20,7 +19,7 @@ use Rattle.fp_source_parts.specs.TopologyBroken.{SourceInstancesBroken, SourceNu
 use Rattle.fp_model.specs.Broken.{ModelBroken, StatesBroken, ValuesBroken}
 use Rattle.fp_model.specs.Joined.{StatesHold, TopologiesHold}
 use Rattle.fp_model.specs.Phases.{InPhases}
-use Rattle.fp_model.proofs.Phased.{first_unbroken, later_unbroken, least_first, least_last, least_later, none_phased}
+use Rattle.fp_model.proofs.Phased.{first_unbroken, later_unbroken, least_last, least_later, none_phased}
 
 -- an error that is handed on
 pub passed : {A : Type 0} (r : Result A Stop) (s : Stop) (P : Stop → Type 0) → IsErrAnd r (λ y. y ≡ s) → P s → IfErr r P
@@ -29,12 +28,12 @@ passed (Err y) s P e p = subst P (sym e) p
 
 module _ (source : Source) where
   -- a use that means nothing, where no name is defined twice
-  pub uses_stop : IsUnbroken (BrokenByDefinitions source) → (s : Stop) → names.IsStop (BrokenByUses source) s → IsStop (NamesBroken source) s
+  pub uses_stop : IsUnbroken (BrokenByDefinitions source) → (s : Stop) → IsStop (BrokenByUses source) s → IsStop (NamesBroken source) s
   uses_stop once (stop.Broken f) l = least_either None (Some f) (least_none once) l
   uses_stop once stop.NoMemory l = tt
 
   -- a name that is defined twice is broken
-  pub twice_broken : (f : Refusal) → names.IsStop (BrokenByDefinitions source) (stop.Broken f) → BrokenByDefinitions source f
+  pub twice_broken : (f : Refusal) → IsStop (BrokenByDefinitions source) (stop.Broken f) → BrokenByDefinitions source f
   twice_broken f l = l.holds f refl
 
   -- the least of all, where one is broken
@@ -124,7 +123,7 @@ module _ (source : Source) (m : Model) where
   numbers_none (Ok x) least none = none_broken (least None (least_none none))
   numbers_none (Err e) least none = tt
 
-  pub numbers_least_stop : (r : Result Model Stop) → LeastOfSource source m → IfErr r (numbering.IsStop (NumbersBroken m)) → IfErr r (IsStop (SourceNumbersBroken source))
+  pub numbers_least_stop : (r : Result Model Stop) → LeastOfSource source m → IfErr r (IsStop (NumbersBroken m)) → IfErr r (IsStop (SourceNumbersBroken source))
   numbers_least_stop (Ok x) least stop = tt
   numbers_least_stop (Err (stop.Broken f)) least l = least (Some f) l
   numbers_least_stop (Err stop.NoMemory) least l = tt

@@ -1,5 +1,6 @@
 -- The model that a source defines. FPP Language Specification, "Definitions".
 use Rattle.std.specs.Prelude.{◌≡◌, ℕ, List, map, slice_get, Some}
+use Rattle.fp_component_forms.specs.Written.{qualified}
 use Rattle.fp_tree.specs.declared.source.Source.{Source}
 use Rattle.fp_tables.specs.declared.kind.Constant.{Constant}
 use Rattle.fp_tables.specs.declared.kind.TypeDef.{TypeDef}
@@ -19,7 +20,7 @@ use Rattle.fp_source_parts.specs.MachineBuilt.{AreMachinesOf}
 use Rattle.fp_source_parts.specs.TopologyBuilt.{AreInstancesOf, AreTopologiesOf}
 use Rattle.fp_numbering.specs.Answers.{AreNumbered}
 use Rattle.fp_model.specs.Definitions as written
-use Rattle.fp_model.specs.Definitions.{ConstantHere, qualified}
+use Rattle.fp_model.specs.Definitions.{ConstantHere}
 
 -- a constant by its qualified name, with the value of its expression and its own annotation
 pub record IsConstant (source : Source) (h : ConstantHere) (c : Constant) : Type 0 where

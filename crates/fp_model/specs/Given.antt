@@ -1,5 +1,7 @@
 -- The constants of items from the values of their expressions, which stand one behind another.
-use Rattle.std.specs.Prelude.{◌≡◌, ℕ, ◌+◌, ◌<◌, List, [], ◌∷◌, ◌++◌, length, slice_get, Option, Some, None}
+use Rattle.std.specs.Prelude.{◌≡◌, ℕ, ◌+◌, ◌<◌, List, [], ◌∷◌, ◌++◌, length, slice_get, Option, Some}
+use Rattle.std.specs.Option.{option_flatten}
+use Rattle.fp_component_forms.specs.Written.{qualified}
 use Rattle.fp_base.specs.declared.value.Value.{Value}
 use Rattle.fp_tree.specs.declared.source.Source.{Source}
 use Rattle.fp_tree.specs.declared.definition.Def.{Def}
@@ -12,16 +14,11 @@ use Rattle.fp_meaning.specs.Origins.{Placed, one, expressions_of}
 use Rattle.fp_meaning.specs.Sites.{in_optional, value_in}
 use Rattle.fp_meaning.specs.Values.{opened, Val}
 use Rattle.fp_model.specs.declared.constants.ConstantsFound.{ConstantsFound}
-use Rattle.fp_model.specs.Definitions.{ConstantHere, constants_in, constants_of, qualified}
+use Rattle.fp_model.specs.Definitions.{ConstantHere, constants_in, constants_of}
 use Rattle.fp_model.specs.Defined.{AreConstants}
 
--- the value at a place, if there is one
-abbrev pub entry : Option (Option Value) → Option Value
-entry None = None
-entry (Some o) = o
-
 abbrev pub value_at : List (Option Value) → ℕ → Option Value
-value_at values at = entry (slice_get values at)
+value_at values at = option_flatten (slice_get values at)
 
 module _ (source : Source) (values : List (Option Value)) where
   -- the value of an expression stands at a place

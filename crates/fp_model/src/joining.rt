@@ -1,6 +1,5 @@
 ghost use Rattle.std.specs.Prelude.{◌≡◌, IfErr, IfOk, OnOk, true};
-ghost use Rattle.fp_base.specs.Least.{IsUnbroken};
-ghost use Rattle.fp_consts.specs.Answered.{IsStop};
+ghost use Rattle.fp_base.specs.Least.{IsUnbroken, IsStop};
 ghost use Rattle.fp_meaning.specs.Layout as layout;
 ghost use Rattle.fp_numbering.specs.Labels.{matched_ports_have_one_size};
 ghost use Rattle.fp_part_values.specs.FormStanding.{AreValued};

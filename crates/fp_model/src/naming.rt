@@ -1,6 +1,5 @@
 ghost use Rattle.std.specs.Prelude.{◌≡◌, IfErr, IfOk, OnOk};
-ghost use Rattle.fp_base.specs.Least.{IsUnbroken};
-ghost use Rattle.fp_consts.specs.Answered.{IsStop};
+ghost use Rattle.fp_base.specs.Least.{IsUnbroken, IsStop};
 ghost use Rattle.fp_meaning.specs.Broken.{BrokenByDefinitions, NamesBroken};
 ghost use Rattle.fp_meaning.specs.Meaning.{AreMeanings};
 ghost use Rattle.fp_meaning.specs.Names.{definitions, mentions};

@@ -1,5 +1,5 @@
 ghost use Rattle.std.specs.Prelude.{◌≡◌, IfOk};
-ghost use Rattle.fp_model.specs.Definitions.{qualified};
+ghost use Rattle.fp_component_forms.specs.Written.{qualified};
 
 use fp_base::{NoMemory, Row, Text};
 use fp_consts::with_dots;

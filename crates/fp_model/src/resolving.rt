@@ -1,6 +1,5 @@
 ghost use Rattle.std.specs.Prelude.{◌≡◌, ℕ, IfErr, IfOk, OnOk, Some, slice_get};
-ghost use Rattle.fp_base.specs.Least.{IsUnbroken};
-ghost use Rattle.fp_consts.specs.Answered.{IsStop};
+ghost use Rattle.fp_base.specs.Least.{IsUnbroken, IsStop};
 ghost use Rattle.fp_names.specs.Named.{PartsAreNamed};
 ghost use Rattle.fp_source_parts.specs.Ordered.{MachinesAreOrdered};
 ghost use Rattle.fp_source_types.specs.Listed.{EnumsHaveConstants};

@@ -1,7 +1,6 @@
 ghost use Rattle.std.specs.Prelude.{◌≡◌, IfErr, IfOk, OnOk, map, Some, true};
 ghost use Rattle.std.specs.List.{list_all};
-ghost use Rattle.fp_base.specs.Least.{IsLeast, IsUnbroken};
-ghost use Rattle.fp_consts.specs.Answered.{IsStop};
+ghost use Rattle.fp_base.specs.Least.{IsLeast, IsUnbroken, IsStop};
 ghost use Rattle.fp_meaning.specs.Layout as layout;
 ghost use Rattle.fp_source_parts.specs.Machines.{InstancesBroken};
 ghost use Rattle.fp_source_parts.specs.MachineBuilt.{AreMachinesOf};

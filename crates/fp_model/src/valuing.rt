@@ -1,6 +1,5 @@
 ghost use Rattle.std.specs.Prelude.{◌≡◌, IfErr, IfOk, OnOk};
-ghost use Rattle.fp_base.specs.Least.{Either, IsLeast, IsUnbroken};
-ghost use Rattle.fp_consts.specs.Answered.{IsStop};
+ghost use Rattle.fp_base.specs.Least.{Either, IsLeast, IsUnbroken, IsStop};
 ghost use Rattle.fp_meaning.specs.Broken.{NamesBroken};
 ghost use Rattle.fp_meaning.specs.Layout as layout;
 ghost use Rattle.fp_meaning.specs.Meaning.{AreMeanings};

@@ -1,6 +1,5 @@
 -- What is broken, from one definition or use to the next.
-use Rattle.std.proofs.Common.{◌≡◌, ℕ, ◌+◌, ◌⊎◌, Bool, true, false, cond, ◌||◌, MatchBool, List, [], ◌∷◌, ◌++◌, length, take, slice_get, Option, Some, None, is_some, Result, Ok, Err, inl, inr, refl, sym, ap, subst, ◌∙◌, arith}
-use Rattle.std.specs.Prelude.{OnOk}
+use Rattle.std.proofs.Common.{◌≡◌, ℕ, ◌+◌, ◌⊎◌, Bool, true, false, cond, ◌||◌, MatchBool, List, [], ◌∷◌, ◌++◌, length, take, slice_get, Option, Some, None, is_some, inl, inr, refl, sym, ap, subst, ◌∙◌, arith}
 use Rattle.std.proofs.lemmas.Option.{slice_get_within}
 use Rattle.std.proofs.lemmas.List.{length-append}
 use Rattle.fp_base.proofs.Lists.{take_next}
@@ -16,11 +15,12 @@ use Rattle.fp_meaning.specs.Broken.{HasEarlier, IsTwice, IsUnmeant}
 use Rattle.fp_base.specs.Least.{broken_at, no_later, IsLeast, lesser_of, InFirst}
 use Rattle.fp_base.proofs.Calculus.{least_none, least_only, least_flag}
 use Rattle.fp_base.proofs.Elements.{least_in_one, least_first_next}
+use Rattle.fp_base.proofs.Spots.{push_cases}
+use Rattle.fp_base.proofs.Bools.{flag_same}
 use Rattle.fp_names.specs.declared.lookups.LookedUp.{LookedUp}
 use Rattle.fp_names.specs.declared.tree.Node.{Node}
 use Rattle.fp_names.specs.Answers.{AreFound, Notes}
 use Rattle.fp_names.specs.Tree.{IsTable, looked_up}
-use Rattle.fp_names.proofs.Lists.{get_cases}
 use Rattle.fp_names.proofs.Longest.{IsMeant, finds}
 
 -- one definition more
@@ -58,10 +58,6 @@ or_told true b P Q p q = inl p
 or_told false true P Q p q = inr q
 or_told false false P Q p q = λ s. elim s [ inl x ↦ p x | inr y ↦ q y ]
 
-told_as : (a : Bool) (P Q : Type 0) → (P → Q) → (Q → P) → MatchBool a P (P → ⊥) → MatchBool a Q (Q → ⊥)
-told_as true P Q to back p = to p
-told_as false P Q to back p = λ q. p (back q)
-
 module _ (P : Group → Type 0) where
   abbrev Any : Type 0
   Any = ((((((P Kind ⊎ P Value) ⊎ P Port) ⊎ P Component) ⊎ P Instance) ⊎ P Topology) ⊎ P Machine) ⊎ P Interface
@@ -94,7 +90,7 @@ module _ (P : Group → Type 0) where
       → MatchBool d (P Component) (P Component → ⊥) → MatchBool e (P Instance) (P Instance → ⊥) → MatchBool f (P Topology) (P Topology → ⊥) → MatchBool g (P Machine) (P Machine → ⊥)
       → MatchBool h (P Interface) (P Interface → ⊥) → MatchBool (((((((a || b) || c) || d) || e) || f) || g) || h) ((x : Group) × P x) ((x : Group) → P x → ⊥)
   any_told a b c d e f g h ha hb hc hd he hf hg hh =
-      none_of _ (told_as _ Any ((x : Group) × P x) some_of (λ t. any_of t.0 t.1)
+      none_of _ (flag_same _ some_of (λ t. any_of t.0 t.1)
       (or_told _ h _ _ (or_told _ g _ _ (or_told _ f _ _ (or_told _ e _ _ (or_told _ d _ _ (or_told _ c _ _ (or_told a b _ _ ha hb) hc) hd) he) hf) hg) hh))
 
 -- a use that means nothing in its group
@@ -123,10 +119,6 @@ module _ (ds : List Definition) (m : Mention) where
   pub notes_broken : (before after : LookedUp) (f : Refusal) → IsLeast (IsUnmeant ds m) (Some f) → after.first ≡ lesser_of before.first (Some f) → Notes ds m before after
   notes_broken before after f l first = record { said = Some f; least = l; first = first; meant = λ e. cc }
 
-pub on_ok : {A E : Type 0} (r : Result A E) (P Q : Type 0) → (P → Q) → OnOk r P → OnOk r Q
-on_ok (Ok x) P Q f h = f h
-on_ok (Err e) P Q f h = tt
-
 lesser_nothing : (a b : Option Refusal) → lesser_of a b ≡ None → (a ≡ None) × (b ≡ None)
 lesser_nothing None b e = (refl, e)
 lesser_nothing (Some f) None e = cc
@@ -150,12 +142,12 @@ meanings_push ds ms m ns n are means = record { each = lengths; meant = each }
         omega arith
 
     each : (k : ℕ) (x : Mention) (number : ℕ) → slice_get (ms ++ m ∷ []) k ≡ Some x → slice_get (ns ++ n ∷ []) k ≡ Some number → Means ds x.scope x.name x.group number
-    each k x number e f = elim (get_cases ms m k x e) [
-      | inl a ↦ elim (get_cases ns n k number f) [
+    each k x number e f = elim (push_cases ms m k x e) [
+      | inl a ↦ elim (push_cases ns n k number f) [
         | inl b ↦ are.meant k x number a b
         | inr b ↦ let w = slice_get_within ms k x a in let l = are.each in let i = b.0 in absurd (omega arith)
       ]
-      | inr a ↦ elim (get_cases ns n k number f) [
+      | inr a ↦ elim (push_cases ns n k number f) [
         | inl b ↦ let w = slice_get_within ns k number b in let l = are.each in let i = a.0 in absurd (omega arith)
         | inr b ↦ subst (λ (y : ℕ). Means ds x.scope x.name x.group y) (sym b.1) (subst (λ (y : Mention). Means ds y.scope y.name y.group n) (sym a.1) means)
       ]

@@ -4,11 +4,12 @@ use Rattle.std.proofs.lemmas.Option.{slice_get_within, slice_get_past}
 use Rattle.std.proofs.lemmas.List.{length-append}
 use Rattle.fp_base.proofs.Lists.{get_front, get_last}
 use Rattle.fp_base.proofs.Options.{same_some}
+use Rattle.fp_base.proofs.Spots.{push_cases}
 use Rattle.fp_meaning.specs.declared.group.Group.{Group}
 use Rattle.fp_meaning.specs.Names.{Path}
 use Rattle.fp_names.specs.declared.tree.Node.{Node}
 use Rattle.fp_names.specs.Tree.{root, step, next_of, meaning_of, meaning_at, Spot, spot, IsTree, Grows}
-use Rattle.fp_names.proofs.Lists.{get_cases, both_or_not, snoc_same, not_longer, split_last}
+use Rattle.fp_names.proofs.Lists.{both_or_not, snoc_same, not_longer, split_last}
 
 pub group_same : {g h : Group} {p q : Path} → spot g p ≡ spot h q → g ≡ h
 group_same e = ap (λ (s : Spot). s.group) e
@@ -44,7 +45,7 @@ module _ (old new : List Node) (spots : List Spot) (n : ℕ) (g : Group) (p : Pa
 
   follow : (k j : ℕ) (h : Group) (q : Path) (c : List ℕ) → slice_get (spots ++ spot g (p ++ t ∷ []) ∷ []) k ≡ Some (spot h q) → step new k c ≡ Some j
       → slice_get (spots ++ spot g (p ++ t ∷ []) ∷ []) j ≡ Some (spot h (q ++ c ∷ []))
-  follow k j h q c ek es = elim (get_cases spots (spot g (p ++ t ∷ [])) k (spot h q) ek) [
+  follow k j h q c ek es = elim (push_cases spots (spot g (p ++ t ∷ [])) k (spot h q) ek) [
     | inl first ↦ elim (both_or_not k n c t) [
       | inl same ↦ follow_here k j h q c same.0 same.1 first es
       | inr other ↦ get_front spots _ j _ (tree.follows k j h q c first (sym (grows.others k c other) ∙ es))
@@ -66,14 +67,14 @@ module _ (old new : List Node) (spots : List Spot) (n : ℕ) (g : Group) (p : Pa
 
   lead : (k j : ℕ) (h : Group) (q : Path) (c : List ℕ) → slice_get (spots ++ spot g (p ++ t ∷ []) ∷ []) k ≡ Some (spot h q)
       → slice_get (spots ++ spot g (p ++ t ∷ []) ∷ []) j ≡ Some (spot h (q ++ c ∷ [])) → step new k c ≡ Some j
-  lead k j h q c ek ej = elim (get_cases spots (spot g (p ++ t ∷ [])) k (spot h q) ek) [
-    | inl first ↦ elim (get_cases spots (spot g (p ++ t ∷ [])) j (spot h (q ++ c ∷ [])) ej) [
+  lead k j h q c ek ej = elim (push_cases spots (spot g (p ++ t ∷ [])) k (spot h q) ek) [
+    | inl first ↦ elim (push_cases spots (spot g (p ++ t ∷ [])) j (spot h (q ++ c ∷ [])) ej) [
       | inl second ↦
           let s = tree.leads k j h q c first second in
           grows.others k c (λ a b. none_some grows.absent ((λ i. step old (sym a i) (sym b i)) ∙ s)) ∙ s
       | inr last ↦ lead_here k j h q c first last.0 last.1
     ]
-    | inr last ↦ elim (get_cases spots (spot g (p ++ t ∷ [])) j (spot h (q ++ c ∷ [])) ej) [
+    | inr last ↦ elim (push_cases spots (spot g (p ++ t ∷ [])) j (spot h (q ++ c ∷ [])) ej) [
       | inl second ↦
           let parent = tree.closed j h q (c ∷ []) second in
           absurd (fresh parent.0 (parent.1 ∙ ap (λ (s : Spot). Some s) last.1))
@@ -83,7 +84,7 @@ module _ (old new : List Node) (spots : List Spot) (n : ℕ) (g : Group) (p : Pa
 
   close : (j : ℕ) (h : Group) (q r : Path) → slice_get (spots ++ spot g (p ++ t ∷ []) ∷ []) j ≡ Some (spot h (q ++ r))
       → (i : ℕ) × (slice_get (spots ++ spot g (p ++ t ∷ []) ∷ []) i ≡ Some (spot h q))
-  close j h q r e = elim (get_cases spots (spot g (p ++ t ∷ [])) j (spot h (q ++ r)) e) [
+  close j h q r e = elim (push_cases spots (spot g (p ++ t ∷ [])) j (spot h (q ++ r)) e) [
     | inl first ↦ let c = tree.closed j h q r first in (c.0, get_front spots _ c.0 _ c.1)
     | inr last ↦
         let eg : h ≡ g = group_same last.1 in
@@ -96,12 +97,12 @@ module _ (old new : List Node) (spots : List Spot) (n : ℕ) (g : Group) (p : Pa
   ]
 
   one : (i j : ℕ) (s : Spot) → slice_get (spots ++ spot g (p ++ t ∷ []) ∷ []) i ≡ Some s → slice_get (spots ++ spot g (p ++ t ∷ []) ∷ []) j ≡ Some s → i ≡ j
-  one i j s ei ej = elim (get_cases spots (spot g (p ++ t ∷ [])) i s ei) [
-    | inl a ↦ elim (get_cases spots (spot g (p ++ t ∷ [])) j s ej) [
+  one i j s ei ej = elim (push_cases spots (spot g (p ++ t ∷ [])) i s ei) [
+    | inl a ↦ elim (push_cases spots (spot g (p ++ t ∷ [])) j s ej) [
       | inl b ↦ tree.single i j s a b
       | inr b ↦ absurd (fresh i (a ∙ ap (λ (x : Spot). Some x) b.1))
     ]
-    | inr a ↦ elim (get_cases spots (spot g (p ++ t ∷ [])) j s ej) [
+    | inr a ↦ elim (push_cases spots (spot g (p ++ t ∷ [])) j s ej) [
       | inl b ↦ absurd (fresh j (b ∙ ap (λ (x : Spot). Some x) a.1))
       | inr b ↦ a.0 ∙ sym b.0
     ]

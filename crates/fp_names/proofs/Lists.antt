@@ -1,31 +1,20 @@
 -- What lists have at an index, and their parts.
-use Rattle.std.proofs.Common.{◌≡◌, ℕ, zero, suc, ◌+◌, ◌⊎◌, List, [], ◌∷◌, ◌++◌, length, take, slice_get, Some, inl, inr, refl, sym, ap, arith}
+use Rattle.std.proofs.Common.{◌≡◌, ℕ, zero, suc, ◌+◌, ◌⊎◌, List, [], ◌∷◌, ◌++◌, take, slice_get, Some, inl, inr, refl, sym, ap}
+use Rattle.std.proofs.lemmas.Bool.{cases_eq}
 use Rattle.fp_base.proofs.Options.{same_some}
 use Rattle.fp_meaning.specs.Names.{Path}
-
-pub get_cases : {A : Type 0} (xs : List A) (x : A) (k : ℕ) (y : A) → slice_get (xs ++ x ∷ []) k ≡ Some y → (slice_get xs k ≡ Some y) ⊎ ((k ≡ length xs) × (y ≡ x))
-get_cases [] x zero y e = inr (refl, sym (same_some e))
-get_cases [] x (suc k) y e = cc
-get_cases (z ∷ xs) x zero y e = inl e
-get_cases (z ∷ xs) x (suc k) y e = elim (get_cases xs x k y e) [ inl h ↦ inl h | inr h ↦ inr (ap suc h.0, h.1) ]
-
-pub nat_or_not : (m n : ℕ) → (m ≡ n) ⊎ (m ≡ n → ⊥)
-nat_or_not zero zero = inl refl
-nat_or_not zero (suc n) = inr (λ e. omega arith)
-nat_or_not (suc m) zero = inr (λ e. omega arith)
-nat_or_not (suc m) (suc n) = elim (nat_or_not m n) [ inl e ↦ inl (ap suc e) | inr d ↦ inr (λ e. d (omega arith)) ]
 
 pub text_or_not : (s t : List ℕ) → (s ≡ t) ⊎ (s ≡ t → ⊥)
 text_or_not [] [] = inl refl
 text_or_not [] (y ∷ t) = inr (λ e. cc)
 text_or_not (x ∷ s) [] = inr (λ e. cc)
-text_or_not (x ∷ s) (y ∷ t) = elim (nat_or_not x y) [
+text_or_not (x ∷ s) (y ∷ t) = elim (cases_eq x y) [
   | inl e ↦ elim (text_or_not s t) [ inl f ↦ inl (λ i. e i ∷ f i) | inr d ↦ inr (λ f. let g : s ≡ t = cc in d g) ]
   | inr d ↦ inr (λ f. let g : x ≡ y = cc in d g)
 ]
 
 pub both_or_not : (k n : ℕ) (s t : List ℕ) → ((k ≡ n) × (s ≡ t)) ⊎ (k ≡ n → s ≡ t → ⊥)
-both_or_not k n s t = elim (nat_or_not k n) [
+both_or_not k n s t = elim (cases_eq k n) [
   | inl e ↦ elim (text_or_not s t) [ inl f ↦ inl (e, f) | inr d ↦ inr (λ _ f. d f) ]
   | inr d ↦ inr (λ e _. d e)
 ]

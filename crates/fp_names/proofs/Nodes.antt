@@ -5,10 +5,11 @@ use Rattle.std.specs.Str.{bytes_eq}
 use Rattle.std.proofs.lemmas.Option.{slice_get_read}
 use Rattle.std.proofs.lemmas.List.{length-set, length-append}
 use Rattle.std.proofs.lemmas.Slice.Eq.{bytes_eq-Decides}
+use Rattle.std.proofs.lemmas.Bool.{cases_eq}
 use Rattle.fp_base.proofs.Spots.{get_set_same, get_set_other}
+use Rattle.fp_base.proofs.Bytes.{bytes_itself}
 use Rattle.fp_names.specs.declared.tree.Node.{Node}
 use Rattle.fp_names.specs.Tree.{next_of, meaning_of, step, meaning_at, IsLeaf, LeadsOn, Grows}
-use Rattle.fp_names.proofs.Lists.{nat_or_not}
 
 -- a leaf at the end changes nothing
 pub leaf_steps : (nodes : List Node) (leaf : Node) (k : ℕ) (name : List ℕ) → IsLeaf leaf → step (nodes ++ leaf ∷ []) k name ≡ step nodes k name
@@ -22,9 +23,6 @@ leaf_meanings [] leaf zero l = l.meaning
 leaf_meanings [] leaf (suc k) l = refl
 leaf_meanings (x ∷ nodes) leaf zero l = refl
 leaf_meanings (x ∷ nodes) leaf (suc k) l = leaf_meanings nodes leaf k l
-
-same_text : (s : List ℕ) → bytes_eq s s ≡ true
-same_text s = (bytes_eq-Decides s s).1 refl
 
 other_text : (s t : List ℕ) → (t ≡ s → ⊥) → bytes_eq s t ≡ false
 other_text s t d = go (bytes_eq s t) refl
@@ -46,8 +44,8 @@ grows old pushed leaf node after from to name key none is l value small leads sa
       a ∙ b ∙ c);
   here =
       ap (λ o. next_of o name) (get_set_same pushed from after within) ∙ leads.next name
-      ∙ ap (λ b. cond b (Some to) (get_by_text node.next name)) (ap (λ k. bytes_eq k name) same ∙ same_text name) ∙ ap (λ (i : ℕ). Some i) last;
-  others = λ k other apart. elim (nat_or_not k from) [
+      ∙ ap (λ b. cond b (Some to) (get_by_text node.next name)) (ap (λ k. bytes_eq k name) same ∙ bytes_itself name) ∙ ap (λ (i : ℕ). Some i) last;
+  others = λ k other apart. elim (cases_eq k from) [
     | inl e ↦
         let differs : other ≡ key → ⊥ = λ f. apart e (f ∙ same) in
         ap (λ i. step (set pushed from after) i other) e ∙ ap (λ o. next_of o other) (get_set_same pushed from after within) ∙ leads.next other
@@ -55,7 +53,7 @@ grows old pushed leaf node after from to name key none is l value small leads sa
         ∙ ap (λ o. next_of o other) (sym at) ∙ ap (λ i. step pushed i other) (sym e) ∙ before k other
     | inr d ↦ ap (λ o. next_of o other) (get_set_other pushed from k after d) ∙ before k other
   ];
-  meanings = λ k. elim (nat_or_not k from) [
+  meanings = λ k. elim (cases_eq k from) [
     | inl e ↦
         ap (λ i. meaning_at (set pushed from after) i) e ∙ ap meaning_of (get_set_same pushed from after within) ∙ leads.meaning
         ∙ ap meaning_of (sym at) ∙ ap (λ i. meaning_at pushed i) (sym e) ∙ before_meaning k

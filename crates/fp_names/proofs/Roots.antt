@@ -1,6 +1,7 @@
 -- The roots are the tree of no definitions.
 use Rattle.std.proofs.Common.{◌≡◌, ℕ, zero, suc, List, [], ◌∷◌, ◌++◌, slice_get, Some, inl, refl, sym, ap, subst, ◌∙◌}
 use Rattle.fp_base.proofs.Options.{same_some}
+use Rattle.fp_base.proofs.Lists.{no_item}
 use Rattle.fp_meaning.specs.declared.group.Group.{Group}
 use Rattle.fp_meaning.specs.declared.group.Group.TheVariants.{Kind, Value, Port, Component, Instance, Topology, Machine, Interface}
 use Rattle.fp_meaning.specs.Names.{Path}
@@ -39,9 +40,6 @@ rooted_here Topology = refl
 rooted_here Machine = refl
 rooted_here Interface = refl
 
-no_definition : {A : Type 0} (k : ℕ) (x : A) → slice_get [] k ≡ Some x → ⊥
-no_definition k x e = cc
-
 pub roots_table : (nodes : List Node) → AreRoots nodes → IsTable [] nodes
 roots_table nodes r = (
   eight,
@@ -57,10 +55,10 @@ roots_table nodes r = (
       single = λ i j s a b. (rooted i s a).0 ∙ sym (rooted j s b).0;
     };
     known = λ j g p e. inl (rooted j (spot g p) e).1;
-    found = λ g p k. absurd (no_definition k.0 k.2.definition k.2.here);
+    found = λ g p k. absurd (no_item k.0 k.2.definition k.2.here);
     says = λ j g p e. record {
       holds = λ k f. absurd (none_some (r.meanings j) f);
-      none = λ k f n. no_definition k n.definition n.here;
+      none = λ k f n. no_item k n.definition n.here;
     };
   },
 )

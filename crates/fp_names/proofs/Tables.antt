@@ -2,8 +2,10 @@
 use Rattle.std.proofs.Common.{◌≡◌, ℕ, Bool, MatchBool, is_some, take, get_or, ◌+◌, ◌<◌, ◌⊎◌, List, [], ◌∷◌, ◌++◌, length, slice_get, Option, Some, None, inl, inr, refl, sym, ap, subst, ◌∙◌, arith}
 use Rattle.std.proofs.lemmas.Option.{slice_get_within, slice_get_read}
 use Rattle.std.proofs.lemmas.List.{append-nil}
+use Rattle.std.proofs.lemmas.Bool.{cases_eq}
 use Rattle.fp_base.proofs.Lists.{get_front, get_last, take_next}
 use Rattle.fp_base.proofs.Options.{same_some}
+use Rattle.fp_base.proofs.Spots.{push_cases}
 use Rattle.fp_meaning.specs.Broken.{HasEarlier}
 use Rattle.fp_meaning.specs.declared.group.Group.{Group}
 use Rattle.fp_meaning.specs.declared.names.Definition.{Definition}
@@ -11,7 +13,7 @@ use Rattle.fp_meaning.specs.Names.{Path}
 use Rattle.fp_meaning.specs.Meaning.{IsNamed, IsKnown, IsFirst}
 use Rattle.fp_names.specs.declared.tree.Node.{Node}
 use Rattle.fp_names.specs.Tree.{root, meaning_at, Spot, spot, IsPart, IsTable, Within, SaysFirst, Grows, Enters, Says, or_number}
-use Rattle.fp_names.proofs.Lists.{get_cases, nat_or_not, whole}
+use Rattle.fp_names.proofs.Lists.{whole}
 use Rattle.fp_names.proofs.Growing.{group_same, names_same, no_meaning, fresh, grow, retree}
 
 pub named_more : (ds more : List Definition) (g : Group) (p : Path) (k : ℕ) → IsNamed ds g p k → IsNamed (ds ++ more) g p k
@@ -25,7 +27,7 @@ named_last ds d g p a b = record { definition = d; here = get_last ds d; of_grou
 
 pub named_cases : (ds : List Definition) (d : Definition) (g : Group) (p : Path) (k : ℕ) → IsNamed (ds ++ d ∷ []) g p k
     → IsNamed ds g p k ⊎ ((k ≡ length ds) × (d.group ≡ g) × (d.name ≡ p))
-named_cases ds d g p k n = elim (get_cases ds d k n.definition n.here) [
+named_cases ds d g p k n = elim (push_cases ds d k n.definition n.here) [
   | inl h ↦ inl (record { definition = n.definition; here = h; of_group = n.of_group; of_name = n.of_name })
   | inr h ↦ inr (h.0, ap (λ (x : Definition). x.group) (sym h.1) ∙ n.of_group, ap (λ (x : Definition). x.name) (sym h.1) ∙ n.of_name)
 ]
@@ -55,7 +57,7 @@ module _ (after before : List Definition) (old new : List Node) (spots : List Sp
       fresh old new spots n g p t part.tree here grows at.0 (at.1 ∙ ap (λ (s : Spot). Some s) e)
 
   grown_says : (j : ℕ) (h : Group) (q : Path) → slice_get (spots ++ spot g (p ++ t ∷ []) ∷ []) j ≡ Some (spot h q) → SaysFirst before h q (meaning_at new j)
-  grown_says j h q e = elim (get_cases spots (spot g (p ++ t ∷ [])) j (spot h q) e) [
+  grown_says j h q e = elim (push_cases spots (spot g (p ++ t ∷ [])) j (spot h q) e) [
     | inl first ↦ says_same before h q _ _ (sym (grows.meanings j)) (part.says j h q first)
     | inr last ↦
         let at = last.0 in
@@ -67,7 +69,7 @@ module _ (after before : List Definition) (old new : List Node) (spots : List Sp
   pub grow_part : IsPart after before new (spots ++ spot g (p ++ t ∷ []) ∷ [])
   grow_part = record {
     tree = grow old new spots n g p t part.tree here grows;
-    known = λ j h q e. elim (get_cases spots (spot g (p ++ t ∷ [])) j (spot h q) e) [
+    known = λ j h q e. elim (push_cases spots (spot g (p ++ t ∷ [])) j (spot h q) e) [
       | inl first ↦ part.known j h q first
       | inr last ↦
           let eg = group_same last.1 in
@@ -154,7 +156,7 @@ module _ (ds : List Definition) (d : Definition) where
             let at = w.1.tree.closed n d.group p k.1 (w.2 ∙ ap (λ (x : Path). Some (spot d.group x)) last.2) in
             (at.0, at.1 ∙ ap (λ (x : Group). Some (spot x p)) last.1)
       ];
-      says = λ j g p e. elim (nat_or_not j n) [
+      says = λ j g p e. elim (cases_eq j n) [
         | inl same ↦
             let s : spot d.group d.name ≡ spot g p = same_some (sym w.2 ∙ ap (λ i. slice_get w.0 i) (sym same) ∙ e) in
             let told = says_number (meaning_at old n) (w.1.says n d.group d.name w.2) in

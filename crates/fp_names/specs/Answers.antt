@@ -1,19 +1,12 @@
 -- What the calls on names answer.
-use Rattle.std.specs.Prelude.{◌≡◌, ℕ, List, [], ◌∷◌, ◌++◌, Option, Some, None}
+use Rattle.std.specs.Prelude.{◌≡◌, ℕ, List, [], ◌∷◌, ◌++◌, Option, None}
 use Rattle.fp_base.specs.declared.refusal.Refusal.{Refusal}
-use Rattle.fp_base.specs.declared.refusal.Stop.{Stop}
-use Rattle.fp_base.specs.declared.refusal.Stop.TheVariants.{Broken, NoMemory}
 use Rattle.fp_meaning.specs.declared.names.Definition.{Definition}
 use Rattle.fp_meaning.specs.declared.names.Mention.{Mention}
 use Rattle.fp_meaning.specs.Broken.{IsUnmeant}
 use Rattle.fp_base.specs.Least.{IsLeast, lesser_of}
 use Rattle.fp_meaning.specs.Meaning.{AreMeanings, Means}
 use Rattle.fp_names.specs.declared.lookups.LookedUp.{LookedUp}
-
--- a stop names the least of what is broken; for want of memory it may come at any time
-abbrev pub IsStop : (Refusal → Type 0) → Stop → Type 0
-IsStop broken (Broken f) = IsLeast broken (Some f)
-IsStop broken NoMemory = Unit {0}
 
 -- where nothing was found to be broken, the numbers are those of what the uses mean
 abbrev pub AreFound : List Definition → List Mention → LookedUp → Type 0

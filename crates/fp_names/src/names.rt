@@ -1,9 +1,9 @@
 ghost use Rattle.std.specs.Prelude.{◌≡◌, ◌∷◌, Some, None, IfOk, IfErr, OnOk, MatchOption, ℕ};
 ghost use Rattle.fp_meaning.specs.Broken.{BrokenByDefinitions, BrokenByUses, NamesBroken};
-ghost use Rattle.fp_base.specs.Least.{IsLeast, IsUnbroken};
+ghost use Rattle.fp_base.specs.Least.{IsLeast, IsUnbroken, IsStop};
 ghost use Rattle.fp_meaning.specs.Meaning.{AreMeanings, Means};
 ghost use Rattle.fp_meaning.specs.Names.{definitions, mentions};
-ghost use Rattle.fp_names.specs.Answers.{AreFound, IsStop};
+ghost use Rattle.fp_names.specs.Answers.{AreFound};
 ghost use Rattle.fp_names.specs.Tree.{looked_up};
 
 use crate::lookups::{LookedUp, look_up};

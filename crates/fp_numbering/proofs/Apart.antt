@@ -4,14 +4,16 @@ use Rattle.std.specs.Prelude.{ℤ, pos, negsuc}
 use Rattle.std.proofs.lemmas.Bool.Decides.{nat_tests}
 use Rattle.fp_base.specs.declared.rule.Rule.TheVariants.{OutputNumberTwice}
 use Rattle.fp_base.specs.Least.{broken_at, IsUnbroken}
-use Rattle.fp_base.proofs.Bools.{join, or_left, or_right}
+use Rattle.fp_base.proofs.Bools.{join, or_left, or_right, not_both}
 use Rattle.fp_base.proofs.Options.{same_some}
+use Rattle.fp_base.proofs.Numbers.{same_number, number_same}
 use Rattle.fp_tables.specs.Instances.{beginnings_differ}
 use Rattle.fp_tables.specs.Lookup.{same_end}
 use Rattle.fp_tables.specs.declared.topology.End.{End}
 use Rattle.fp_tables.specs.declared.topology.Wire.{Wire}
 use Rattle.fp_tables.specs.declared.topology.Topology.{Topology}
 use Rattle.fp_tables.specs.declared.model.Model.{Model}
+use Rattle.fp_tables.proofs.Indexed.{mapped_apart}
 use Rattle.fp_numbering.specs.declared.tips.Tip.{Tip}
 use Rattle.fp_numbering.specs.Answers.{numbers_of, AreNumbered}
 use Rattle.fp_numbering.specs.Broken.{Breaks}
@@ -22,9 +24,8 @@ use Rattle.fp_numbering.specs.Numbers.Source.{Said, Paired, Unpaired, Output, In
 use Rattle.fp_numbering.specs.Pairs.{has, are_alike, is_at, pairs, said_of, alike_at, is_whole, first_of}
 use Rattle.fp_numbering.proofs.Unique.{both_left, both_right}
 use Rattle.fp_numbering.proofs.Joining.{Member}
-use Rattle.fp_numbering.proofs.Keying.{same_number, number_same, at_is, one, one_only, one_key, all_related, class_whole, linked_same, ports_to}
+use Rattle.fp_numbering.proofs.Keying.{at_is, one, one_only, one_key, all_related, class_whole, linked_same, ports_to}
 use Rattle.fp_numbering.proofs.Sourcing.{member_contains, input_ends, paired_is, pair_found, whole_of, same_ends, first_end, said_by, said_source}
-use Rattle.fp_numbering.proofs.Listed.{mapped_apart}
 use Rattle.fp_numbering.proofs.Placing.{beside, place, places_rise, from_tip_at, numbered, from_number_at}
 
 -- ---- what is used
@@ -56,9 +57,6 @@ chosen false n k e = absurd (cc)
 number_said : (size n : ℕ) (z : ℤ) → Some n ≡ number_below size z → z ≡ pos n
 number_said size n (pos k) e = ap (λ (x : ℕ). pos x) (sym (chosen (nat_lt k size) n k e))
 number_said size n (negsuc k) e = absurd (cc)
-
-not_both : (b : Bool) → b ≡ true → b ≡ false → ⊥
-not_both b p q = cc
 
 order : (i j : ℕ) → (i < j) ⊎ ((j < i) ⊎ (i ≡ j))
 order i j = grind arith
@@ -126,7 +124,7 @@ module _ (matches : ℕ → List (ℕ × ℕ)) (ts : List Tip) where
         → source_of matches ts s i ≡ x → source_of matches ts t j ≡ Paired g → is_before_pair matches ts g x ≡ true → Has matches ts ns t j (Some n) (Paired g) → ⊥
     before_pair g i j n s t x at there number port a b before h =
         let early : is_before_pair matches ts g (source_of matches ts s i) ≡ true = ap (λ (y : Source). is_before_pair matches ts g y) a ∙ before in
-        not_both (has (used_by_pair matches ts ns g) n)
+        not_both
         (used_there (λ k u. is_at_port_of ts g u && is_before_pair matches ts g (source_of matches ts u k)) 0 ts ns i i s n (omega arith) at number
         (join (is_at_port_of ts g s) (is_before_pair matches ts g (source_of matches ts s i)) (at_port g j t s b there port) early))
         h.1
@@ -136,7 +134,7 @@ module _ (matches : ℕ → List (ℕ × ℕ)) (ts : List Tip) where
         → Has matches ts ns t j (Some n) Output → ⊥
     before_output i j n s t x at number port a before h =
         let early : is_before_output j i (source_of matches ts s i) ≡ true = ap (λ (y : Source). is_before_output j i y) a ∙ before in
-        not_both (has (used_by_output matches ts ns t j) n)
+        not_both
         (used_there (λ k u. at_one_port u t && is_before_output j k (source_of matches ts u k)) 0 ts ns i i s n (omega arith) at number
         (join (at_one_port s t) (is_before_output j i (source_of matches ts s i)) port early))
         h.1
@@ -153,7 +151,7 @@ module _ (matches : ℕ → List (ℕ × ℕ)) (ts : List Tip) where
     module _ (i j n : ℕ) (s t : Tip) (l : i < j) (at : slice_get ts i ≡ Some s) (there : slice_get ts j ≡ Some t) (begins : s.begins ≡ true) (begins_too : t.begins ≡ true) (port : at_one_port s t ≡ true)
         (number : slice_get ns i ≡ Some (Some n)) (number_too : slice_get ns j ≡ Some (Some n)) where
       begins_not : (u : Tip) (k : ℕ) → u.begins ≡ true → source_of matches ts u k ≡ Input → ⊥
-      begins_not u k e is = not_both u.begins e (input_ends matches ts u k is)
+      begins_not u k e is = not_both e (input_ends matches ts u k is)
 
       two_pairs : (g h : List ℕ) → source_of matches ts s i ≡ Paired g → source_of matches ts t j ≡ Paired h → Has matches ts ns s i (Some n) (Paired g) → Has matches ts ns t j (Some n) (Paired h) → ⊥
       two_pairs g h a b x y =

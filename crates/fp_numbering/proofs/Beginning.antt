@@ -10,18 +10,6 @@ use Rattle.fp_numbering.specs.declared.tips.Tip.{Tip}
 use Rattle.fp_numbering.specs.Ends.{written_number, at_one_port}
 use Rattle.fp_numbering.specs.Faults.{begins_at, repeats}
 
-pub any_at : {A : Type 0} (test : A → Bool) (xs : List A) (k j : ℕ) (x : A) → j < k → slice_get xs j ≡ Some x → test x ≡ true → list_any test (take k xs) ≡ true
-any_at test [] k j x l at h = cc
-any_at test (y ∷ xs) zero j x l at h = absurd (omega arith)
-any_at test (y ∷ xs) (suc k) zero x l at h =
-    let same : y ≡ x = cc in
-    ap (λ (b : Bool). b || list_any test (take k xs)) (ap test same ∙ h)
-any_at test (y ∷ xs) (suc k) (suc j) x l at h = ap (λ (b : Bool). test y || b) (any_at test xs k j x (omega arith) at h) ∙ go (test y)
-  where
-    go : (b : Bool) → (b || true) ≡ true
-    go true = refl
-    go false = refl
-
 pub found_any : {A : Type 0} (test : A → Bool) (xs : List A) (k : ℕ) → list_any test (take k xs) ≡ true → (j : ℕ) × (x : A) × (j < k) × (slice_get xs j ≡ Some x) × (test x ≡ true)
 found_any test [] zero h = cc
 found_any test [] (suc k) h = cc

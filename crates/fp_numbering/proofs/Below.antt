@@ -7,6 +7,7 @@ use Rattle.std.proofs.lemmas.Bool.Decides.{nat_tests}
 use Rattle.fp_base.proofs.Bools.{join}
 use Rattle.fp_base.proofs.Lists.{all_get}
 use Rattle.fp_base.proofs.Options.{same_some, then_some}
+use Rattle.fp_base.proofs.Passing.{all_items}
 use Rattle.fp_tables.specs.Components.{is_from_1_to}
 use Rattle.fp_tables.specs.Instances.{is_numbered_below_sizes}
 use Rattle.fp_tables.specs.Lists.{some_and}
@@ -24,7 +25,6 @@ use Rattle.fp_numbering.specs.Ends.{size_of, matches_of, from_tip, to_tip, tips_
 use Rattle.fp_numbering.specs.Numbers.{Source, source_of, Has, Numbered}
 use Rattle.fp_numbering.specs.Numbers.Source.{Said, Paired, Unpaired, Output, Input}
 use Rattle.fp_numbering.proofs.Unique.{both_left, both_right}
-use Rattle.fp_numbering.proofs.Listed.{all_items}
 use Rattle.fp_numbering.proofs.Placing.{beside, place, from_tip_at, to_tip_at, from_number_at, to_number_at}
 
 -- ---- of any end

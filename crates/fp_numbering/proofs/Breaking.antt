@@ -5,6 +5,8 @@ use Rattle.std.specs.List.{list_any}
 use Rattle.std.proofs.lemmas.Option.{slice_get-get_or, slice_get_within}
 use Rattle.fp_base.specs.declared.refusal.Refusal.{Refusal}
 use Rattle.fp_base.specs.Least.{IsLeast, IsUnbroken}
+use Rattle.fp_base.proofs.Numbers.{same_number, number_same}
+use Rattle.fp_base.proofs.Passing.{any_before}
 use Rattle.fp_numbering.specs.declared.tips.Tip.{Tip}
 use Rattle.fp_numbering.specs.declared.origins.Origin.{Origin}
 use Rattle.fp_numbering.specs.Ends.{written_number}
@@ -17,8 +19,7 @@ use Rattle.fp_numbering.specs.Faults.{begins_at, IsTwicePlainly, FindsNonePlainl
 use Rattle.fp_numbering.specs.Matched.{BreaksByWalks}
 use Rattle.fp_numbering.specs.Origins.{no_tip, no_origin, IsOrigin, AreOrigins, is_first, lane_tip, settled, port_tip, said_tip, AreMade, AreLanes}
 use Rattle.fp_numbering.proofs.Unique.{one_numbering}
-use Rattle.fp_numbering.proofs.Keying.{same_number, number_same}
-use Rattle.fp_numbering.proofs.Beginning.{any_at, found_any, is_begun, begun_is, repeats_from, repeats_is}
+use Rattle.fp_numbering.proofs.Beginning.{found_any, is_begun, begun_is, repeats_from, repeats_is}
 use Rattle.fp_numbering.proofs.Sourcing.{said_by, said_source, output_begins, input_ends}
 use Rattle.fp_numbering.proofs.Walkings.{put_back, tip_same, some_same, number_at, lane_number_at, origin, paired_number, by_walks}
 
@@ -58,7 +59,7 @@ module _ (matches : ℕ → List (ℕ × ℕ)) (ts : List Tip) (os : List Origin
       let y = said_tip (o_at k) t in (
         b.10,
         repeats_from (λ q. list_any (begins_at q) (take k ss)) y z b.6 (written_said k t at ∙ b.9)
-            (any_at (begins_at (y.instance, y.port, z)) ss k j x b.3 (are_said.of j s b.4) (is_begun x y z b.5 b.7 (written_said j s b.4 ∙ b.8))),
+            (any_before (begins_at (y.instance, y.port, z)) ss k j x b.3 (are_said.of j s b.4) (is_begun x y z b.5 b.7 (written_said j s b.4 ∙ b.8))),
       )
 
   from_twice : (k : ℕ) (t : Tip) (f : Refusal) → slice_get ts k ≡ Some t → IsTwicePlainly ss k (said_tip (o_at k) t) f → IsTwice matches ts k t f

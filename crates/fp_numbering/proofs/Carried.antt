@@ -3,6 +3,8 @@ use Rattle.std.proofs.Common.{◌≡◌, ◌∙◌, ap, refl, ℕ, true, ◌==�
 use Rattle.std.specs.List.{list_all}
 use Rattle.fp_base.proofs.Bools.{join}
 use Rattle.fp_base.proofs.Lists.{all_get}
+use Rattle.fp_base.proofs.Passing.{all_items}
+use Rattle.fp_base.proofs.Numbers.{number_same}
 use Rattle.fp_base.specs.Same.{same_option}
 use Rattle.fp_tables.specs.Instances.{joins_members, goes_from_output_to_input, joins_one_definition}
 use Rattle.fp_tables.specs.Lists.{is_in, some_and}
@@ -15,9 +17,7 @@ use Rattle.fp_tables.specs.declared.topology.Topology.{Topology}
 use Rattle.fp_tables.specs.declared.model.Model.{Model}
 use Rattle.fp_numbering.specs.Answers.{AreNumbered}
 use Rattle.fp_numbering.proofs.Unique.{both_left, both_right}
-use Rattle.fp_numbering.proofs.Keying.{number_same}
 use Rattle.fp_numbering.specs.Links.{LinksAreSound}
-use Rattle.fp_numbering.proofs.Listed.{all_items}
 use Rattle.fp_numbering.proofs.Placing.{beside}
 
 same_definition : (a b : Option ℕ) → a ≡ b → same_option (λ j k. j == k) a b ≡ true

@@ -7,8 +7,10 @@ use Rattle.std.specs.Ordering.{int_eq}
 use Rattle.std.proofs.lemmas.Bool.Decides.{nat_tests}
 use Rattle.std.proofs.lemmas.Option.{slice_get-get_or, slice_get_within}
 use Rattle.fp_base.specs.declared.refusal.Refusal.{Refusal}
-use Rattle.fp_base.proofs.Bools.{join, not_true, or_cases, or_left, or_right}
+use Rattle.fp_base.proofs.Bools.{join, not_true, same_truth}
 use Rattle.fp_base.proofs.Options.{same_some}
+use Rattle.fp_base.proofs.Numbers.{same_number, number_same}
+use Rattle.fp_base.proofs.Passing.{any_at, any_found}
 use Rattle.fp_numbering.specs.declared.tips.Tip.{Tip}
 use Rattle.fp_numbering.specs.declared.origins.Origin.{Origin}
 use Rattle.fp_numbering.specs.declared.looks.Look.{Look}
@@ -22,23 +24,14 @@ use Rattle.fp_numbering.specs.Origins.{no_tip, no_origin, IsOrigin, AreOrigins, 
 use Rattle.fp_numbering.specs.Looks.{is_lone, look_of, AreLooks, key_of, is_in, is_lone_in, heads_in, first_from, said_in, noted, said_part, first_part, AreFound}
 use Rattle.fp_numbering.proofs.Unique.{both_left, both_right}
 use Rattle.fp_numbering.proofs.Joining.{Member, covered}
-use Rattle.fp_numbering.proofs.Keying.{same_number, number_same, alike_is, alike_from, alike_through, of_contains, to_places, to_flat, to_pairs_at, linked_through, all_related, all_of_key, one_key, one, IsMatched}
+use Rattle.fp_numbering.proofs.Keying.{alike_is, alike_from, alike_through, of_contains, to_places, to_flat, to_pairs_at, linked_through, all_related, all_of_key, one_key, one, IsMatched}
 use Rattle.fp_numbering.proofs.Partnering.{contained}
-use Rattle.fp_numbering.proofs.Setwise.{same_truth, written_from, to_written, gives, gives_back, same_option_of, no_members, members_none}
+use Rattle.fp_numbering.proofs.Setwise.{written_from, to_written, gives, gives_back, same_option_of, no_members, members_none}
 use Rattle.fp_numbering.proofs.Walkings.{tip_same}
 use Rattle.fp_numbering.proofs.Lacking.{Lacks, not_whole, whole_lacks, lone_lacks, lacks_lone}
 use Rattle.fp_numbering.proofs.Sourcing.{any_member, member_contains, source_from, source_given, source_is, pair_found, found_pair, first_end}
 
 -- ---- lists
-
-pub any_found : {A : Type 0} (test : A → Bool) (xs : List A) → list_any test xs ≡ true → (j : ℕ) × (x : A) × (slice_get xs j ≡ Some x) × (test x ≡ true)
-any_found test [] h = cc
-any_found test (x ∷ xs) h = elim (or_cases (test x) (list_any test xs) h) [ inl a ↦ (0, x, refl, a) | inr b ↦ let r = any_found test xs b in (suc r.0, r.1, r.2, r.3) ]
-
-pub any_from : {A : Type 0} (test : A → Bool) (xs : List A) (j : ℕ) (x : A) → slice_get xs j ≡ Some x → test x ≡ true → list_any test xs ≡ true
-any_from test [] j x at h = cc
-any_from test (y ∷ xs) zero x at h = let same : y ≡ x = cc in or_left (test y) (list_any test xs) (ap test same ∙ h)
-any_from test (y ∷ xs) (suc j) x at h = or_right (test y) (list_any test xs) (any_from test xs j x at h)
 
 of_cons : (o : Option ℤ) (zs : List ℤ) (z : ℤ) → Member z (cons_option o zs) → (o ≡ Some z) ⊎ Member z zs
 of_cons None zs z m = inr m
@@ -236,7 +229,7 @@ module _ (matches : ℕ → List (ℕ × ℕ)) (ts : List Tip) (label : ℕ → 
           (subst (λ (i : ℕ). linked (matches i) u.port s.port ≡ true) (sym (alike_is t u tu).2) (both_right (are_alike u s) (linked (matches u.instance) u.port s.port) l.4)) in
           let key_too : is_of_key matches t s ≡ true = join (are_alike t s) (linked (matches t.instance) t.port s.port) (alike_through t u s tu us) ts_links in
           let m = lacks_matched j s l.2 (alike_is u s us).1 l.5 in
-          any_from (is_lone_in (key_of (look k t))) ls j (look j s) (looks.of j s l.3)
+          any_at (is_lone_in (key_of (look k t))) ls j (look j s) (looks.of j s l.3)
           (join (is_in (key_of (look k t)) (look j s)) (is_lone matches ts j s) (to_in j s l.3 m key_too) (lacks_lone matches ts j s l.2 l.5))
 
       pub lone_is : (w : Bool) → is_whole matches ts g ≡ w → list_any (is_lone_in (key_of (look k t))) ls ≡ not w

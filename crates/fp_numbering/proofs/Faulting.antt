@@ -8,8 +8,9 @@ use Rattle.fp_base.specs.declared.refusal.Refusal.{Refusal}
 use Rattle.fp_base.specs.declared.rule.Rule.TheVariants.{PortNumberRange, OutputNumberTwice, NoNumberFree}
 use Rattle.fp_base.specs.Least.{IsLeast, InFirst, InSome, lesser_of, broken_at}
 use Rattle.fp_base.proofs.Calculus.{least_if, least_along, least_same}
-use Rattle.fp_base.proofs.Options.{one_some}
+use Rattle.fp_base.proofs.Options.{one_some, none_is}
 use Rattle.fp_base.proofs.Elements.{least_first_next, least_in_one, least_first_all}
+use Rattle.fp_base.proofs.Bools.{twice_not}
 use Rattle.fp_tables.specs.Lists.{some_and}
 use Rattle.fp_tables.specs.declared.topology.Written.{Written}
 use Rattle.fp_numbering.specs.declared.tips.Tip.{Tip}
@@ -26,12 +27,6 @@ next P ts k a b o l is before here =
 
 pub over : (P : ℕ → Tip → Refusal → Type 0) (ts : List Tip) (k : ℕ) (o : Option Refusal) → k ≡ length ts → IsLeast (InFirst k P ts) o → IsLeast (InSome P ts) o
 over P ts k o is l = least_first_all P ts o (subst (λ (n : ℕ). IsLeast (InFirst n P ts) o) is l)
-
-twice_not : (added x : Bool) → added ≡ not x → not added ≡ x
-twice_not true true e = cc
-twice_not true false e = refl
-twice_not false true e = refl
-twice_not false false e = cc
 
 begins : (b x : Bool) → not b ≡ false → (b && x) ≡ x
 begins true x e = refl
@@ -62,10 +57,6 @@ all_three true true false e = cc
 all_three true false z e = cc
 all_three false y z e = cc
 
-from_none : {A : Type 0} (o : Option A) → is_none o ≡ true → o ≡ None
-from_none None e = refl
-from_none (Some x) e = cc
-
 -- of a written number
 pub out_least : (k : ℕ) (t : Tip) (w : Written) (z : ℤ) (n : Option ℕ) (b : Bool) (o : Option Refusal) → t.written ≡ Some w → z ≡ w.number → n ≡ number_below t.size z → b ≡ is_none n
     → o ≡ cond b (Some (broken_at PortNumberRange w.at)) None → IsLeast (IsOutOfRange k t) o
@@ -73,7 +64,7 @@ out_least k t w z n b o at same is none e =
     let told : b ≡ is_none (number_below t.size w.number) = none ∙ ap (λ (x : Option ℕ). is_none x) (is ∙ ap (λ (y : ℤ). number_below t.size y) same) in
     least_along (sym e)
     (least_same (λ f p. (w, at, p.1, p.0)) back
-    (least_if b (broken_at PortNumberRange w.at) (λ h. from_none (number_below t.size w.number) (sym told ∙ h)) (λ h q. cc (sym h ∙ told ∙ ap (λ (x : Option ℕ). is_none x) q))))
+    (least_if b (broken_at PortNumberRange w.at) (λ h. none_is (number_below t.size w.number) (sym told ∙ h)) (λ h q. cc (sym h ∙ told ∙ ap (λ (x : Option ℕ). is_none x) q))))
   where
     back : (f : Refusal) → IsOutOfRange k t f → (f ≡ broken_at PortNumberRange w.at) × (number_below t.size w.number ≡ None)
     back f p =
@@ -111,7 +102,7 @@ none_least t n y z o no_written no_number e ts ns k at =
     (least_if (t.begins && y && z) (broken_at NoNumberFree t.at)
     (λ h.
     let parts = all_three t.begins y z h in
-    (parts.0, number_none t.written (from_none t.written (sym unwritten ∙ parts.1)), at ∙ ap (λ (x : Option ℕ). Some x) (from_none n (sym unnumbered ∙ parts.2))))
+    (parts.0, number_none t.written (none_is t.written (sym unwritten ∙ parts.1)), at ∙ ap (λ (x : Option ℕ). Some x) (none_is n (sym unnumbered ∙ parts.2))))
     (λ h r.
     let is_y : y ≡ true = unwritten ∙ to_none t.written r.1 in
     let is_z : z ≡ true = unnumbered ∙ none_true n (is_it n None (sym at ∙ r.2)) in

@@ -1,12 +1,7 @@
 -- One more in a list that has one for each of another.
 use Rattle.std.proofs.Common.{◌≡◌, ◌∙◌, ap, refl, sym, subst, ℕ, zero, suc, ◌+◌, ◌<◌, ◌⊎◌, inl, inr, List, [], ◌∷◌, ◌++◌, length, Some, slice_get, get_or, arith, length-append}
 use Rattle.std.proofs.lemmas.Option.{slice_get_within, get_or_from_slice_get}
-use Rattle.fp_base.proofs.Lists.{get_last}
-
-before : {A : Type 0} (xs ys : List A) (k : ℕ) → k < length xs → slice_get (xs ++ ys) k ≡ slice_get xs k
-before [] ys k l = absurd (omega arith)
-before (x ∷ xs) ys zero l = refl
-before (x ∷ xs) ys (suc k) l = before xs ys k (omega arith)
+use Rattle.fp_base.proofs.Lists.{get_last, get_before}
 
 -- one for each of the first so many
 pub record Fills {A B : Type 0} (make : ℕ → A → B) (xs : List A) (n : ℕ) (ys : List B) : Type 0 where
@@ -25,7 +20,7 @@ fills_more {A = A} {B = B} make xs n ys zs d y l fills is made =
     below_or_at k m = grind arith
 
     by : (k : ℕ) (x : A) → (k < n) ⊎ (k ≡ n) → slice_get xs k ≡ Some x → slice_get (ys ++ y ∷ []) k ≡ Some (make k x)
-    by k x (inl m) at = before ys (y ∷ []) k (omega (arith, fills.each)) ∙ fills.of k x m at
+    by k x (inl m) at = get_before ys (y ∷ []) k (omega (arith, fills.each)) ∙ fills.of k x m at
     by k x (inr e) at =
         let here : get_or xs n d ≡ x = ap (λ (j : ℕ). get_or xs j d) (sym e) ∙ get_or_from_slice_get xs k x d at in
         ap (λ (j : ℕ). slice_get (ys ++ y ∷ []) j) (e ∙ sym fills.each) ∙ get_last ys y

@@ -5,6 +5,7 @@ use Rattle.std.specs.List.{list_any, list_all, Contains}
 use Rattle.std.proofs.lemmas.Bool.Decides.{nat_tests}
 use Rattle.fp_tables.specs.Lists.{some_and}
 use Rattle.fp_base.proofs.Bools.{join, not_true, or_cases, or_left, or_right}
+use Rattle.fp_base.proofs.Numbers.{same_number, number_same}
 use Rattle.fp_numbering.specs.declared.tips.Tip.{Tip}
 use Rattle.fp_numbering.specs.Ends.{at_one_port}
 use Rattle.fp_numbering.specs.Numbers.{is_at_port_of}
@@ -139,12 +140,6 @@ one_only test (z ∷ xs) (suc i) (suc j) x y l a p b q =
 
 abbrev pub Alike : Tip → Tip → Type 0
 Alike s t = (s.unmatched ≡ false) × (t.unmatched ≡ false) × (s.instance ≡ t.instance) × (s.other ≡ t.other)
-
-pub same_number : (m n : ℕ) → (m == n) ≡ true → m ≡ n
-same_number m n e = grind (arith, nat_tests)
-
-pub number_same : (m n : ℕ) → m ≡ n → (m == n) ≡ true
-number_same m n e = grind (arith, nat_tests)
 
 pub alike_is : (s t : Tip) → are_alike s t ≡ true → Alike s t
 alike_is s t h = part (not s.unmatched) (not t.unmatched) (s.instance == t.instance) (s.other == t.other) refl refl refl refl h

@@ -7,6 +7,7 @@ use Rattle.fp_base.specs.declared.rule.Rule.TheVariants.{MatchPairMissing, Match
 use Rattle.fp_base.specs.Least.{broken_at}
 use Rattle.fp_tables.specs.Lists.{some_and}
 use Rattle.fp_base.proofs.Bools.{join, or_cases, or_left, or_right}
+use Rattle.fp_base.proofs.Numbers.{same_number, number_same}
 use Rattle.fp_numbering.specs.declared.tips.Tip.{Tip}
 use Rattle.fp_numbering.specs.Pairs.{has, are_alike, is_at, matches_at, pairs, alike_at, is_whole_by, is_whole}
 use Rattle.fp_numbering.specs.Broken.{IsMissing, IsRepeated}
@@ -15,7 +16,7 @@ use Rattle.fp_numbering.specs.Partners.{is_seen, is_alone, is_one_more}
 use Rattle.fp_numbering.specs.Looks.{is_lone}
 use Rattle.fp_numbering.proofs.Unique.{both_left, both_right}
 use Rattle.fp_numbering.proofs.Joining.{Member, of_filter}
-use Rattle.fp_numbering.proofs.Keying.{same_number, number_same, alike_is, alike_back, alike_through, at_is, linked_ends, of_contains, all_related, class_whole, one, one_only}
+use Rattle.fp_numbering.proofs.Keying.{alike_is, alike_back, alike_through, at_is, linked_ends, of_contains, all_related, class_whole, one, one_only}
 use Rattle.fp_numbering.proofs.Partnering.{missing_least, repeated_least}
 use Rattle.fp_numbering.proofs.Sourcing.{member_contains}
 

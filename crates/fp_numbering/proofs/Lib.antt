@@ -15,7 +15,6 @@ pub mod Joining
 pub mod Keying
 pub mod Labelling
 pub mod Lacking
-pub mod Listed
 pub mod Noting
 pub mod Partnering
 pub mod Placing

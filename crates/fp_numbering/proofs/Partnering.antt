@@ -3,18 +3,20 @@ use Rattle.std.proofs.Common.{◌≡◌, ◌∙◌, ap, refl, sym, ℕ, zero, su
 use Rattle.std.specs.Prelude.{filter, ◌==◌}
 use Rattle.std.specs.List.{list_any, Contains}
 use Rattle.std.proofs.lemmas.Bool.Decides.{nat_tests}
+use Rattle.std.proofs.lemmas.Bool.{not_from_false}
 use Rattle.fp_base.specs.declared.refusal.Refusal.{Refusal}
 use Rattle.fp_base.specs.declared.rule.Rule.TheVariants.{MatchPairMissing, MatchPairRepeated}
 use Rattle.fp_base.specs.Least.{IsLeast, broken_at}
 use Rattle.fp_base.proofs.Calculus.{least_if, least_along, least_same}
 use Rattle.fp_base.proofs.Bools.{join, not_true, or_cases, or_left, or_right}
+use Rattle.fp_base.proofs.Passing.{any_before}
 use Rattle.fp_numbering.specs.declared.tips.Tip.{Tip}
 use Rattle.fp_numbering.specs.Pairs.{is_at, are_alike, alike_at}
 use Rattle.fp_numbering.specs.Broken.{IsMissing, IsRepeated}
 use Rattle.fp_numbering.specs.Partners.{is_seen, lacks, is_alone, is_one_more}
 use Rattle.fp_numbering.proofs.Unique.{both_left, both_right}
 use Rattle.fp_numbering.proofs.Keying.{alike_is, alike_back}
-use Rattle.fp_numbering.proofs.Beginning.{any_at, found_any}
+use Rattle.fp_numbering.proofs.Beginning.{found_any}
 
 -- ---- a match among those of a component
 
@@ -53,10 +55,6 @@ pass_none test other e (x ∷ xs) h = part (test x) refl (pass_none test other e
     part true is rest f = cc (ap (λ (b : Bool). b || list_any other xs) (sym (e x) ∙ is) ∙ refl)
     part false is rest f = rest (sym (ap (λ (b : Bool). b || list_any other xs) (sym (e x) ∙ is)) ∙ f)
 
-to_not : (b : Bool) → b ≡ false → not b ≡ true
-to_not true e = cc
-to_not false e = refl
-
 module _ (matches : ℕ → List (ℕ × ℕ)) (ts : List Tip) (k : ℕ) (t : Tip) (seen : ℕ × ℕ × ℕ → Bool) where
   pub missing_least : (b : Bool) (o : Option Refusal) → ((q : ℕ × ℕ × ℕ) → seen q ≡ list_any (is_seen q) ts) → b ≡ is_alone seen (matches t.instance) t
       → o ≡ cond b (Some (broken_at MatchPairMissing t.at)) None → IsLeast (IsMissing matches ts k t) o
@@ -94,11 +92,11 @@ module _ (matches : ℕ → List (ℕ × ℕ)) (ts : List Tip) (k : ℕ) (t : Ti
           let u = h.3 in
           let one : (not (seen (t.instance, t.other, q.0)) || not (seen (t.instance, t.other, q.1))) ≡ true =
           elim h.4 [
-            | inl a ↦ or_left (not (seen (t.instance, t.other, q.0))) (not (seen (t.instance, t.other, q.1))) (to_not _ (unseen q.0 u a))
-            | inr b ↦ or_right (not (seen (t.instance, t.other, q.0))) (not (seen (t.instance, t.other, q.1))) (to_not _ (unseen q.1 u b))
+            | inl a ↦ or_left (not (seen (t.instance, t.other, q.0))) (not (seen (t.instance, t.other, q.1))) (not_from_false _ (unseen q.0 u a))
+            | inr b ↦ or_right (not (seen (t.instance, t.other, q.0))) (not (seen (t.instance, t.other, q.1))) (not_from_false _ (unseen q.1 u b))
           ] in (
             h.5,
-            join (not t.unmatched) (list_any (lacks seen t) (matches t.instance)) (to_not t.unmatched u)
+            join (not t.unmatched) (list_any (lacks seen t) (matches t.instance)) (not_from_false t.unmatched u)
                 (among (lacks seen t) (matches t.instance) q h.1.0 h.1.1 h.1.2 (join (is_at q t) _ h.2 one)),
           )
 
@@ -141,9 +139,9 @@ module _ (matches : ℕ → List (ℕ × ℕ)) (ts : List Tip) (k : ℕ) (t : Ti
       from f h =
           let s = h.2 in
           let a = seen_alike s h.7 h.8 in
-          let there : seen (t.instance, t.other, t.port) ≡ true = same (t.instance, t.other, t.port) ∙ any_at (is_seen (t.instance, t.other, t.port)) ts k h.1 s h.5 h.6 a.1 in (
+          let there : seen (t.instance, t.other, t.port) ≡ true = same (t.instance, t.other, t.port) ∙ any_before (is_seen (t.instance, t.other, t.port)) ts k h.1 s h.5 h.6 a.1 in (
             h.9,
             join (not t.unmatched && seen (t.instance, t.other, t.port)) (list_any (λ q. is_at q t) (matches t.instance))
-                (join (not t.unmatched) (seen (t.instance, t.other, t.port)) (to_not t.unmatched a.0) there)
+                (join (not t.unmatched) (seen (t.instance, t.other, t.port)) (not_from_false t.unmatched a.0) there)
                 (among (λ q. is_at q t) (matches t.instance) h.0 h.3.0 h.3.1 h.3.2 h.4),
           )

@@ -5,28 +5,16 @@ use Rattle.std.specs.List.{list_any, list_all, find, filter_map, cons_option}
 use Rattle.std.specs.Option.{option_and_then}
 use Rattle.std.specs.Ordering.{int_eq}
 use Rattle.std.proofs.lemmas.Cmp.{int_eq_equiv}
-use Rattle.std.proofs.lemmas.Bool.Decides.{nat_tests}
 use Rattle.std.proofs.lemmas.Int.{ints}
 use Rattle.fp_tables.specs.Lists.{some_and}
-use Rattle.fp_base.proofs.Bools.{join, or_cases, or_left, or_right}
+use Rattle.fp_base.proofs.Bools.{join, or_cases, or_left, or_right, same_truth}
+use Rattle.fp_base.proofs.Numbers.{same_number, number_same}
 use Rattle.fp_numbering.specs.declared.tips.Tip.{Tip}
 use Rattle.fp_numbering.specs.Ends.{written_number, at_one_port}
 use Rattle.fp_numbering.specs.Pairs.{has, places_from, is_at_first, matches_at, is_whole_by, is_whole, written_in, given_by, given, is_unwritten, first_of}
 use Rattle.fp_numbering.specs.Numbers.{is_at_port_of}
 use Rattle.fp_numbering.proofs.Joining.{Member}
 use Rattle.fp_numbering.proofs.Unique.{both_left, both_right}
-
-same_number : (m n : ℕ) → (m == n) ≡ true → m ≡ n
-same_number m n e = grind (arith, nat_tests)
-
-number_same : (m n : ℕ) → m ≡ n → (m == n) ≡ true
-number_same m n e = grind (arith, nat_tests)
-
--- two truth values that follow from one another
-pub same_truth : (a b : Bool) → (a ≡ true → b ≡ true) → (b ≡ true → a ≡ true) → a ≡ b
-same_truth true b f g = sym (f refl)
-same_truth false true f g = g refl
-same_truth false false f g = refl
 
 pub some_of : (test : ℕ → Bool) (g : List ℕ) → list_any test g ≡ true → (k : ℕ) × (has g k ≡ true) × (test k ≡ true)
 some_of test [] h = cc

@@ -12,6 +12,7 @@ use Rattle.fp_tables.specs.declared.topology.Instance.{Instance}
 use Rattle.fp_tables.specs.declared.topology.Link.{Link}
 use Rattle.fp_tables.specs.declared.model.Model.{Model}
 use Rattle.fp_base.proofs.Options.{same_some}
+use Rattle.fp_base.proofs.Numbers.{same_number}
 use Rattle.fp_numbering.specs.declared.tips.Tip.{Tip}
 use Rattle.fp_numbering.specs.Ends.{size_of, matches_of, from_tip, to_tip, tips_of}
 use Rattle.fp_numbering.specs.Keys.{linked}
@@ -19,7 +20,7 @@ use Rattle.fp_numbering.specs.Labels.{labels_at, label_at, AreAllLabels, AreSoun
 use Rattle.fp_numbering.specs.Origins.{AreLanes}
 use Rattle.fp_numbering.proofs.Unique.{both_left, both_right}
 use Rattle.fp_numbering.proofs.Joining.{Member}
-use Rattle.fp_numbering.proofs.Keying.{same_number, ways}
+use Rattle.fp_numbering.proofs.Keying.{ways}
 use Rattle.fp_numbering.proofs.Sourcing.{member_contains}
 
 module _ (m : Model) where

@@ -6,6 +6,7 @@ use Rattle.std.specs.Option.{option_and_then, option_map}
 use Rattle.fp_base.proofs.Bools.{both}
 use Rattle.fp_base.proofs.Lists.{all_get}
 use Rattle.fp_base.proofs.Options.{then_some}
+use Rattle.fp_base.proofs.Numbers.{same_number}
 use Rattle.fp_tables.specs.Positions.{component_of, positions_lie, component_lies, topology_lies, link_lies}
 use Rattle.fp_tables.specs.declared.component.Port.{Port}
 use Rattle.fp_tables.specs.declared.component.Component.{Component}
@@ -15,7 +16,7 @@ use Rattle.fp_tables.specs.declared.model.Model.{Model}
 use Rattle.fp_numbering.specs.Ends.{size_of, matches_of}
 use Rattle.fp_numbering.specs.Answers.{links_of}
 use Rattle.fp_numbering.specs.Labels.{AreSound, matches_lie, has_one_size, matched_ports_have_one_size}
-use Rattle.fp_numbering.proofs.Keying.{of_contains, all_member, same_number}
+use Rattle.fp_numbering.proofs.Keying.{of_contains, all_member}
 
 module _ (m : Model) (lies : positions_lie m ≡ true) where
   components_lie : list_all (component_lies (length m.types) (length m.ports) (length m.machines)) m.components ≡ true

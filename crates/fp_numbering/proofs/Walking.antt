@@ -7,9 +7,10 @@ use Rattle.std.proofs.lemmas.Bool.Decides.{nat_tests}
 use Rattle.std.proofs.lemmas.List.{take_more}
 use Rattle.std.proofs.lemmas.List.Elements.{filter_map-append}
 use Rattle.std.proofs.lemmas.List.Folds.{list_any-append}
+use Rattle.fp_tables.specs.Found.{pair_cmp}
 use Rattle.fp_numbering.specs.declared.tips.Tip.{Tip}
 use Rattle.fp_numbering.specs.Pairs.{has}
-use Rattle.fp_numbering.specs.Walks.{port_cmp, said_number, said_at, is_at_port, is_mark}
+use Rattle.fp_numbering.specs.Walks.{said_number, said_at, is_at_port, is_mark}
 
 abbrev pub no_tip : Tip
 no_tip = record { instance = 0; port = 0; size = 0; other = 0; begins = false; written = None; unmatched = false; at = record { file = 0; line = 0; column = 0 } }
@@ -47,10 +48,10 @@ still false b c e h = e ∙ h
 
 -- ---- numbers below which all are taken
 
-port_tests : (i p : ℕ) (q : ℕ × ℕ) → is_key (port_cmp (i, p)) q ≡ (i == q.0 && p == q.1)
+port_tests : (i p : ℕ) (q : ℕ × ℕ) → is_key (pair_cmp (i, p)) q ≡ (i == q.0 && p == q.1)
 port_tests i p q = grind (arith, nat_tests)
 
-pub lows_more : (i p low : ℕ) (f g : ℕ × ℕ → Option ℕ) (old new : ℕ × ℕ × ℕ → Bool) → ((q : ℕ × ℕ) → g q ≡ cond (is_key (port_cmp (i, p)) q) (Some low) (f q))
+pub lows_more : (i p low : ℕ) (f g : ℕ × ℕ → Option ℕ) (old new : ℕ × ℕ × ℕ → Bool) → ((q : ℕ × ℕ) → g q ≡ cond (is_key (pair_cmp (i, p)) q) (Some low) (f q))
     → ((q : ℕ × ℕ) (n : ℕ) → n < unwrap_or (f q) 0 → old (q.0, q.1, n) ≡ true) → ((n : ℕ) → n < low → old (i, p, n) ≡ true) → ((r : ℕ × ℕ × ℕ) → old r ≡ true → new r ≡ true)
     → (q : ℕ × ℕ) (n : ℕ) → n < unwrap_or (g q) 0 → new (q.0, q.1, n) ≡ true
 lows_more i p low f g old new is before here grows q n l = by (i == q.0 && p == q.1) refl

@@ -5,7 +5,8 @@ use Rattle.std.specs.Option.{option_map}
 use Rattle.fp_tables.specs.declared.topology.Written.{Written}
 use Rattle.std.proofs.lemmas.Bool.Decides.{nat_tests}
 use Rattle.std.proofs.lemmas.Option.{slice_get-get_or, slice_get_within}
-use Rattle.fp_base.proofs.Bools.{join, or_cases, or_left, or_right}
+use Rattle.fp_base.proofs.Bools.{join, or_cases, or_left, or_right, same_truth}
+use Rattle.fp_base.proofs.Numbers.{same_number, number_same}
 use Rattle.fp_numbering.specs.declared.tips.Tip.{Tip}
 use Rattle.fp_numbering.specs.declared.origins.Origin.{Origin}
 use Rattle.fp_numbering.specs.Ends.{number_below, at_one_port}
@@ -17,10 +18,9 @@ use Rattle.fp_numbering.specs.Walks.{source_by, plain_source, AreAllGiven}
 use Rattle.fp_numbering.specs.Origins.{no_tip, no_origin, IsOrigin, AreOrigins, put, is_first, lane_tip, as_integer, settled, port_tip, AreMade, AreLanes}
 use Rattle.fp_numbering.proofs.Unique.{both_left, both_right}
 use Rattle.fp_numbering.proofs.Joining.{Member}
-use Rattle.fp_numbering.proofs.Keying.{same_number, number_same, alike_is, ports_to, one_key}
+use Rattle.fp_numbering.proofs.Keying.{alike_is, ports_to, one_key}
 use Rattle.fp_numbering.proofs.Giving.{least_same}
 use Rattle.fp_numbering.proofs.Plain.{plain, numbered}
-use Rattle.fp_numbering.proofs.Setwise.{same_truth}
 use Rattle.fp_numbering.proofs.Sourcing.{member_contains, paired_is, output_begins, input_ends, pair_found, whole_of, IsFirst, HasFirst, first_source}
 
 -- ---- lists of numbers

@@ -1,9 +1,6 @@
 -- What the numbering of a topology answers.
 use Rattle.std.specs.Prelude.{◌≡◌, ℕ, ◌∷◌, [], List, map, flat_map, Option, Some, slice_get, unwrap_or, option_map}
-use Rattle.fp_base.specs.declared.refusal.Refusal.{Refusal}
-use Rattle.fp_base.specs.declared.refusal.Stop.{Stop}
-use Rattle.fp_base.specs.declared.refusal.Stop.TheVariants.{Broken, NoMemory}
-use Rattle.fp_base.specs.Least.{IsLeast, IsUnbroken}
+use Rattle.fp_base.specs.Least.{IsUnbroken}
 use Rattle.fp_tables.specs.declared.topology.Link.{Link}
 use Rattle.fp_tables.specs.declared.topology.Wire.{Wire}
 use Rattle.fp_tables.specs.declared.topology.Topology.{Topology}
@@ -32,8 +29,3 @@ pub record AreNumbered (m : Model) (links : List Link) (wires : List Wire) : Typ
   pub unbroken : IsUnbroken (Breaks (matches_of m) (tips_of m links))
   pub joined : map ends_of_wire wires ≡ map ends_of_link links
   pub numbered : Numbered (matches_of m) (tips_of m links) (numbers_of wires)
-
--- a stop names the least of what is broken; for want of memory it may come at any time
-abbrev pub IsStop : (Refusal → Type 0) → Stop → Type 0
-IsStop broken (Broken f) = IsLeast broken (Some f)
-IsStop broken NoMemory = Unit {0}

@@ -1,8 +1,8 @@
 ghost use Rattle.std.specs.Prelude.{◌≡◌, ◌<◌, ℕ, List, length, get_or, IfOk};
 ghost use Rattle.std.specs.BTreeSet.{contains_by};
 ghost use Rattle.std.specs.BTreeMap.{get_by};
+ghost use Rattle.fp_tables.specs.Found.{key_cmp};
 ghost use Rattle.fp_base.specs.Least.{IsLeast, InSome};
-ghost use Rattle.fp_numbering.specs.Walks.{key_cmp};
 ghost use Rattle.fp_numbering.specs.Broken.{AreDifferent};
 ghost use Rattle.fp_numbering.specs.Origins.{AreLanes};
 ghost use Rattle.fp_numbering.specs.Looks.{no_look, key_of, differ_part, differs_by, AreLooks};

@@ -2,7 +2,7 @@ ghost use Rattle.std.specs.Prelude.{◌≡◌, ◌||◌, ℕ, true, cond, Some, 
 ghost use Rattle.std.specs.List.{list_any};
 ghost use Rattle.std.specs.BTreeSet.{contains_by};
 ghost use Rattle.std.specs.BTreeMap.{get_by};
-ghost use Rattle.fp_numbering.specs.Walks.{key_cmp};
+ghost use Rattle.fp_tables.specs.Found.{key_cmp};
 ghost use Rattle.fp_numbering.specs.Looks.{key_of, is_in, is_lone_in, heads_in, first_from, said_in, noted, note_one, said_part, first_part, origin_by, AreFound};
 
 use crate::looks::{Look, Noted};

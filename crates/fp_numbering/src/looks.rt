@@ -1,9 +1,9 @@
 ghost use Rattle.std.specs.Prelude.{◌≡◌, ◌==◌, [], IfOk};
 ghost use Rattle.std.specs.List.{list_any};
 ghost use Rattle.std.specs.BTreeSet.{contains_by};
+ghost use Rattle.fp_tables.specs.Found.{key_cmp};
 ghost use Rattle.fp_numbering.specs.Ends.{matches_of, written_number};
 ghost use Rattle.fp_numbering.specs.Pairs.{is_at_first};
-ghost use Rattle.fp_numbering.specs.Walks.{key_cmp};
 ghost use Rattle.fp_numbering.specs.Partners.{is_alone};
 ghost use Rattle.fp_numbering.specs.Labels.{label_at};
 ghost use Rattle.fp_numbering.specs.Looks.{look_by, AreLooks};

@@ -1,8 +1,9 @@
 ghost use Rattle.std.specs.Prelude.{◌≡◌, ◌<◌, ◌*◌, ℕ, true, map, length, get_or, is_some, None, IfOk, IfErr};
+ghost use Rattle.fp_base.specs.Least.{IsStop};
 ghost use Rattle.fp_tables.specs.Positions.{positions_lie};
 ghost use Rattle.fp_numbering.specs.Ends.{matches_of, tips_of};
 ghost use Rattle.fp_numbering.specs.Broken.{Breaks};
-ghost use Rattle.fp_numbering.specs.Answers.{AreNumbered, IsStop, links_of, numbers_of, ends_of_wire, ends_of_link};
+ghost use Rattle.fp_numbering.specs.Answers.{AreNumbered, links_of, numbers_of, ends_of_wire, ends_of_link};
 ghost use Rattle.fp_numbering.specs.Labels.{AreSound, matched_ports_have_one_size};
 
 use crate::tips::{Tip, tips_of};

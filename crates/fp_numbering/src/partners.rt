@@ -2,10 +2,10 @@ ghost use Rattle.std.specs.Prelude.{◌≡◌, ◌&&◌, ◌||◌, ℕ, [], not,
 ghost use Rattle.std.specs.List.{list_any};
 ghost use Rattle.std.specs.Option.{option_copied};
 ghost use Rattle.std.specs.BTreeSet.{contains_by};
+ghost use Rattle.fp_tables.specs.Found.{key_cmp};
 ghost use Rattle.fp_base.specs.Least.{IsLeast, InSome};
 ghost use Rattle.fp_numbering.specs.Ends.{matches_of};
 ghost use Rattle.fp_numbering.specs.Pairs.{is_at};
-ghost use Rattle.fp_numbering.specs.Walks.{key_cmp};
 ghost use Rattle.fp_numbering.specs.Broken.{IsMissing, IsRepeated};
 ghost use Rattle.fp_numbering.specs.Partners.{is_seen, lacks, is_alone, LackPartners};
 

@@ -1,9 +1,10 @@
 ghost use Rattle.std.specs.Prelude.{◌≡◌, ◌<◌, ℕ, Some, None, true, ◌||◌, ◌&&◌, IfOk, OnOk};
 ghost use Rattle.std.specs.BTreeSet.{contains_by};
+ghost use Rattle.fp_tables.specs.Found.{key_cmp};
 ghost use Rattle.fp_numbering.specs.Ends.{number_below};
 ghost use Rattle.fp_numbering.specs.Pairs.{has};
 ghost use Rattle.fp_numbering.specs.Numbers.{IsLeastUnused};
-ghost use Rattle.fp_numbering.specs.Walks.{key_cmp, is_taken, IsLow, said_number, said_at, is_mark, IsGiven, AreTaken, plain_source};
+ghost use Rattle.fp_numbering.specs.Walks.{is_taken, IsLow, said_number, said_at, is_mark, IsGiven, AreTaken, plain_source};
 
 use crate::tips::Tip;
 use fp_base::NoMemory;

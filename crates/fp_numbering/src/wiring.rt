@@ -1,7 +1,6 @@
 ghost use Rattle.std.specs.Prelude.{◌≡◌, ◌<◌, [], IfErr, IfOk, None, OnOk, length, true};
 ghost use Rattle.std.specs.Vec.Iter.{into_iter_items};
-ghost use Rattle.fp_base.specs.Least.{IsUnbroken};
-ghost use Rattle.fp_numbering.specs.Answers.{IsStop};
+ghost use Rattle.fp_base.specs.Least.{IsUnbroken, IsStop};
 ghost use Rattle.fp_numbering.specs.Labels.{matched_ports_have_one_size};
 ghost use Rattle.fp_tables.specs.Positions.{positions_lie};
 ghost use Rattle.fp_numbering.specs.Found.{AreFound, IsFoundWith, first_row, other_rows, wired, wired_one};

@@ -32,13 +32,13 @@ use Rattle.fp_parse_pieces.specs.Words.{at}
 abbrev pub k_word : String → ℕ
 k_word text = k_reserved (reserved text)
 
-abbrev pub component_of : Word → ComponentKind
-component_of (word.Reserved r) = cond (r == reserved "active") component.Active (cond (r == reserved "passive") component.Passive component.Queued)
-component_of _ = component.Queued
+abbrev pub kind_of_component : Word → ComponentKind
+kind_of_component (word.Reserved r) = cond (r == reserved "active") component.Active (cond (r == reserved "passive") component.Passive component.Queued)
+kind_of_component _ = component.Queued
 
 -- 'active' | 'passive' | 'queued'
 abbrev pub component_kind : Grammar Token (Span × ComponentKind)
-component_kind = map (λ t. (t.at, component_of t.what)) (one_of (k_word "active" ∷ k_word "passive" ∷ k_word "queued" ∷ []))
+component_kind = map (λ t. (t.at, kind_of_component t.what)) (one_of (k_word "active" ∷ k_word "passive" ∷ k_word "queued" ∷ []))
 
 abbrev pub input_of : Word → GeneralKind
 input_of (word.Reserved r) = cond (r == reserved "async") general.AsyncInput (cond (r == reserved "sync") general.SyncInput general.GuardedInput)

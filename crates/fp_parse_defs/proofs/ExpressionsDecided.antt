@@ -1,6 +1,7 @@
 -- At each depth, expressions and the names of types have an answer at each position of each token list.
 use Rattle.std.proofs.Common.{◌≡◌, ℕ, zero, suc, Bool, true, List, [], ◌∷◌, ◌++◌, refl, sym, ◌∙◌, ap, subst, append-nil, arith}
 use Rattle.std.proofs.lemmas.Bool.{ltb-true}
+use Rattle.fp_base.proofs.Bools.{and_left}
 use Rattle.fp_lexer.specs.declared.token.Token.{Token}
 use Rattle.fp_grammar.specs.Grammar.{Grammar, Spells, SpellsMany, SpellsSeq, built, allowed}
 use Rattle.fp_grammar.specs.Grammar.Grammar.{seq, chain}
@@ -8,7 +9,6 @@ use Rattle.fp_grammar.specs.Seal.{seal, sealed_nonterminal}
 use Rattle.fp_grammar.specs.Same.{IsSameLanguage}
 use Rattle.fp_grammar.specs.Decided.{Answer, RefsDecided}
 use Rattle.fp_grammar.specs.Decided.Answer.{refused}
-use Rattle.fp_grammar.proofs.Lists.{and-left}
 use Rattle.fp_grammar.proofs.Sames.{same_answer}
 use Rattle.fp_grammar.proofs.Deciding.{answer_of}
 use Rattle.fp_grammar.proofs.Nesting.{closed_refuses, open_answer}
@@ -27,7 +27,7 @@ never_goes_on {Y = Y} a b allows build never = record { into = λ w x s. into w 
   where
     into : (w : List Token) (x p : Measured) (ys : List Y) → x ≡ built build p ys → allowed allows build p ys ≡ true → SpellsSeq (Spells kind a) (SpellsMany (Spells kind b)) w (p, ys) → Spells kind a w x
     into w x p [] e f (u, v, g, s, i) = subst (λ l. Spells kind a l x) (sym (g ∙ ap (λ l. u ++ l) i ∙ append-nil u)) (subst (λ y. Spells kind a u y) (sym e) s)
-    into w x p (y ∷ ys) e f s = absurd (never p (and-left (allows p) _ f))
+    into w x p (y ∷ ys) e f s = absurd (never p (and_left (allows p) _ f))
 
 nothing_lower : (x : Measured) → lower 0 x ≡ true → ⊥
 nothing_lower x e = absurd (omega (arith, ltb-true x.height 0 e))

@@ -33,6 +33,3 @@ pub combined_low : (left right depth : ℕ) → left < depth → right ≤ depth
 combined_low left right depth p q =
     let h : max left right ≤ depth - 1 = max-le {a = left} {b = right} {k = depth - 1} (omega (arith, p)) q in
     omega (arith, h, p)
-
-pub both_low : (left right depth : ℕ) → left ≤ depth → right ≤ depth → max left right ≤ depth
-both_low left right depth p q = max-le {a = left} {b = right} {k = depth} p q

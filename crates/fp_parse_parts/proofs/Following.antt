@@ -8,16 +8,16 @@ use Rattle.std.proofs.lemmas.Option.{none-some, slice_get_within}
 use Rattle.fp_base.specs.declared.place.Span.{Span}
 use Rattle.fp_base.specs.declared.rule.Rule.{Rule}
 use Rattle.fp_base.specs.declared.rule.Rule.TheVariants.{UnexpectedToken, NestingTooDeep, FormLeftOut}
+use Rattle.fp_base.proofs.Lists.{drop_here, drop_past}
 use Rattle.fp_lexer.specs.declared.token.Token.{Token}
 use Rattle.fp_grammar.specs.Grammar.{Grammar}
-use Rattle.fp_grammar.proofs.Tokens.{rest_at, rest_at_end}
 use Rattle.fp_parse_defs.specs.Reading.{left_out, limit}
 use Rattle.fp_parse_parts.specs.Files.{Probe, tried_at, ReachesTo, StartsMember, BeginsLeftOut, GoesTooDeep, BrokenRule}
 use Rattle.fp_parse_parts.proofs.Reaching.{goes_on, ends_there}
 
 -- a list before and behind the token at a position
 cut_at : (tokens : List Token) (at : ℕ) (t : Token) → Some t ≡ slice_get tokens at → tokens ≡ take at tokens ++ t ∷ drop (at + 1) tokens
-cut_at tokens at t e = sym (take-append-drop at tokens) ∙ ap (λ l. take at tokens ++ l) (rest_at tokens at t (sym e))
+cut_at tokens at t e = sym (take-append-drop at tokens) ∙ ap (λ l. take at tokens ++ l) (drop_here tokens at t (sym e))
 
 length_before : (tokens : List Token) (at : ℕ) (t : Token) → Some t ≡ slice_get tokens at → length (take at tokens) ≡ at
 length_before tokens at t e = let h = slice_get_within tokens at t (sym e) in length-take-le at tokens (omega (arith, h))
@@ -32,10 +32,10 @@ when_false A B true m e = cc
 
 module _ {X : Type 0} (g : ℕ → Grammar Token X) (probe : Probe) where
   pub rule_at_end : (tokens : List Token) (at : ℕ) → None ≡ slice_get tokens at → BrokenRule g probe (take at tokens) (drop at tokens) UnexpectedToken
-  rule_at_end tokens at e = subst (λ l. BrokenRule g probe (take at tokens) l UnexpectedToken) (sym (rest_at_end tokens at (sym e))) refl
+  rule_at_end tokens at e = subst (λ l. BrokenRule g probe (take at tokens) l UnexpectedToken) (sym (drop_past tokens at (sym e))) refl
 
   rule_at : (tokens : List Token) (at : ℕ) (t : Token) (rule : Rule) → Some t ≡ slice_get tokens at → BrokenRule g probe (take at tokens) (t ∷ drop (at + 1) tokens) rule → BrokenRule g probe (take at tokens) (drop at tokens) rule
-  rule_at tokens at t rule e b = subst (λ l. BrokenRule g probe (take at tokens) l rule) (sym (rest_at tokens at t (sym e))) b
+  rule_at tokens at t rule e b = subst (λ l. BrokenRule g probe (take at tokens) l rule) (sym (drop_here tokens at t (sym e))) b
 
   pub rule_deeper : (tokens : List Token) (at : ℕ) (t : Token) (to : ℕ) → Some t ≡ slice_get tokens at → ReachesTo (g (limit + 1)) tokens to → at < to → BrokenRule g probe (take at tokens) (drop at tokens) NestingTooDeep
   rule_deeper tokens at t to e r l =

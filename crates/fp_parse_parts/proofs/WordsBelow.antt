@@ -1,9 +1,10 @@
 -- Which words are among the reserved words of the table, and whether a word of some kinds is next.
-use Rattle.std.proofs.Common.{◌≡◌, ℕ, zero, suc, ◌<◌, ◌≤◌, ◌⊎◌, inl, inr, arith, refl, sym, ◌∙◌, subst, true, false, nat_lt, get_or, List, length, Some, slice_get}
+use Rattle.std.proofs.Common.{◌≡◌, ℕ, zero, suc, ◌<◌, ◌⊎◌, inl, inr, arith, refl, sym, ◌∙◌, subst, true, false, nat_lt, get_or, List, length, Some, slice_get}
 use Rattle.std.specs.Prelude.{Bool, ltb, MatchBool}
 use Rattle.std.proofs.lemmas.Bool.{lt-ltb, le-ltb}
-use Rattle.std.proofs.lemmas.Bool.Decides.{nat_tests}
 use Rattle.std.proofs.lemmas.Option.{slice_get_read}
+use Rattle.fp_base.proofs.Spots.{before_or_not}
+use Rattle.fp_base.proofs.Numbers.{is_below}
 use Rattle.fp_lexer.specs.declared.token.Token.{Token}
 use Rattle.fp_lexer.specs.declared.token.Word.{Word}
 use Rattle.fp_lexer.specs.declared.token.Word.TheVariants as word
@@ -37,12 +38,9 @@ kind_among k (suc n) (inr h) = kind_among k n h
 not_among : (k n : ℕ) → ((r : ℕ) → k ≡ k_reserved r → ⊥) → Among k (words_below n) → ⊥
 not_among k n other h = let f = kind_among k n h in other f.0 f.1
 
-short : (r n : ℕ) → (r < n) ⊎ (n ≤ r)
-short r n = grind arith
-
 number_told : (r n : ℕ) → MatchBool (ltb r n) (Among (k_reserved r) (words_below n)) (Among (k_reserved r) (words_below n) → ⊥)
 number_told r n =
-    elim (short r n) [
+    elim (before_or_not r n) [
       | inl e ↦ subst (λ b. MatchBool b (Among (k_reserved r) (words_below n)) (Among (k_reserved r) (words_below n) → ⊥)) (sym (lt-ltb r n e)) (reserved_among r n e)
       | inr e ↦ subst (λ b. MatchBool b (Among (k_reserved r) (words_below n)) (Among (k_reserved r) (words_below n) → ⊥)) (sym (le-ltb r n e)) (λ h. let f = among_reserved r n h in omega (arith, e, f))
     ]
@@ -62,11 +60,8 @@ among_told : (ks : List ℕ) (tokens : List Token) (at : ℕ) (t : Token) (b : B
 among_told ks tokens at t true e l h = (t, sym e, h, l)
 among_told ks tokens at t false e l h = λ n. let f : t ≡ n.0 = (let g : Some t ≡ Some n.0 = sym e ∙ sym n.1 in cc) in h (subst (λ s. Among (kind s) ks) (sym f) n.2)
 
-less : (a b : ℕ) → true ≡ nat_lt a b → a < b
-less a b e = grind (arith, nat_tests)
-
 -- the token that was found says whether a word of these kinds is next
 pub found_told : (ks : List ℕ) (tokens : List Token) (at : ℕ) (t : Token) (b c : Bool) → true ≡ nat_lt at (length tokens) → t ≡ get_or tokens at t → b ≡ c → MatchBool c (Among (kind t) ks) (Among (kind t) ks → ⊥) → MatchBool b (NextAmong kind ks tokens at) (NextAmong kind ks tokens at → ⊥)
 found_told ks tokens at t b c e f h m =
-    let l = less at (length tokens) e in
+    let l = is_below at (length tokens) e in
     among_told ks tokens at t b (slice_get_read tokens (length tokens) at t refl l f) l (subst (λ b. MatchBool b (Among (kind t) ks) (Among (kind t) ks → ⊥)) (sym h) m)

@@ -1,8 +1,10 @@
 -- The grammar of the members of files and modules. FPP Language Specification, "Translation Units and Models", "Module Definitions",
 -- "Include Specifiers" and "Location Specifiers".
 use Rattle.std.specs.Prelude.{ℕ, zero, suc, ltb, Bool, false, List, [], ◌∷◌, ◌++◌, length}
+use Rattle.fp_parse_topologies.specs.Instances.{k_at}
+use Rattle.fp_parse_states.specs.Bodies.{k_semicolon}
 use Rattle.fp_base.specs.declared.place.Span.{Span}
-use Rattle.fp_lexer.specs.Words.{words, reserved, mark}
+use Rattle.fp_lexer.specs.Words.{words, reserved}
 use Rattle.fp_lexer.specs.declared.token.Word.{Word}
 use Rattle.fp_lexer.specs.declared.token.Word.TheVariants as word
 use Rattle.fp_lexer.specs.declared.token.Token.{Token}
@@ -18,23 +20,14 @@ use Rattle.fp_parse_parts.specs.declared.bare.ModelMember.TheVariants as model
 use Rattle.fp_grammar.specs.Grammar.{Grammar, Language, Spells, after}
 use Rattle.fp_grammar.specs.Grammar.Grammar.{one_of, seq, map, alt, optional, many, ref}
 use Rattle.fp_grammar.specs.Seal.{seal}
-use Rattle.fp_parse_pieces.specs.Kinds.{kind, k_mark, k_reserved, k_newline, k_open, k_open_brace, k_close_brace, k_equals}
+use Rattle.fp_parse_pieces.specs.Kinds.{kind, k_reserved, k_newline, k_open, k_open_brace, k_close_brace, k_equals}
 use Rattle.fp_parse_pieces.specs.Words.{between, at, name, qual}
 use Rattle.fp_parse_pieces.specs.Lists.{joined, some_of, or_none}
 use Rattle.fp_parse_pieces.specs.Words.{literal_string}
 pub use Rattle.fp_parse_defs.specs.Definitions.{noted_definition}
 use Rattle.fp_parse_parts.specs.Models.{any_model, model_begins, model_goes_on}
 use Rattle.fp_parse_defs.specs.Definitions.{definition, expr_goes_on, k_array, k_arrow, k_constant, k_default, k_enum, k_format, k_port, k_size, k_struct, k_type}
-
-abbrev pub k_semicolon : ℕ
-k_semicolon = k_mark (mark ";")
-
--- the reserved words of members
-abbrev pub k_at : ℕ
-k_at = k_reserved (reserved "at")
-
-abbrev pub k_include : ℕ
-k_include = k_reserved (reserved "include")
+use Rattle.fp_parse_defs.specs.Specifiers.{k_include}
 
 abbrev pub k_locate : ℕ
 k_locate = k_reserved (reserved "locate")

@@ -18,14 +18,14 @@ use std::alloc::Global;
 
 /// A kind of file.
 pub trait FileKind {
-    type Members: Drop;
+    type Contents: Drop;
 
-    ghost grammar: { ℕ → Grammar Token Self.Members };
+    ghost grammar: { ℕ → Grammar Token Self.Contents };
 
     ghost probe: { Probe };
 
     /// Reads members from the first token on as far as there are any, where expressions and modules nest at most so deep.
-    fn read(alloc: Global, tokens: &[Token], depth: u32) -> Parsed<Self::Members>
+    fn read(alloc: Global, tokens: &[Token], depth: u32) -> Parsed<Self::Contents>
         ensures { Parses kind (grammar depth) tokens.now 0 result };
 
     /// The reserved word that is tried in place of one that begins members which are left out.
@@ -37,7 +37,7 @@ pub trait FileKind {
 pub struct UnitFile;
 
 impl FileKind for UnitFile {
-    type Members = Row<Member>;
+    type Contents = Row<Member>;
 
     ghost grammar = { unit };
 
@@ -56,7 +56,7 @@ impl FileKind for UnitFile {
 pub struct ComponentFile;
 
 impl FileKind for ComponentFile {
-    type Members = Row<Part>;
+    type Contents = Row<Part>;
 
     ghost grammar = { component_parts };
 
@@ -75,7 +75,7 @@ impl FileKind for ComponentFile {
 pub struct TopologyFile;
 
 impl FileKind for TopologyFile {
-    type Members = Row<TMember>;
+    type Contents = Row<TMember>;
 
     ghost grammar = { topology_members };
 

@@ -67,9 +67,9 @@ fn of_topology(alloc: Global, tokens: &[Token]) -> Result<Members, Stop>
 }
 
 // Reads all the tokens of a kind of file.
-fn whole<F: FileKind>(alloc: Global, tokens: &[Token]) -> Result<F::Members, Stop>
+fn whole<F: FileKind>(alloc: Global, tokens: &[Token]) -> Result<F::Contents, Stop>
     requires fits { (depth : ℕ) → Fits kind (F.FileKind.grammar depth) }
-    requires empty { (x : F.Members) × SpellsFile F.FileKind.grammar [] x }
+    requires empty { (x : F.Contents) × SpellsFile F.FileKind.grammar [] x }
     ensures { AnswersFile F.FileKind.grammar F.FileKind.probe tokens.now result }
 {
     match F::read(alloc, tokens, LIMIT) {

@@ -16,7 +16,7 @@ use std::alloc::Global;
 /// Why tokens that break the grammar of a kind of file at a position are refused.
 pub fn refused<F: FileKind>(alloc: Global, tokens: &[Token], at: usize) -> Stop
     requires fits { (depth : ℕ) → Fits kind (F.FileKind.grammar depth) }
-    requires empty { (x : F.Members) × SpellsFile F.FileKind.grammar [] x }
+    requires empty { (x : F.Contents) × SpellsFile F.FileKind.grammar [] x }
     requires within { at ≤ length tokens.now }
     requires broken { IsBroken kind (F.FileKind.grammar limit) tokens.now (take at tokens.now) (drop at tokens.now) }
     ensures { StopsFile F.FileKind.grammar F.FileKind.probe tokens.now result }
@@ -102,7 +102,7 @@ fn read<F: FileKind>(
     alloc: Global,
     tokens: &[Token],
     depth: u32,
-) -> Result<(Option<F::Members>, usize), NoMemory>
+) -> Result<(Option<F::Contents>, usize), NoMemory>
     requires { Fits kind (F.FileKind.grammar depth) }
     ensures { IfOk result (λ p. ReachesTo (F.FileKind.grammar depth) tokens.now p.1) }
 {

@@ -15,7 +15,7 @@ use Rattle.fp_grammar.specs.Grammar.{Grammar, after}
 use Rattle.fp_grammar.specs.Grammar.Grammar.{seq, map, alt, optional}
 use Rattle.fp_parse_pieces.specs.Kinds.{k_reserved, k_open_brace, k_close_brace}
 use Rattle.fp_parse_pieces.specs.Words.{between, at, name}
-use Rattle.fp_parse_defs.specs.Definitions.{k_colon, type_name, type_or}
+use Rattle.fp_parse_defs.specs.Definitions.{type_or, repr_part}
 use Rattle.fp_parse_states.specs.Transitions.{do_list, goto, transition}
 
 abbrev pub k_action : ℕ
@@ -72,30 +72,26 @@ made_initial (word, g) = record { form = form.Initial g; at = between word g.at 
 abbrev pub initial : Grammar Token Head
 initial = map made_initial (seq (at k_initial) goto)
 
--- (':' TypeName)?
-abbrev pub type_part : ℕ → Grammar Token (Option TypeName)
-type_part depth = optional (after k_colon (type_name depth))
-
 abbrev pub made_signal : Span × (Name × Option TypeName) → Head
 made_signal (word, (n, of)) = record { form = form.Signal (record { name = n; of = of }); at = between word (type_or n.at of) }
 
 -- 'signal' name (':' TypeName)?
 abbrev pub signal : ℕ → Grammar Token Head
-signal depth = map made_signal (seq (at k_signal) (seq name (type_part depth)))
+signal depth = map made_signal (seq (at k_signal) (seq name (repr_part depth)))
 
 abbrev pub made_action_def : Span × (Name × Option TypeName) → Head
 made_action_def (word, (n, of)) = record { form = form.Action (record { name = n; of = of }); at = between word (type_or n.at of) }
 
 -- 'action' name (':' TypeName)?
 abbrev pub action : ℕ → Grammar Token Head
-action depth = map made_action_def (seq (at k_action) (seq name (type_part depth)))
+action depth = map made_action_def (seq (at k_action) (seq name (repr_part depth)))
 
 abbrev pub made_guard : Span × (Name × Option TypeName) → Head
 made_guard (word, (n, of)) = record { form = form.Guard (record { name = n; of = of }); at = between word (type_or n.at of) }
 
 -- 'guard' name (':' TypeName)?
 abbrev pub guard : ℕ → Grammar Token Head
-guard depth = map made_guard (seq (at k_guard) (seq name (type_part depth)))
+guard depth = map made_guard (seq (at k_guard) (seq name (repr_part depth)))
 
 -- where what is done on a signal stands
 abbrev pub way_at : Transition → Span

@@ -1,13 +1,10 @@
 -- What is broken by some element of lists that are put together.
 use Rattle.std.proofs.Common.{◌≡◌, ◌⊎◌, ℕ, zero, suc, List, [], ◌∷◌, ◌++◌, map, flat_map, slice_get, Option, Some, None, refl, inl, inr, sym, subst}
-use Rattle.fp_base.proofs.Lists.{get_front}
+use Rattle.fp_base.proofs.Lists.{get_front, no_item}
 use Rattle.fp_base.proofs.Options.{same_some}
 use Rattle.fp_base.specs.Least.{ByOptional, InSome}
 use Rattle.fp_base.specs.declared.refusal.Refusal.{Refusal}
 use Rattle.fp_part_values.specs.Names.{written}
-
-no_item : {A : Type 0} (k : ℕ) (x : A) → slice_get [] k ≡ Some x → ⊥
-no_item k x at = cc
 
 module _ {A : Type 0} (P : A → Refusal → Type 0) (f : Refusal) where
   abbrev pub In : List A → Type 0

@@ -1,7 +1,8 @@
 -- What converts where no rule is broken.
 use Rattle.std.proofs.Common.{◌≡◌, ◌⊎◌, inl, inr, ℕ, Bool, true, false, not, ◌&&◌, ℤ, List, [], Option, Some, None, refl, sym, ap, ◌∙◌, subst, arith}
 use Rattle.std.specs.Prelude.{int_le}
-use Rattle.fp_base.proofs.Options.{same_some}
+use Rattle.fp_base.proofs.Options.{same_some, no_some}
+use Rattle.fp_base.proofs.Bools.{not_both}
 use Rattle.fp_base.specs.declared.refusal.Refusal.{Refusal}
 use Rattle.fp_base.specs.declared.rule.Rule.TheVariants.{BadConversion, OutsideType}
 use Rattle.fp_base.specs.declared.value.Value.{Value, Int, Enumerated, out-Value, out-roll-Value}
@@ -26,18 +27,15 @@ use Rattle.fp_meaning.specs.Sites.{component, declaration}
 use Rattle.fp_meaning.specs.Values.{Val, number_in, opened}
 use Rattle.fp_type_sizes.specs.declared.written.WrittenType.{WrittenType}
 use Rattle.fp_type_sizes.specs.Sizes.{HasForm, IsPlain, EndsAs, at_plain, at_form, behind_alias, IsInteger, IsOfSize, named, alias}
-use Rattle.fp_type_sizes.proofs.Places.{no_some}
 use Rattle.fp_type_forms.specs.Written.{KindIs}
+use Rattle.fp_type_forms.proofs.Represented.{measured}
 use Rattle.fp_types.specs.Converting.{Becomes, Converts, IsWithin, Opened, Target, integer, of_kind, plain_target, number, numbered}
 use Rattle.fp_types.specs.Converting as converting
 use Rattle.fp_types.specs.Faults.{Meets, Misfits, is_number, is_outside, lacks_member, by_range}
 use Rattle.fp_types.specs.Faults as faults
 use Rattle.fp_part_values.specs.Broken.{BrokenByChannel, BrokenByLimit, BrokenByLimits, BrokenByPart, IsUnfit, PartValuesBroken}
 use Rattle.fp_part_values.specs.Standing.{HasLimit, IsPart}
-use Rattle.fp_part_values.proofs.Fits.{integer_plain, measured}
-
-clash : {A : Type 0} {b : Bool} → b ≡ true → b ≡ false → A
-clash e h = let both : true ≡ false = sym e ∙ h in absurd (cc)
+use Rattle.fp_part_values.proofs.Fits.{integer_plain}
 
 -- ---- what is broken in a part
 
@@ -80,14 +78,14 @@ with_number P (Enumerated of name m) n is int enumerated =
 with_number P v n is int enumerated = no_some is
 
 lacks_none : (o : Opened) (t : Target) → is_number o ≡ true → lacks_member o t ≡ true → ⊥
-lacks_none (value.Int n) t h e = clash e refl
-lacks_none (value.Enumerated of name n) t h e = clash e refl
-lacks_none o t h e = clash h refl
+lacks_none (value.Int n) t h e = not_both e refl
+lacks_none (value.Enumerated of name n) t h e = not_both e refl
+lacks_none o t h e = not_both h refl
 
 no_member : {ws : List WrittenType} {o : Opened} {t : Target} → is_number o ≡ true → Meets ws lacks_member o t → ⊥
 no_member {o = o} {t = t} h (faults.here e) = lacks_none o t h e
-no_member h (faults.in_part i long at m) = clash h refl
-no_member h (faults.in_member i at is m) = clash h refl
+no_member h (faults.in_part i long at m) = not_both h refl
+no_member h (faults.in_member i at is m) = not_both h refl
 no_member h (faults.single_in_part s m) = no_member h m
 no_member h (faults.single_in_member i s at m) = no_member h m
 no_member h (faults.in_plain p m) = no_member h m

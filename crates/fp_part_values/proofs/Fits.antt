@@ -1,7 +1,8 @@
 -- Types that are wanted of values, and the rules that values break.
 use Rattle.std.proofs.Common.{◌≡◌, Bool, true, false, cond, ℤ, List, [], ◌∷◌, Option, Some, None, refl, sym, ap, ◌∙◌, subst}
 use Rattle.fp_base.proofs.Calculus.{least_same}
-use Rattle.fp_base.proofs.Options.{same_some}
+use Rattle.fp_base.proofs.Options.{same_some, no_some}
+use Rattle.fp_base.proofs.Bools.{not_both}
 use Rattle.fp_base.specs.declared.refusal.Refusal.{Refusal}
 use Rattle.fp_base.specs.declared.value.Value.{Value}
 use Rattle.fp_base.specs.Least.{IsLeast}
@@ -17,19 +18,16 @@ use Rattle.fp_type_sizes.specs.declared.written.WrittenType.{WrittenType}
 use Rattle.fp_type_sizes.specs.declared.written.TypeExtent.{TypeExtent}
 use Rattle.fp_type_sizes.specs.Found.{AreExtents}
 use Rattle.fp_type_sizes.specs.Sized.{ends_in_integer, is_integer_kind, kind_extent}
-use Rattle.fp_type_sizes.specs.Sizes.{IsPlain, EndsAs, at_plain, at_form, behind_alias, IsInteger, Measures, plain, named, alias}
-use Rattle.fp_type_sizes.proofs.Counted.{kind_holds, kind_only, one_end}
+use Rattle.fp_type_sizes.specs.Sizes.{IsPlain, IsInteger}
+use Rattle.fp_type_sizes.proofs.Counted.{kind_holds, kind_only, one_end, end_integer}
 use Rattle.fp_type_sizes.proofs.Limits.{is_sound, misses_none}
-use Rattle.fp_type_sizes.proofs.Places.{no_some}
 use Rattle.fp_type_forms.specs.Written.{IsOnly, KindIs}
+use Rattle.fp_type_forms.proofs.Represented.{measured}
 use Rattle.fp_types.specs.Converting as converting
 use Rattle.fp_types.specs.Converting.{of_kind}
 use Rattle.fp_types.specs.Faults.{Misfits}
 use Rattle.fp_part_values.specs.Broken.{IntegerIs, IsIntegerType, IsUnfit}
 use Rattle.fp_part_values.specs.Tested.{MisfitsIf, integer_in}
-
-clash : {A : Type 0} {b : Bool} → b ≡ true → b ≡ false → A
-clash e h = let both : true ≡ false = sym e ∙ h in absurd (cc)
 
 -- ---- integer types
 
@@ -46,31 +44,13 @@ end_range kind.Bool e = absurd (cc)
 end_range (kind.Str size) e = absurd (cc)
 end_range (kind.Named i) e = absurd (cc)
 
-range_end : (k : Kind) (low high : ℤ) → types.shape [] k ≡ types.integer low high → is_integer_kind k ≡ true
-range_end kind.U8 low high e = refl
-range_end kind.U16 low high e = refl
-range_end kind.U32 low high e = refl
-range_end kind.U64 low high e = refl
-range_end kind.I8 low high e = refl
-range_end kind.I16 low high e = refl
-range_end kind.I32 low high e = refl
-range_end kind.I64 low high e = refl
-range_end kind.Bool low high e = absurd (cc)
-range_end (kind.Str size) low high e = absurd (cc)
-range_end (kind.Named i) low high e = absurd (cc)
-
 pub integer_plain : (k : Kind) (low high : ℤ) → types.shape [] k ≡ types.integer low high → IsPlain k
 integer_plain (kind.Named i) low high h = absurd (cc)
 integer_plain k low high h = tt
 
-pub measured : {ws : List WrittenType} {k e : Kind} → EndsAs ws k e → IsPlain e → Measures ws k 1 1
-measured (at_plain p) h = plain p
-measured (at_form f n) h = absurd h
-measured (behind_alias f r) h = named f (alias (measured r h))
-
 module _ (ws : List WrittenType) (table : List (Option TypeExtent)) (are : AreExtents ws table) where
   integer_when : (k : Kind) (o : Option TypeExtent) → kind_extent table k ≡ o → ends_in_integer o ≡ true → IsIntegerType ws k
-  integer_when k None is h = clash h refl
+  integer_when k None is h = not_both h refl
   integer_when k (Some x) is h =
       let p = kind_holds ws table k x (is_sound ws table are) is in
       let r = end_range x.end h in
@@ -82,7 +62,7 @@ module _ (ws : List WrittenType) (table : List (Option TypeExtent)) (are : AreEx
       no_some (sym is ∙ x.1)
   integer_then k (Some x) is h low high t =
       let p = kind_holds ws table k x (is_sound ws table are) is in
-      clash (ap is_integer_kind (one_end p.ends t.1) ∙ range_end t.0 low high t.2) h
+      not_both (ap is_integer_kind (one_end p.ends t.1) ∙ end_integer t.0 low high t.2) h
 
   module _ (source : Source) (scope : Path) (form : TypeForm) where
     one_integer : (k : Kind) → IsOnly (KindIs source scope form) (Some k) → (b : Bool) → ends_in_integer (kind_extent table k) ≡ b

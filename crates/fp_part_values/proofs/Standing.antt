@@ -1,9 +1,6 @@
 -- Type names stand where their uses have meanings, their sizes have values, and no rule is broken at them.
-use Rattle.std.proofs.Common.{◌≡◌, ◌+◌, ◌≤◌, Bool, true, false, ℕ, zero, suc, ℤ, pos, negsuc, List, [], ◌∷◌, drop, flat_map, slice_get, Option, Some, None, refl, inl, inr, ap, ◌∙◌, subst, arith}
-use Rattle.std.specs.Prelude.{int_le}
+use Rattle.std.proofs.Common.{◌≡◌, ◌+◌, Bool, true, false, ℕ, zero, suc, ℤ, List, [], ◌∷◌, drop, flat_map, slice_get, Option, Some, None, refl, inl, inr, ap, ◌∙◌, subst}
 use Rattle.std.specs.List.{AllByRecursion}
-use Rattle.std.proofs.lemmas.Bool.Decides.{nat_tests}
-use Rattle.fp_base.proofs.Bools.{both}
 use Rattle.fp_base.proofs.Lists.{each_before, each_behind, of_item}
 use Rattle.fp_base.specs.Least.{IsUnbroken}
 use Rattle.fp_base.specs.declared.place.Place.{Place}
@@ -28,6 +25,7 @@ use Rattle.fp_type_forms.specs.Resolved.{AreResolved, UseMeans}
 use Rattle.fp_type_forms.specs.Written.{IsStringSize, KindIs, NumberIs, types_before}
 use Rattle.fp_base.specs.declared.rule.Rule.TheVariants.{StringSize}
 use Rattle.fp_type_forms.proofs.Following.{items_owned}
+use Rattle.fp_type_forms.proofs.Sized.{size_number}
 use Rattle.fp_part_values.specs.FormBroken.{PartFormsBroken, scope_inside}
 use Rattle.fp_part_values.specs.Names.{type_names_of}
 use Rattle.fp_part_values.specs.FormStanding.{AreValued, NamesStand, NumbersStand}
@@ -75,13 +73,6 @@ module _ (source : Source) where
   all_stand marks rs (item.Written since p ∷ is) a h v = (v.0, all_stand marks rs is (a + 1) h.1 v.1)
 
 -- ---- a type name
-
-size_number : (most : ℕ) (z : ℤ) → is_size most z ≡ true → (n : ℕ) × (z ≡ pos n) × (1 ≤ n) × (n ≤ most)
-size_number most z h = let t = both (int_le (pos 1) z) (int_le z (pos most)) h in go z t.0 t.1
-  where
-    go : (z : ℤ) → int_le (pos 1) z ≡ true → int_le z (pos most) ≡ true → (n : ℕ) × (z ≡ pos n) × (1 ≤ n) × (n ≤ most)
-    go (pos n) low high = (n, refl, grind (arith, nat_tests), grind (arith, nat_tests))
-    go (negsuc n) low high = absurd (cc)
 
 module _ (source : Source) (scope : Path) where
   text_size : (e : Expr) (v : Value) → Val source scope (opened e) v → ((f : Refusal) → BrokenBySize source scope StringSize 65535 e f → ⊥) → (n : ℕ) × IsStringSize source scope e n

@@ -1,25 +1,22 @@
 -- The least of the floats in an expression, by the form that stands in the tree.
-use Rattle.std.proofs.Common.{◌≡◌, ◌⊎◌, ℕ, ℤ, Bool, ◌≤◌, suc, List, [], ◌∷◌, length, slice_get, Option, Some, None, option_map, refl, inl, inr, sym, ap, subst, ◌∙◌, arith}
-use Rattle.std.proofs.lemmas.Option.{slice_get-map}
+use Rattle.std.proofs.Common.{◌≡◌, ◌⊎◌, ℕ, ℤ, Bool, List, [], slice_get, Option, Some, None, refl, inl, inr, sym, ap, subst, ◌∙◌}
 use Rattle.fp_base.specs.declared.place.Place.{Place}
 use Rattle.fp_base.specs.declared.refusal.Refusal.{Refusal}
 use Rattle.fp_base.specs.declared.rule.Rule.TheVariants.{FloatUsed}
 use Rattle.fp_base.specs.Least.{broken_at, InSome, IsLeast, lesser_of}
 use Rattle.fp_base.proofs.Calculus.{least_none, least_only, least_same}
+use Rattle.fp_base.proofs.Lists.{no_item}
 use Rattle.fp_tree.specs.declared.name.Qual.{Qual}
 use Rattle.fp_tree.specs.declared.expression.Operator.{Operator}
 use Rattle.fp_tree.specs.declared.expression.Expr.{Expr}
 use Rattle.fp_tree.specs.declared.expression.Assignment.{Assignment}
-use Rattle.fp_tree.specs.declared.expression.Form.{Form, out-Form, roll-Form, out-roll-Form}
 use Rattle.fp_tree.specs.declared.expression.Form.TheOpen as form
 use Rattle.fp_tree.specs.declared.expression.Form.TheVariants.{Number, rolls-Number, Float, rolls-Float, Text, rolls-Text, Truth, rolls-Truth, Use, rolls-Use, Minus, rolls-Minus, Parentheses, rolls-Parentheses, Binary, rolls-Binary, Array, rolls-Array, Struct, rolls-Struct}
 use Rattle.fp_meaning.specs.ConstantFaults.{parts_of}
 use Rattle.fp_meaning.specs.Values.{Opened, opened, values_in}
+use Rattle.fp_meaning.proofs.Opened.{opened_by}
 use Rattle.fp_phases.specs.Broken.{HasFloat, itself, within, FloatBroken}
 use Rattle.fp_phases.proofs.Folding.{least_of_one, least_of_two}
-
-no_item : {A : Type 0} (k : ℕ) (x : A) → slice_get [] k ≡ Some x → ⊥
-no_item k x at = cc
 
 -- a float is the expression itself, or is in one of its parts
 abbrev InPart : Expr → Place → Type 0
@@ -34,9 +31,6 @@ found e place (within {part = part} k at h) = inr (k, part, at, h)
 
 abbrev FloatAmong : List Expr → Refusal → Type 0
 FloatAmong es = InSome (λ k. FloatBroken) es
-
-opened_by : (e : Expr) (f : Form) (o : Opened) → e.form ≡ f → f ≡ roll-Form o → opened e ≡ o
-opened_by e f o is rolls = ap out-Form (is ∙ rolls) ∙ out-roll-Form o
 
 module _ (e : Expr) where
   -- of an expression that is no float
@@ -99,15 +93,3 @@ module _ (e : Expr) where
   pub struct_arm : (members : List Assignment) (r : Option Refusal) → e.form ≡ Struct members → IsLeast (FloatAmong (values_in members)) r
       → IsLeast (FloatBroken e) r
   struct_arm members r is l = of_parts (form.Struct members) r (opened_by e (Struct members) (form.Struct members) is (sym (rolls-Struct members))) (λ same. cc) l
-
--- ---- the values of members
-
-pub member_at : (members : List Assignment) (k : ℕ) (m : Assignment) → slice_get members k ≡ Some m → slice_get (values_in members) k ≡ Some m.value
-member_at members k m at = slice_get-map (λ (x : Assignment). x.value) members k ∙ ap (λ (o : Option Assignment). option_map (λ x. x.value) o) at
-
-values_length : (members : List Assignment) → length (values_in members) ≡ length members
-values_length [] = refl
-values_length (m ∷ ms) = ap (λ (n : ℕ). suc n) (values_length ms)
-
-pub values_past : (members : List Assignment) (k : ℕ) → length members ≤ k → length (values_in members) ≤ k
-values_past members k end = let same = values_length members in omega arith

@@ -2,14 +2,12 @@
 use Rattle.std.proofs.Common.{ℕ, List}
 use Rattle.std.specs.List.{AllByRecursion as Each}
 use Rattle.fp_base.specs.declared.place.Place.{Place}
-use Rattle.fp_tree.specs.declared.name.Name.{Name}
 use Rattle.fp_tree.specs.declared.definition.Def.{Def}
 use Rattle.fp_tree.specs.declared.expression.Expr.{Expr}
 use Rattle.fp_tree.specs.declared.type_name.TypeName.{TypeName}
 use Rattle.fp_meaning.specs.Layout.{expression_items, type_items, items_in}
 use Rattle.fp_meaning.specs.Sites.{ModelDef, machine, component, interface, instance, topology}
 use Rattle.fp_parse_defs.specs.Definitions.{noted_definition}
-use Rattle.fp_base.proofs.Lists.{each_of_any}
 use Rattle.fp_places.specs.Parts.{names_in_expression, names_in_type, names_in_definition}
 use Rattle.fp_places.proofs.Preserving.{gives_anything, gives_less}
 use Rattle.fp_places.proofs.Held.{Held}
@@ -22,13 +20,7 @@ use Rattle.fp_places.proofs.Machines.{machine_yields}
 use Rattle.fp_places.proofs.Instances.{instance_yields}
 use Rattle.fp_places.proofs.Topologies.{topology_yields}
 use Rattle.fp_places.proofs.Definitions.{StandInType, StandNoted, StandOf, type_placed, type_yields, definition_placed, definition_yields}
-
--- nothing is said of names
-abbrev pub AnyName : Name → Type 0
-AnyName n = Unit {0}
-
-pub any_names : (ns : List Name) → Each AnyName ns
-any_names ns = each_of_any AnyName (λ n. tt) ns
+use Rattle.fp_places.proofs.Anything.{AnyName, any_names}
 
 module _ (G : Place → Type 0) (depth : ℕ) where
   pub value_held : (e : Expr) → StandIn G e → Held (StandOf G) AnyName (λ scope. expression_items 0 scope e) (names_in_expression e)

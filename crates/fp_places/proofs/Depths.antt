@@ -18,21 +18,16 @@ use Rattle.fp_parse_defs.specs.Words.{leaf, literal, literal_form, named}
 use Rattle.fp_parse_pieces.specs.Lists.{commas}
 use Rattle.fp_parse_defs.specs.Language.{Level, level, begins, combined, lower, factor_body, factor_of, term_body, term_of, expr_body, expr_of, made_minus, negated_of, made_group, group_of, with_item, no_items, items_of, made_array, array_of, made_setting, setting_of, with_member, no_members, or_no_members, members_of, made_struct, struct_of, inside_of, expression}
 use Rattle.fp_base.proofs.Lists.{InOption}
+use Rattle.fp_base.proofs.Numbers.{max_none}
 use Rattle.fp_places.specs.Depths.{depth_of, depth_in_form, depth_in_assignment}
 use Rattle.fp_places.proofs.Preserving.{Gives, LanguageGives, gives_anything, gives_map, gives_seq, gives_alt, gives_optional, gives_chain, gives_ref, gives_seal}
 use Rattle.fp_places.proofs.Lists.{gives_some_of}
 use Rattle.fp_places.proofs.SiteWalks.{whole_depth, assigned_depth, number_depth, float_depth, text_depth, truth_depth, use_depth, minus_depth, parentheses_depth, binary_depth, array_depth, struct_depth}
-
--- nothing is said of a token
-abbrev pub AnyToken : Token → Type 0
-AnyToken t = Unit {0}
+use Rattle.fp_places.proofs.Anything.{AnyToken}
 
 -- the grammar gives nodes of which Q holds, whatever the tokens
 abbrev pub Yields : {X : Type 0} → Grammar Token X → (X → Type 0) → Type 0
 Yields g Q = Gives kind AnyToken g Q
-
-max_none : (n : ℕ) → max n 0 ≡ max 0 n
-max_none n = omega arith
 
 deepest_more : {A : Type 0} (f : A → ℕ) (xs : List A) (x : A) → deepest (map f (xs ++ x ∷ [])) ≡ max (deepest (map f xs)) (f x)
 deepest_more f [] x = max_none (f x)

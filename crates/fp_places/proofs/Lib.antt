@@ -1,7 +1,7 @@
 mod Begun
 mod Components
 pub mod Definitions
-mod Depths
+pub mod Depths
 pub mod Expressions
 pub mod Held
 mod Instances
@@ -27,3 +27,4 @@ mod Topologies
 pub mod Walks
 mod Words
 mod Writing
+pub mod Anything

@@ -18,10 +18,10 @@ use Rattle.fp_tree.specs.declared.machine.Behavior.{Behavior}
 use Rattle.fp_tree.specs.declared.machine.Machine.{Machine}
 use Rattle.fp_meaning.specs.Sites.{in_optional, machine as machine_def}
 use Rattle.fp_parse_pieces.specs.Kinds.{k_dot, k_open_brace}
-use Rattle.fp_parse_defs.specs.Definitions.{k_colon}
+use Rattle.fp_parse_defs.specs.Definitions.{k_colon, repr_part}
 use Rattle.fp_parse_states.specs.declared.head.Head.{Head}
 use Rattle.fp_parse_states.specs.Transitions.{k_do, k_enter, made_action, action_with_note, actions, made_do, do_body, do_list, made_goto, goto_body, goto, goto_or_do, transition}
-use Rattle.fp_parse_states.specs.Elements.{k_else, k_entry, k_exit, k_if, k_initial, k_on, k_state, made_state, state_head, made_choice, choice, made_initial, initial, type_part, made_signal, signal, made_action_def, action, made_guard, guard, made_on, on_signal, made_entry, entry_actions, made_exit, exit_actions, own, element}
+use Rattle.fp_parse_states.specs.Elements.{k_else, k_entry, k_exit, k_if, k_initial, k_on, k_state, made_state, state_head, made_choice, choice, made_initial, initial, made_signal, signal, made_action_def, action, made_guard, guard, made_on, on_signal, made_entry, entry_actions, made_exit, exit_actions, own, element}
 use Rattle.fp_parse_states.specs.Nested.{NestedElements, Lines, SpellsBehind, SpellsElements, SpellsRest, elements_of, size, body, k_machine, made_machine, machine}
 use Rattle.fp_parse_states.specs.Nested.NestedElements.{none, without_body, with_body}
 use Rattle.fp_base.proofs.Lists.{InOption, each_append, each_before, each_behind, each_flat, each_mapped}
@@ -114,7 +114,7 @@ module _ (G : Place → Type 0) (depth : ℕ) where
   abbrev MaybeType : Option TypeName → Type 0
   MaybeType o = Each G (in_optional places_in_type o)
 
-  part_yields : Yields G (type_part depth) MaybeType
+  part_yields : Yields G (repr_part depth) MaybeType
   part_yields = gives_less MaybeType (optional_stands G places_in_type) (gives_optional (gives_after k_colon (type_yields G depth)))
 
   signal_stands : (p : Span × (Name × Option TypeName)) → Unit {0} × (G p.1.0.at.first × MaybeType p.1.1) → HeadStands (made_signal p)

@@ -3,7 +3,6 @@ use Rattle.std.proofs.Common.{◌≤◌, List}
 use Rattle.fp_base.proofs.Lists.{each_of_any, of_contained}
 use Rattle.fp_base.specs.declared.place.Place.{Place}
 use Rattle.fp_lexer.specs.declared.token.Token.{Token}
-use Rattle.fp_tree.specs.declared.name.Name.{Name}
 use Rattle.fp_tree.specs.declared.member.Member.{Member}
 use Rattle.fp_meaning.specs.Origins.{Placed}
 use Rattle.fp_parse_defs.specs.Reading.{limit}
@@ -12,13 +11,11 @@ use Rattle.fp_places.specs.Depths.{depth_of}
 use Rattle.fp_places.specs.Nesting.{KeepsLimit}
 use Rattle.fp_places.proofs.Words.{IsTold}
 use Rattle.fp_places.proofs.SiteMembers.{kept_of_all, modules_of_all, all_yield}
+use Rattle.fp_places.proofs.Anything.{AnyName}
 
 -- nothing is said of a place, nor of a name
 abbrev AnyPlace : Place → Type 0
 AnyPlace place = Unit {0}
-
-abbrev AnyName : Name → Type 0
-AnyName n = Unit {0}
 
 pub keeping : (tokens : List Token) (ms : List Member) → SpellsUnit tokens ms → KeepsLimit ms
 keeping tokens ms spelled =

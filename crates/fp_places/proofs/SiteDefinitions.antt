@@ -37,7 +37,8 @@ use Rattle.fp_places.proofs.Preserving.{gives_anything, gives_map, gives_seq, gi
 use Rattle.fp_places.proofs.Lists.{each_or_none, gives_some_of}
 use Rattle.fp_places.proofs.Words.{Yields, SitedName, at_yields, name_yields, qual_yields}
 use Rattle.fp_places.proofs.SiteExpressions.{Stand, same_names, expression_yields}
-use Rattle.fp_places.proofs.Depths.{AnyToken, expression_keeps}
+use Rattle.fp_places.proofs.Depths.{expression_keeps}
+use Rattle.fp_places.proofs.Anything.{AnyToken}
 
 module _ (G : Place → Type 0) (N : Name → Type 0) (depth : ℕ) where
   -- what an item defines and uses stands at such places, and its expressions nest no deeper

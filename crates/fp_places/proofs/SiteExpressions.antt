@@ -16,6 +16,7 @@ use Rattle.fp_tree.specs.declared.expression.Operator.{Operator}
 use Rattle.fp_grammar.specs.Grammar.{Grammar, Language}
 use Rattle.fp_meaning.specs.declared.names.Mention.{Mention}
 use Rattle.fp_meaning.specs.Names.{Path, in_form, in_expression, in_assignment}
+use Rattle.fp_meaning.proofs.UseWalks.{whole_uses, number_uses, float_uses, text_uses, truth_uses, use_uses, minus_uses, parentheses_uses, binary_uses, array_uses}
 use Rattle.fp_parse_defs.specs.declared.measured.Measured.{Measured}
 use Rattle.fp_parse_defs.specs.declared.measured.Setting.{Setting}
 use Rattle.fp_parse_defs.specs.declared.measured.Items.{Items}
@@ -28,7 +29,7 @@ use Rattle.fp_base.proofs.Lists.{InOption, each_append, each_push, each_flat, ea
 use Rattle.fp_places.specs.Parts.{names_in_expression, names_in_form, names_in_assignment}
 use Rattle.fp_places.proofs.Preserving.{LanguageGives, gives_anything, gives_map, gives_seq, gives_alt, gives_optional, gives_chain, gives_ref, gives_seal}
 use Rattle.fp_places.proofs.Lists.{gives_some_of}
-use Rattle.fp_places.proofs.SiteWalks.{whole_uses, assigned_uses, number_uses, float_uses, text_uses, truth_uses, use_uses, minus_uses, parentheses_uses, binary_uses, array_uses, struct_uses, whole_names, assigned_names, number_names, float_names, text_names, truth_names, use_names, minus_names, parentheses_names, binary_names, array_names, struct_names}
+use Rattle.fp_places.proofs.SiteWalks.{assigned_uses, whole_names, assigned_names, number_names, float_names, text_names, truth_names, use_names, minus_names, parentheses_names, binary_names, array_names, struct_names, struct_assigned}
 use Rattle.fp_places.proofs.Words.{IsTold, Yields, SitedQual, at_yields, name_yields, qual_yields}
 
 module _ (G : Place → Type 0) (N : Name → Type 0) where
@@ -127,7 +128,7 @@ module _ (G : Place → Type 0) (N : Name → Type 0) where
   StandInValue a = Holds in_assignment names_in_assignment a
 
   struct_stands : (p : Span × (Assignments × Span)) → Each StandInValue p.1.0.row → StandIn (made_struct p).expr
-  struct_stands p h = of_form (made_struct p).expr (record { uses = λ scope. same_stand _ _ (struct_uses scope p.1.0.row) (flat_uses _ _ p.1.0.row h scope); names = same_names _ _ (struct_names p.1.0.row) (flat_names _ _ p.1.0.row h) })
+  struct_stands p h = of_form (made_struct p).expr (record { uses = λ scope. same_stand _ _ (struct_assigned scope p.1.0.row) (flat_uses _ _ p.1.0.row h scope); names = same_names _ _ (struct_names p.1.0.row) (flat_names _ _ p.1.0.row h) })
 
   item_stands : (items : Items) (x : Measured) (lines : List (List ℕ)) → Each StandIn items.row → StandIn x.expr → Each StandIn (with_item items x lines).row
   item_stands items x lines h k = each_push StandIn items.row _ h (of_form (record { form = x.expr.form; at = x.expr.at; note = joined lines }) (form_of x.expr k))

@@ -20,10 +20,10 @@ use Rattle.fp_meaning.specs.Layout.{type_items, element_form_items, element_item
 use Rattle.fp_parse_pieces.specs.Kinds.{k_dot, k_open_brace}
 use Rattle.fp_parse_states.specs.declared.head.Head.{Head}
 use Rattle.fp_parse_states.specs.Transitions.{k_do, k_enter, made_action, action_with_note, actions, made_do, do_body, do_list, made_goto, goto_body, goto, goto_or_do, transition}
-use Rattle.fp_parse_states.specs.Elements.{k_else, k_if, made_state, state_head, made_choice, choice, made_initial, initial, type_part, made_signal, signal, made_action_def, action, made_guard, guard, made_on, on_signal, made_entry, entry_actions, made_exit, exit_actions, own, element}
+use Rattle.fp_parse_states.specs.Elements.{k_else, k_if, made_state, state_head, made_choice, choice, made_initial, initial, made_signal, signal, made_action_def, action, made_guard, guard, made_on, on_signal, made_entry, entry_actions, made_exit, exit_actions, own, element}
 use Rattle.fp_parse_states.specs.Nested.{NestedElements, Lines, SpellsBehind, SpellsElements, SpellsRest, elements_of, size, body, k_machine, made_machine, machine}
 use Rattle.fp_parse_states.specs.Nested.NestedElements.{none, without_body, with_body}
-use Rattle.fp_parse_defs.specs.Definitions.{k_colon}
+use Rattle.fp_parse_defs.specs.Definitions.{k_colon, repr_part}
 use Rattle.fp_meaning.specs.Names.{in_optional}
 use Rattle.fp_base.proofs.Lists.{InOption, each_append, each_before, each_behind}
 use Rattle.fp_places.specs.Parts.{names_in_type}
@@ -110,7 +110,7 @@ module _ {depth : ℕ} (law : Known depth) where
   abbrev MaybeType : Option TypeName → Type 0
   MaybeType o = Says law (λ scope. in_optional (type_items 0 scope) o) (in_optional names_in_type o)
 
-  part_yields : Yields law (type_part depth) MaybeType
+  part_yields : Yields law (repr_part depth) MaybeType
   part_yields = gives_less MaybeType (held_option (type_items 0) names_in_type) (gives_optional (gives_after k_colon law.types_given))
 
   signal_said : (p : Span × (Name × Option TypeName)) → Unit {0} × (law.Naming p.1.0 × MaybeType p.1.1) → HeadSaid (made_signal p)

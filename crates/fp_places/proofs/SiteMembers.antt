@@ -1,6 +1,6 @@
 -- What the items of a member of a file define and use stands where tokens begin, its names are names that tokens have, and its expressions
 -- and the modules in it nest no deeper than is allowed.
-use Rattle.std.proofs.Common.{◌≡◌, ℕ, zero, suc, ◌+◌, ◌≤◌, max, List, [], ◌∷◌, ◌++◌, flat_map, subst, sym, arith}
+use Rattle.std.proofs.Common.{◌≡◌, ℕ, zero, suc, ◌+◌, ◌≤◌, List, [], ◌∷◌, ◌++◌, flat_map, subst, sym, arith}
 use Rattle.std.specs.List.{AllByRecursion as Each}
 use Rattle.fp_base.specs.declared.place.Place.{Place}
 use Rattle.fp_base.specs.declared.place.Span.{Span}
@@ -24,14 +24,16 @@ use Rattle.fp_grammar.specs.Grammar.{Language}
 use Rattle.fp_parse_pieces.specs.Kinds.{k_open_brace, k_close_brace}
 use Rattle.fp_parse_pieces.specs.Lists.{joined, or_none}
 use Rattle.fp_parse_defs.specs.Definitions.{definition}
+use Rattle.fp_parse_defs.specs.Specifiers.{k_include}
 use Rattle.fp_parse_parts.specs.declared.bare.BareMember.{BareMember}
 use Rattle.fp_parse_parts.specs.declared.bare.BareMember.TheVariants as bare
 use Rattle.fp_parse_parts.specs.declared.bare.ModelMember.{ModelMember}
-use Rattle.fp_parse_parts.specs.Members.{k_include, k_module, semicolons, definition_begins, definition_goes_on, definition_member, made_include, include, made_locate, locate, model_member, noted_definition, noted_member, with_member, member_of, members_of, made_module, modules, members}
+use Rattle.fp_parse_parts.specs.Members.{k_module, semicolons, definition_begins, definition_goes_on, definition_member, made_include, include, made_locate, locate, model_member, noted_definition, noted_member, with_member, member_of, members_of, made_module, modules, members}
 use Rattle.fp_places.specs.Depths.{depth_of, modules_within, modules_in}
 use Rattle.fp_places.specs.Names.{names_within, names_in}
 use Rattle.fp_places.specs.Includes.{includes_within, includes_in}
 use Rattle.fp_base.proofs.Lists.{each_push, each_flat, each_weaker}
+use Rattle.fp_base.proofs.Numbers.{max_within}
 use Rattle.fp_places.proofs.Preserving.{LanguageGives, gives_anything, gives_map, gives_seq, gives_alt, gives_optional, gives_ref, gives_seal, gives_after}
 use Rattle.fp_places.proofs.Lists.{each_or_none, gives_some_of}
 use Rattle.fp_places.proofs.SiteWalks.{module_includes, definition_includes, include_includes, locate_includes, module_names, definition_names, include_names, locate_names, module_depth, definition_depth, include_depth, locate_depth}
@@ -47,9 +49,6 @@ no_modules n k e = omega arith
 
 one_module : (n inner k : ℕ) → n ≡ inner + 1 → inner ≤ k → n ≤ suc k
 one_module n inner k e h = omega arith
-
-both_within : (n m k : ℕ) → n ≤ k → m ≤ k → max n m ≤ k
-both_within n m k h g = omega arith
 
 module _ (G : Place → Type 0) (N : Name → Type 0) (expressions : ℕ) where
   -- all these items are such items
@@ -96,7 +95,7 @@ module _ (G : Place → Type 0) (N : Name → Type 0) (expressions : ℕ) where
 
     pub modules_of_all : (ms : List Member) → Each (SitedMember depth) ms → modules_in ms ≤ depth
     modules_of_all [] hs = omega arith
-    modules_of_all (m ∷ ms) hs = both_within (modules_within m) (modules_in ms) depth hs.0.modules (modules_of_all ms hs.1)
+    modules_of_all (m ∷ ms) hs = max_within (modules_within m) (modules_in ms) depth hs.0.modules (modules_of_all ms hs.1)
 
   same_given : (is js : List Item) → is ≡ js → Given js → Given is
   same_given is js e h = subst Given (sym e) h

@@ -18,7 +18,7 @@ use Rattle.fp_tree.specs.declared.member.Member.TheOpen as member
 use Rattle.fp_tree.specs.declared.member.Member.TheVariants as node
 use Rattle.fp_meaning.specs.declared.group.Group.TheVariants as group
 use Rattle.fp_meaning.specs.declared.names.Mention.{Mention}
-use Rattle.fp_meaning.specs.Names.{Path, mentioned, form_step, assignment_step, expression_step, in_form, in_expression, in_assignment}
+use Rattle.fp_meaning.specs.Names.{Path, form_step, assignment_step, expression_step, in_form, in_expression, in_assignment}
 use Rattle.fp_meaning.specs.Values.{deepest}
 use Rattle.fp_places.specs.Depths.{depth_of_form, depth_of_assignment, depth_of_expression, depth_of, depth_in_form, depth_in_assignment, modules_of_member, modules_of_module, modules_within, modules_in}
 use Rattle.fp_places.specs.Parts.{names_of_form, names_of_assignment, names_of_expression, names_in_expression, names_in_form, names_in_assignment, names_in_definition}
@@ -58,41 +58,11 @@ module _ {B : Type 0} (f : Form-F B B B → B) (a : Assignment-F B B B → B) (e
   struct_walk members = ap (fold-Form B B B f a e) (sym (rolls-Struct members)) ∙ fold-roll-Form B B B f a e (form.Struct members)
 
 module _ (scope : Path) where
-  pub whole_uses : (e : Expr) → in_expression scope e ≡ in_form scope e.form
-  whole_uses e = fold_out-Expr (List Mention) (List Mention) (List Mention) (form_step scope) (assignment_step scope) (expression_step scope) e
-
   pub assigned_uses : (a : Assignment) → in_assignment scope a ≡ in_expression scope a.value
   assigned_uses a = fold_out-Assignment (List Mention) (List Mention) (List Mention) (form_step scope) (assignment_step scope) (expression_step scope) a
 
-  pub number_uses : (n : ℤ) → in_form scope (Number n) ≡ []
-  number_uses n = number_walk (form_step scope) (assignment_step scope) (expression_step scope) n
-
-  pub float_uses : in_form scope Float ≡ []
-  float_uses = float_walk (form_step scope) (assignment_step scope) (expression_step scope)
-
-  pub text_uses : (t : List ℕ) → in_form scope (Text t) ≡ []
-  text_uses t = text_walk (form_step scope) (assignment_step scope) (expression_step scope) t
-
-  pub truth_uses : (b : Bool) → in_form scope (Truth b) ≡ []
-  truth_uses b = truth_walk (form_step scope) (assignment_step scope) (expression_step scope) b
-
-  pub use_uses : (q : Qual) → in_form scope (Use q) ≡ mentioned group.Value scope q ∷ []
-  use_uses q = use_walk (form_step scope) (assignment_step scope) (expression_step scope) q
-
-  pub minus_uses : (a : Expr) → in_form scope (Minus a) ≡ in_expression scope a
-  minus_uses a = minus_walk (form_step scope) (assignment_step scope) (expression_step scope) a
-
-  pub parentheses_uses : (a : Expr) → in_form scope (Parentheses a) ≡ in_expression scope a
-  parentheses_uses a = parentheses_walk (form_step scope) (assignment_step scope) (expression_step scope) a
-
-  pub binary_uses : (operator : Operator) (a b : Expr) → in_form scope (Binary operator a b) ≡ in_expression scope a ++ in_expression scope b
-  binary_uses operator a b = binary_walk (form_step scope) (assignment_step scope) (expression_step scope) operator a b
-
-  pub array_uses : (items : List Expr) → in_form scope (Array items) ≡ flat_map (in_expression scope) items
-  array_uses items = array_walk (form_step scope) (assignment_step scope) (expression_step scope) items ∙ flat_map-map (λ (uses : List Mention). uses) (in_expression scope) items
-
-  pub struct_uses : (members : List Assignment) → in_form scope (Struct members) ≡ flat_map (in_assignment scope) members
-  struct_uses members = struct_walk (form_step scope) (assignment_step scope) (expression_step scope) members ∙ flat_map-map (λ (uses : List Mention). uses) (in_assignment scope) members
+  pub struct_assigned : (members : List Assignment) → in_form scope (Struct members) ≡ flat_map (in_assignment scope) members
+  struct_assigned members = struct_walk (form_step scope) (assignment_step scope) (expression_step scope) members ∙ flat_map-map (λ (uses : List Mention). uses) (in_assignment scope) members
 
 -- the names in an expression
 pub whole_names : (e : Expr) → names_in_expression e ≡ names_in_form e.form

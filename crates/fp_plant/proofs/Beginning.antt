@@ -2,9 +2,11 @@
 use Rattle.std.proofs.Common.{◌≡◌, ◌≤◌, ◌<◌, ◌⊎◌, inl, inr, ℕ, suc, ◌+◌, false, List, [], ◌∷◌, ◌++◌, map, drop, length, slice_get, Some, refl, sym, ap, ◌∙◌, subst, arith}
 use Rattle.std.specs.Prelude.{All}
 use Rattle.std.proofs.lemmas.List.{length-append, length-map, map-append}
-use Rattle.std.proofs.lemmas.Option.{slice_get-map, slice_get_within}
-use Rattle.fp_base.proofs.Lists.{get_last}
-use Rattle.fp_base.proofs.Options.{same_some, mapped_some}
+use Rattle.std.proofs.lemmas.Option.{slice_get_within}
+use Rattle.fp_base.proofs.Lists.{get_last, same_items}
+use Rattle.fp_base.proofs.Options.{same_some}
+use Rattle.fp_base.proofs.Spots.{item_below, push_cases}
+use Rattle.fp_base.proofs.Mapped.{get_mapped}
 use Rattle.fp_tables.specs.Lookup.{Described, placed}
 use Rattle.fp_tables.specs.declared.program.Program.{Program}
 use Rattle.fp_events.specs.declared.event.Entry.{Entry}
@@ -19,11 +21,7 @@ use Rattle.fp_plant.specs.Hands.{passing, IsHand, IsOwn}
 use Rattle.fp_plant.specs.Opened.{IsNewPass, AreDealt, AreNewPasses, IsHandOf}
 use Rattle.fp_plant.specs.Planted.{Passing, Handed, AreAll, IsOpened}
 use Rattle.fp_plant.specs.Rows.{EachItem, HasShape, Gets}
-use Rattle.fp_plant.proofs.Dealing.{some_at, push_cases, shape_more, each_more, same_items, drop_head, all_push}
-
--- an item of a mapped list is that of one of the list
-pub found_in : {A B : Type 0} (f : A → B) (xs : List A) (k : ℕ) (y : B) → slice_get (map f xs) k ≡ Some y → (x : A) × (slice_get xs k ≡ Some x) × (f x ≡ y)
-found_in f xs k y h = mapped_some f (slice_get xs k) y (sym (slice_get-map f xs k) ∙ h)
+use Rattle.fp_plant.proofs.Dealing.{shape_more, each_more, drop_head, all_push}
 
 -- the actor of a number at the opening
 abbrev pub opened_acting : Described → Program → ℕ → Acting
@@ -94,7 +92,7 @@ module _ {T : Type 0} {g : Ghosts T CellName Entry} (t : Described) (p : Program
     each = λ k i x at_i its.
         let low : k < length row = slice_get_within row k x its in
         let wide : length row ≡ length locks = dealt.shape.each a row at in
-        let lock = some_at locks k (omega (arith, low, wide)) in
+        let lock = item_below locks k (omega (arith, low, wide)) in
         (lock.0, dealt.each a k row x at its lock.0 i lock.1 at_i);
   }
 
@@ -105,7 +103,7 @@ module _ {T : Type 0} {g : Ghosts T CellName Entry} (t : Described) (p : Program
     told = refl;
     count = length-map row (λ x. passing x) ∙ new.count;
     own = λ k i q at its.
-        let x = found_in (λ x. passing x) row k q its in
+        let x = get_mapped (λ x. passing x) row k q its in
         let n = new.each k i x.0 at x.1 in
         subst (IsOwn (opened_acting t p a) i) x.2 (record { number = n.1.pass.1; made = n.1.pass.2; name = n.1.fresh.0; left = n.1.fresh.1 });
   })
@@ -113,7 +111,7 @@ module _ {T : Type 0} {g : Ghosts T CellName Entry} (t : Described) (p : Program
   pub all_idle : (a : ℕ) (row : List (Pass T CellName Entry g)) → AreNewPasses t p a row → (k : ℕ) (x : Pass T CellName Entry g) → slice_get row k ≡ Some x → IsIdle x
   all_idle a row new k x its =
       let low : k < length row = slice_get_within row k x its in
-      let i = some_at (placed t) k (omega (arith, low, new.count)) in
+      let i = item_below (placed t) k (omega (arith, low, new.count)) in
       (new.each k i.0 x i.1 its).1.idle
 
   -- the hands that were made so far, and the rows that are left
@@ -159,7 +157,7 @@ module _ {T : Type 0} {g : Ghosts T CellName Entry} (t : Described) (p : Program
     row_of : (a : ℕ) (h : Handed) → slice_get hands a ≡ Some h → (row : List (Pass T CellName Entry g)) × (slice_get rows a ≡ Some row) × IsHandOf t p a row h
     row_of a h at =
         let low : a < length hands = slice_get_within hands a h at in
-        let row = some_at rows a (omega (arith, low, count)) in
+        let row = item_below rows a (omega (arith, low, count)) in
         (row.0, row.1, each a row.0 h row.1 at)
 
     the_locks : (a : ℕ) (row : List (Pass T CellName Entry g)) → slice_get rows a ≡ Some row → map (λ (q : Passing). q.lock) (map (λ x. passing x) row) ≡ locks
@@ -167,10 +165,10 @@ module _ {T : Type 0} {g : Ghosts T CellName Entry} (t : Described) (p : Program
         same_items (map (λ (q : Passing). q.lock) (map (λ x. passing x) row)) locks
         (length-map (map (λ x. passing x) row) (λ (q : Passing). q.lock) ∙ (length-map row (λ x. passing x) ∙ dealt.shape.each a row at))
         (λ k l m at_l at_m.
-        let q = found_in (λ (q : Passing). q.lock) (map (λ x. passing x) row) k l at_l in
-        let x = found_in (λ x. passing x) row k q.0 q.1 in
+        let q = get_mapped (λ (q : Passing). q.lock) (map (λ x. passing x) row) k l at_l in
+        let x = get_mapped (λ x. passing x) row k q.0 q.1 in
         let low : k < length locks = slice_get_within locks k m at_m in
-        let i = some_at (placed t) k (omega (arith, low, long)) in
+        let i = item_below (placed t) k (omega (arith, low, long)) in
         let new : IsNewPass t p m i.0 a x.0 = dealt.each a k row x.0 at x.1 m i.0 at_m i.1 in
         sym q.2 ∙ (ap (λ (z : Passing). z.lock) (sym x.2) ∙ new.pass.0))
 
@@ -196,11 +194,11 @@ module _ {T : Type 0} {g : Ghosts T CellName Entry} (t : Described) (p : Program
               ∙ (ap (λ (z : Program). opened_at z a) (sym (ap (λ (b : Acting). b.program) r.2.actor)) ∙ ap (λ (n : ℕ). opened_at h.actor.program n) (sym (ap (λ (b : Acting). b.number) r.2.actor)));
           trace = ap (λ (b : Acting). b.trace) r.2.actor;
           passes = λ k q its.
-              let x = found_in (λ x. passing x) r.0 k q (subst (λ (z : List Passing). slice_get z k ≡ Some q) r.2.passes its) in
+              let x = get_mapped (λ x. passing x) r.0 k q (subst (λ (z : List Passing). slice_get z k ≡ Some q) r.2.passes its) in
               let low : k < length r.0 = slice_get_within r.0 k x.0 x.1 in
               let wide : length r.0 ≡ length locks = dealt.shape.each a r.0 r.1 in
-              let lock = some_at locks k (omega (arith, low, wide)) in
-              let i = some_at (placed t) k (omega (arith, low, wide, long)) in
+              let lock = item_below locks k (omega (arith, low, wide)) in
+              let i = item_below (placed t) k (omega (arith, low, wide, long)) in
               let new : IsNewPass t p lock.0 i.0 a x.0 = dealt.each a k r.0 x.0 r.1 x.1 lock.0 i.0 lock.1 i.1 in
               subst (λ (z : Passing). (z.view.left ≡ []) × (z.view.base ≡ []) × (z.view.turns ≡ 0)) x.2 (new.fresh.1, new.fresh.2, new.fresh.3);
         }

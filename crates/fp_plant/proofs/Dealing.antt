@@ -6,6 +6,7 @@ use Rattle.std.proofs.Math.Nat.{eq-or-lt_of_le}
 use Rattle.std.proofs.lemmas.List.{length-append, length-set}
 use Rattle.std.proofs.lemmas.Option.{slice_get-get_or, slice_get_within, get_or_from_slice_get}
 use Rattle.fp_base.proofs.Options.{same_some}
+use Rattle.fp_base.proofs.Spots.{item_below, push_cases}
 use Rattle.fp_gate.specs.Passes.{EachAt}
 use Rattle.fp_plant.specs.Rows.{EachItem, HasShape, Extends, Gets}
 
@@ -20,21 +21,6 @@ set_there (x ∷ xs) zero zero y ne = absurd (ne refl)
 set_there (x ∷ xs) zero (suc j) y ne = refl
 set_there (x ∷ xs) (suc i) zero y ne = refl
 set_there (x ∷ xs) (suc i) (suc j) y ne = set_there xs i j y (λ e. ne (ap suc e))
-
-pub some_at : {A : Type 0} (xs : List A) (k : ℕ) → k < length xs → (x : A) × (slice_get xs k ≡ Some x)
-some_at [] k low = absurd (omega (arith, low))
-some_at (x ∷ xs) zero low = (x, refl)
-some_at (x ∷ xs) (suc k) low = some_at xs k (omega (arith, low))
-
-pub push_cases : {A : Type 0} (xs : List A) (x : A) (k : ℕ) (y : A) → slice_get (xs ++ x ∷ []) k ≡ Some y → (slice_get xs k ≡ Some y) ⊎ ((k ≡ length xs) × (y ≡ x))
-push_cases [] x zero y h = inr (refl, sym (same_some h))
-push_cases [] x (suc k) y h = absurd (cc)
-push_cases (z ∷ xs) x zero y h = inl h
-push_cases (z ∷ xs) x (suc k) y h = go (push_cases xs x k y h)
-  where
-    go : (slice_get xs k ≡ Some y) ⊎ ((k ≡ length xs) × (y ≡ x)) → (slice_get xs k ≡ Some y) ⊎ ((suc k ≡ suc (length xs)) × (y ≡ x))
-    go (inl e) = inl e
-    go (inr e) = inr (ap suc e.0, e.1)
 
 pub drop_head : {A : Type 0} (xs : List A) (n : ℕ) (x : A) (rest : List A) → drop n xs ≡ x ∷ rest → (slice_get xs n ≡ Some x) × (rest ≡ drop (suc n) xs)
 drop_head [] zero x rest h = absurd (cc)
@@ -61,13 +47,6 @@ all_push {A} P xs x ys all here is = get_all P ys (λ k y at. go k y (push_cases
     go : (k : ℕ) (y : A) → (slice_get xs k ≡ Some y) ⊎ ((k ≡ length xs) × (y ≡ x)) → P y
     go k y (inl e) = all_get P xs k y all e
     go k y (inr e) = subst P (sym e.1) here
-
--- lists of one length with the same items
-pub same_items : {A : Type 0} (xs ys : List A) → length xs ≡ length ys → ((k : ℕ) (x y : A) → slice_get xs k ≡ Some x → slice_get ys k ≡ Some y → x ≡ y) → xs ≡ ys
-same_items [] [] long same = refl
-same_items [] (y ∷ ys) long same = absurd (omega (arith, long))
-same_items (x ∷ xs) [] long same = absurd (omega (arith, long))
-same_items (x ∷ xs) (y ∷ ys) long same = ap₂ ◌∷◌ (same zero x y refl refl) (same_items xs ys (omega (arith, long)) (λ k. same (suc k)))
 
 module _ {A : Type 0} where
   -- the rows below this one have got their items, and these items are left
@@ -131,7 +110,7 @@ module _ {A : Type 0} where
     count = more.count;
     each = λ r row was.
         let low : r < length old = slice_get_within old r row was in
-        let x = some_at xs r (omega (arith, low, long)) in
+        let x = item_below xs r (omega (arith, low, long)) in
         (x.0, more.each r row x.0 was x.1, each r x.0 x.1);
   }
 
@@ -140,7 +119,7 @@ module _ {A : Type 0} where
     grown : (r : ℕ) (row : List A) → slice_get new r ≡ Some row → (was : List A) × (x : A) × (slice_get old r ≡ Some was) × (row ≡ was ++ x ∷ []) × P r x
     grown r row at =
         let low : r < length new = slice_get_within new r row at in
-        let was = some_at old r (omega (arith, low, more.count)) in
+        let was = item_below old r (omega (arith, low, more.count)) in
         let g = more.each r was.0 was.1 in
         (was.0, g.0, was.1, same_some (sym at ∙ g.1), g.2)
 

@@ -5,8 +5,10 @@ use Rattle.std.proofs.Math.Nat.{eq-or-lt_of_le}
 use Rattle.std.proofs.lemmas.List.{length-append, length-map, map-append, take_all}
 use Rattle.std.proofs.lemmas.Option.{slice_get-map, slice_get_within}
 use Rattle.std.proofs.lemmas.Slice.Zip.{firsts-zip}
-use Rattle.fp_base.proofs.Lists.{take_next}
+use Rattle.fp_base.proofs.Lists.{take_next, same_items}
 use Rattle.fp_base.proofs.Options.{same_some}
+use Rattle.fp_base.proofs.Spots.{item_below, push_cases}
+use Rattle.fp_base.proofs.Mapped.{get_mapped}
 use Rattle.fp_system.specs.Run.{Kept}
 use Rattle.fp_tables.specs.Lookup.{Described, placed}
 use Rattle.fp_tables.specs.declared.program.Program.{Program}
@@ -30,8 +32,7 @@ use Rattle.fp_plant.specs.Hands.{passing, IsHand, IsOwn}
 use Rattle.fp_plant.specs.Noted.{NotedCell, IsNoted, noted, with_seen, booked, cell_name}
 use Rattle.fp_plant.specs.Planted.{Passing, Handed, Planted, AreAll}
 use Rattle.fp_plant.specs.Rows.{EachItem, HasShape, Extends, Gets}
-use Rattle.fp_plant.proofs.Dealing.{some_at, push_cases, shape_more, each_more, same_items, drop_head, at_get, get_at, all_get, gets_of}
-use Rattle.fp_plant.proofs.Beginning.{found_in}
+use Rattle.fp_plant.proofs.Dealing.{shape_more, each_more, drop_head, at_get, get_at, all_get, gets_of}
 
 -- ---- a cell whose passes have come back
 
@@ -72,7 +73,7 @@ module _ {T : Type 0} {g : Ghosts T CellName Entry} where
     where
       closes_at : (b : ℕ) (z : Passing) → slice_get (map (λ p. passing p) passes) b ≡ Some z → (z.view.name ≡ Some (cell_name h.cell.seat)) × (entries_of b (booked h) ≡ z.view.left)
       closes_at b z at_b =
-          let x = found_in (λ p. passing p) passes b z at_b in
+          let x = get_mapped (λ p. passing p) passes b z at_b in
           subst (λ (y : Passing). (y.view.name ≡ Some (cell_name h.cell.seat)) × (entries_of b (booked h) ≡ y.view.left)) x.2
           (at_get (λ c p. ((view_of p).name ≡ Some (cell_name h.cell.seat)) × (entries_of c (booked h) ≡ (view_of p).left)) passes b x.0 closes x.1)
 
@@ -231,7 +232,7 @@ module _ {T : Type 0} {g : Ghosts T CellName Entry} where
         → (h : Handed) × (slice_get hands a ≡ Some h) × IsOf h k x
     hand_at k a column x at its =
         let low : a < length column = slice_get_within column a x its in
-        let h = some_at hands a (omega (arith, low, shape.each k column at)) in
+        let h = item_below hands a (omega (arith, low, shape.each k column at)) in
         (h.0, h.1, each k a column x at its h.0 h.1)
 
     -- its own, of the instance at its place
@@ -252,7 +253,7 @@ module _ {T : Type 0} {g : Ghosts T CellName Entry} where
       each = get_at (λ a p. IsPass (id_of lock) (seats_of lock) a p × IsIdle p) column (λ a x its.
           let h = hand_at k a column x at its in
           let low : k < length w.locks = slice_get_within w.locks k (id_of lock) at_l in
-          let i = some_at (placed w.tables) k (omega (arith, low, placed_all)) in
+          let i = item_below (placed w.tables) k (omega (arith, low, placed_all)) in
           let own = owned k a i.0 h.0 x h.1 i.1 h.2 in
           let number : h.0.actor.number ≡ a = (all.each a h.0 h.1).1 in
           let made : made_at (actor_count h.0.actor.tables h.0.actor.program) h.0.actor.number ≡ made_at (seats_of lock) a =
@@ -277,10 +278,10 @@ module _ {T : Type 0} {g : Ghosts T CellName Entry} where
       at_place : (k : ℕ) (history : List Entry) → slice_get histories k ≡ Some history → (ps : List (Entry × ℕ)) × AtPlace k history ps
       at_place k history at =
           let low : k < length histories = slice_get_within histories k history at in
-          let i = some_at (placed w.tables) k (omega (arith, low, count, placed_all)) in
-          let column = some_at columns k (omega (arith, low, count, shape.count)) in
+          let i = item_below (placed w.tables) k (omega (arith, low, count, placed_all)) in
+          let column = item_below columns k (omega (arith, low, count, shape.count)) in
           let wide : length column.0 ≡ length hands = shape.each k column.0 column.1 in
-          let first = some_at column.0 0 (omega (arith, wide, all.count, some_actor)) in
+          let first = item_below column.0 0 (omega (arith, wide, all.count, some_actor)) in
           let h = hand_at k 0 column.0 first.0 column.1 first.1 in
           let own = owned k 0 i.0 h.0 first.0 h.1 i.1 h.2 in
           let held = closed k column.0 history column.1 at 0 (passing first.0) _ (slice_get-map (λ p. passing p) column.0 0 ∙ ap (option_map (λ p. passing p)) first.1) own.name in (
@@ -296,7 +297,7 @@ module _ {T : Type 0} {g : Ghosts T CellName Entry} where
                   subst (λ (n : ℕ). IsKept w.tables w.program n history) (same_some (sym i.1 ∙ at_j)) at_i;
               left = λ j a x at_j at_x.
                   let low_a : a < length hands = slice_get_within hands a x at_x in
-                  let pass = some_at column.0 a (omega (arith, low_a, wide)) in
+                  let pass = item_below column.0 a (omega (arith, low_a, wide)) in
                   let of = each k a column.0 pass.0 column.1 pass.1 x at_x in
                   same_noted (seen_by a held.0) (seen_at j (with_stamps x.actor.trace))
                   (held.1.left a (passing pass.0) (slice_get-map (λ p. passing p) column.0 a ∙ ap (option_map (λ p. passing p)) pass.1) ∙ (owned k a j x pass.0 at_x at_j of).left);
@@ -314,15 +315,15 @@ module _ {T : Type 0} {g : Ghosts T CellName Entry} where
           here : (k : ℕ) (ps : List (Entry × ℕ)) → slice_get held.0 k ≡ Some ps → (history : List Entry) × AtPlace k history ps
           here k ps at =
               let low : k < length held.0 = slice_get_within held.0 k ps at in
-              let history = some_at histories k (omega (arith, low, held.1)) in
+              let history = item_below histories k (omega (arith, low, held.1)) in
               (history.0, held.2 k history.0 ps history.1 at)
 
           listed : map entries held.0 ≡ histories
           listed = same_items (map entries held.0) histories (length-map held.0 entries ∙ held.1) (λ k x y at_x at_y.
-              let ps = found_in entries held.0 k x at_x in sym ps.2 ∙ (held.2 k y ps.0 at_y ps.1).history_is)
+              let ps = get_mapped entries held.0 k x at_x in sym ps.2 ∙ (held.2 k y ps.0 at_y ps.1).history_is)
 
           its_hand : (a : ℕ) (es : List Entry) → slice_get traces a ≡ Some es → (h : Handed) × (slice_get hands a ≡ Some h) × (h.actor.trace ≡ es)
-          its_hand a es at = found_in (λ (h : Handed). h.actor.trace) hands a es (ap (λ (l : List (List Entry)). slice_get l a) (sym traces_are) ∙ at)
+          its_hand a es at = get_mapped (λ (h : Handed). h.actor.trace) hands a es (ap (λ (l : List (List Entry)). slice_get l a) (sym traces_are) ∙ at)
 
           told_by : (a : ℕ) (es : List Entry) → slice_get traces a ≡ Some es → IsTold w.tables w.program a es
           told_by a es at =

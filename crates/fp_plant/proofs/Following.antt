@@ -1,7 +1,7 @@
 -- What follows from a step's answer.
 use Rattle.std.proofs.Common.{◌≡◌, ◌≢◌, ◌<◌, ℕ, true, [], ◌∷◌, Some, None, refl, sym, ap, ◌∙◌, subst, append-nil, inl, inr, slice_get}
 use mathlib.Core.List.{IsPrefix}
-use Rattle.fp_base.proofs.Options.{same_some}
+use Rattle.fp_base.proofs.Options.{same_some, no_some}
 use Rattle.fp_events.specs.declared.event.Ask.{Ask}
 use Rattle.fp_events.specs.declared.event.Entry.{Entry}
 use Rattle.fp_events.specs.Actor.{ActorState}
@@ -61,9 +61,6 @@ module _ (old new : Handed) (same : IsUntouched old new) where
     none = λ e u is. subst (λ (p : Program). p.steps < e.stamp) (sym same.actor.program) (none e u (sym (same_part m.instance m.state m.ask) ∙ is));
   }
 
-not_both : {A : Type 0} (x : A) → None ≡ Some x → ⊥
-not_both x e = cc
-
 -- an actor that has halted has nothing due
 halted_due : (a : Acting) → a.state.thread.halted ≡ true → due_of_actor a ≡ None
 unfolding due
@@ -73,7 +70,7 @@ halted_due a is = rw is refl
 pub rests : (old : Handed) (r : Stepped) (new : Handed) → StepAnswers old r new → r ≢ Took → Rests new
 unfolding StepAnswers Rests
 rests old Took new a n = absurd (n refl)
-rests old (NotYet why) new a n = inr (no_step old new a.3 a.0 (λ e u is. absurd (not_both (e, u) (sym a.1 ∙ is))))
+rests old (NotYet why) new a n = inr (no_step old new a.3 a.0 (λ e u is. no_some (sym a.1 ∙ is)))
 rests old AtLimit new a n =
     inr (no_step old new a.2 a.0 (λ e u is. let same : ◌≡◌ {A = Entry × InstanceState} (a.1.entry, a.1.leaves) (e, u) = same_some (sym a.1.part ∙ is) in
     subst (λ (p : Entry × InstanceState). old.actor.program.steps < p.0.stamp) same a.1.above))

@@ -1,6 +1,6 @@
 -- A hand whose pass at one place had a turn.
-use Rattle.std.proofs.Common.{◌≡◌, ◌≢◌, ◌≤◌, ◌<◌, ◌⊎◌, inl, inr, ℕ, zero, suc, ◌+◌, Bool, true, false, cond, not, ◌==◌, ◌||◌, eqb, eq-eqb, ne_eqb, List, [], ◌∷◌, ◌++◌, map, length, slice_get, slice_set, get_or, Option, Some, None, refl, sym, ap, ◌∙◌, subst, append-nil, arith}
-use Rattle.std.specs.Prelude.{unwrap_or, option_map}
+use Rattle.std.proofs.Common.{◌≡◌, ◌≢◌, ◌≤◌, ◌<◌, ◌⊎◌, inl, inr, ℕ, zero, suc, ◌+◌, Bool, true, false, cond, not, ◌==◌, ◌||◌, eqb, eq-eqb, ne_eqb, List, [], ◌∷◌, ◌++◌, map, length, slice_get, slice_set, get_or, Option, Some, refl, sym, ap, ◌∙◌, subst, append-nil, arith}
+use Rattle.std.specs.Prelude.{option_map}
 use Rattle.std.specs.List.{list_any}
 use Rattle.std.specs.Prelude.{All, Result, Ok, Err, OnErr}
 use Rattle.std.proofs.Math.Seq.{map-set_same}
@@ -15,10 +15,7 @@ use Rattle.fp_system.specs.Run.{Kept}
 use Rattle.fp_system.proofs.OfRun.{told_last}
 use Rattle.fp_tables.specs.Lookup.{Described, placed}
 use Rattle.fp_tables.specs.Names.{numbers_differ}
-use Rattle.fp_tables.specs.Sound.{IsSoundFor, IsSoundAt}
-use Rattle.fp_tables.specs.declared.model.Model.{Model}
 use Rattle.fp_tables.specs.declared.program.Program.{Program}
-use Rattle.fp_tables.specs.declared.topology.Topology.{Topology}
 use Rattle.fp_events.specs.declared.event.Ask.{Ask}
 use Rattle.fp_events.specs.declared.event.Entry.{Entry}
 use Rattle.fp_events.specs.declared.event.Why.{Why}
@@ -68,13 +65,6 @@ one_place (n ∷ ns) zero (suc k) i differ at_j at_k =
 one_place (n ∷ ns) (suc j) zero i differ at_j at_k =
     absurd (none_equal n ns j (both (not (list_any (λ m. n == m) ns)) (numbers_differ ns) differ).0 (at_j ∙ sym at_k))
 one_place (n ∷ ns) (suc j) (suc k) i differ at_j at_k = ap suc (one_place ns j k i (both (not (list_any (λ m. n == m) ns)) (numbers_differ ns) differ).1 at_j at_k)
-
-pub placed_differ : (t : Described) → IsSoundFor t.model (Some t.topology) → numbers_differ (placed t) ≡ true
-placed_differ t sound = go t.model (slice_get t.model.topologies t.topology) sound.1
-  where
-    go : (m : Model) (o : Option Topology) → IsSoundAt m o → numbers_differ (unwrap_or (option_map (λ (x : Topology). x.instances) o) []) ≡ true
-    go m None with_it = absurd with_it
-    go m (Some x) with_it = with_it.instances_differ
 
 -- ---- what a pass left, by one entry more of the trace
 

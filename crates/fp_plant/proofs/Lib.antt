@@ -4,6 +4,5 @@ mod Dealing
 mod Handing
 mod Following
 mod Beginning
-mod Placing
 mod Stepping
 mod Ending

@@ -6,3 +6,4 @@ pub mod RankLemmas
 pub mod ReadyLemmas
 pub mod TakingLemmas
 pub mod Walks
+pub mod Known

@@ -20,6 +20,7 @@ use Rattle.std.specs.declared.alloc.Global.{Global}
 use Rattle.std.proofs.lemmas.Bool.{false≢true}
 use Rattle.std.proofs.lemmas.List.{length-set, get_or_default}
 use Rattle.std.proofs.lemmas.List.Elements.{All-from_recursion, recursion_from_All}
+use Rattle.fp_base.proofs.Lists.{no_items}
 use Rattle.fp_queue.specs.declared.pending.Pending.{Pending}
 use Rattle.fp_queue.specs.Contents.{Contents}
 use Rattle.fp_queue.specs.Taking.{greatest_priority, first_of, without_first, taken_of, rest_of}
@@ -117,10 +118,6 @@ nothing_seen r (suc n) e h = absurd (false≢true (subst (λ s. is_some s ≡ tr
 
 pub something_seen : {A : Type 0} (r : Option A) (x : A) (n : ℕ) → r ≡ Some x → (IsSome r ↔ (0 < n)) → 0 < n
 something_seen r x n e h = h.0 (ap is_some e)
-
-no_items : {A : Type 0} (xs : List A) → length xs ≡ 0 → xs ≡ []
-no_items [] h = refl
-no_items (x ∷ xs) h = absurd (omega arith)
 
 module _ {M : Type 0} where
   -- where nothing waits, a queue stays as it is

@@ -1,10 +1,11 @@
 -- What is among the items of a list, and what leads to what.
 use Rattle.std.proofs.Common.{◌≡◌, ◌<◌, ◌≤◌, ◌+◌, ◌∙◌, ◌⊎◌, inl, inr, ℕ, zero, suc, List, [], ◌∷◌, ◌++◌, flat_map, length, take, slice_get, Some, refl, sym, ap, subst, append_assoc}
 use Rattle.std.proofs.lemmas.List.{take_all}
+use Rattle.fp_graph.specs.Visits.{Among}
 use Rattle.fp_base.proofs.Lists.{take_next}
 use Rattle.fp_base.proofs.Options.{same_some}
 use Rattle.fp_base.proofs.Spots.{item_below}
-use Rattle.fp_reach.specs.Reaching.{Among, Reaches, once, again}
+use Rattle.fp_reach.specs.Reaching.{Reaches, once, again}
 
 pub among_left : {A : Type 0} (xs ys : List A) (x : A) → Among xs x → Among (xs ++ ys) x
 among_left [] ys x h = absurd h

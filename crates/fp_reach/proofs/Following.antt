@@ -1,5 +1,6 @@
 -- Paths between handlers, guards and turns, and paths in the graph that has actions between them.
 use Rattle.std.proofs.Common.{◌≡◌, ◌⊎◌, inl, inr, ℕ, Bool, true, false, slice_get, Option, Some, None, refl, sym, ap, subst}
+use Rattle.fp_graph.specs.Visits.{Among}
 use Rattle.fp_base.proofs.Options.{one_some}
 use Rattle.fp_tables.specs.Lookup.{Described}
 use Rattle.fp_tables.specs.declared.program.Act.{Act}
@@ -14,7 +15,7 @@ use Rattle.fp_reach.specs.declared.node.Lock.TheVariants.{Guard, Turn}
 use Rattle.fp_reach.specs.declared.vertex.Vertex.{Vertex}
 use Rattle.fp_reach.specs.declared.vertex.Vertex.TheVariants.{Handler, Action, Lock}
 use Rattle.fp_reach.specs.Nodes.{leads, guards, led, taken, opens, sends}
-use Rattle.fp_reach.specs.Reaching.{Among, Reaches, once, again, Comes}
+use Rattle.fp_reach.specs.Reaching.{Reaches, once, again, Comes}
 use Rattle.fp_reach.specs.Vertices.{counts}
 use Rattle.fp_reach.specs.Cycles.{ActLeads, arriving, dispatching, Acts, Edge, of_action, of_sending, Takes, action_takes, sending_takes, Holds, holds, HasNoCycle, IsOnCycle, IsOnLockCycle, TakesAlong, itself, through}
 use Rattle.fp_reach.proofs.Amid.{reaches_join, comes_join, join_comes, comes_comes, first_step, last_step}

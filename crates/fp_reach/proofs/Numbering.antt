@@ -2,10 +2,10 @@
 use Rattle.std.proofs.Common.{◌≡◌, ◌≢◌, ◌∙◌, ◌⊎◌, inl, inr, ℕ, ◌+◌, ◌<◌, Bool, true, false, cond, List, [], ◌∷◌, ◌++◌, length, slice_get, Some, None, refl, sym, ap, subst, arith, length-append}
 use Rattle.std.specs.declared.cmp.Ordering.{Ordering}
 use Rattle.std.specs.BTreeMap.{BTreeMap, is_at}
+use Rattle.fp_graph.specs.Visits.{Among}
 use Rattle.fp_base.proofs.Lists.{get_front, get_last}
 use Rattle.fp_base.proofs.Options.{one_some, same_some}
 use Rattle.fp_base.proofs.Spots.{item_below, get_push, same_or_other}
-use Rattle.fp_reach.specs.Reaching.{Among}
 use Rattle.fp_reach.specs.Rings.{Tells, Step, IsTarget, IsNumbered, Numbers, IsLinked, number_in}
 use Rattle.fp_reach.proofs.Amid.{among_left, among_right, among_either}
 

@@ -7,7 +7,8 @@ use Rattle.fp_base.proofs.Options.{one_some}
 use Rattle.fp_base.proofs.Spots.{item_below}
 use Rattle.fp_graph.specs.Chains.{LeadsThrough, one, more, IsOnCycle, AreFlags}
 use Rattle.fp_graph.specs.Rows.{IsListed}
-use Rattle.fp_reach.specs.Reaching.{Among, Reaches, once, again}
+use Rattle.fp_graph.specs.Visits.{Among}
+use Rattle.fp_reach.specs.Reaching.{Reaches, once, again}
 use Rattle.fp_reach.specs.Rings.{Step, IsNumbered, AreOnCycles, number_in, is_flagged, flagged}
 use Rattle.fp_reach.proofs.Amid.{among_flat, flat_among, reaches_join, last_step}
 

@@ -1,6 +1,7 @@
 -- The edges that a program has between handlers, actions, guards and turns, one by one.
 use Rattle.std.proofs.Common.{◌≡◌, inl, inr, ℕ, zero, suc, ◌+◌, Bool, true, false, cond, List, [], ◌∷◌, ◌++◌, flat_map, slice_get, Option, Some, None, refl, sym, subst, arith}
 use Rattle.std.specs.List.{AllByRecursion}
+use Rattle.fp_graph.specs.Visits.{Among}
 use Rattle.fp_base.proofs.Lists.{each_append}
 use Rattle.fp_tables.specs.Lookup.{Described}
 use Rattle.fp_tables.specs.declared.program.Act.{Act}
@@ -13,7 +14,6 @@ use Rattle.fp_reach.specs.declared.node.Lock.{Lock as Held}
 use Rattle.fp_reach.specs.declared.vertex.Vertex.{Vertex}
 use Rattle.fp_reach.specs.declared.vertex.Vertex.TheVariants.{Handler, Action, Lock}
 use Rattle.fp_reach.specs.Nodes.{leads, guards, led, taken, opens, sends}
-use Rattle.fp_reach.specs.Reaching.{Among}
 use Rattle.fp_reach.specs.Cycles.{Acts}
 use Rattle.fp_reach.specs.Vertices.{counts, leading, taking, opening, sending, going_on, of_act, acts_from, of_handler, handlers_from}
 use Rattle.fp_reach.proofs.Amid.{among_left, among_right, flat_among}

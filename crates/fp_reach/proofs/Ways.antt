@@ -1,6 +1,7 @@
 -- What actions take, and where what a set or save command sends leads.
 use Rattle.std.proofs.Common.{◌≡◌, ◌∙◌, ◌⊎◌, inl, inr, ℕ, Bool, true, false, cond, nat_lt, length, Option, Some, None, refl, ap, subst}
 use Rattle.std.specs.Prelude.{option_and_then, option_map, option_to_list}
+use Rattle.fp_graph.specs.Visits.{Among}
 use Rattle.fp_base.proofs.Options.{then_some, mapped_some, same_some}
 use Rattle.fp_tables.specs.Lookup.{Described}
 use Rattle.fp_tables.specs.Acts.{command_of, machine_at}
@@ -28,7 +29,6 @@ use Rattle.fp_reach.specs.declared.node.Arrival.TheVariants as arrival
 use Rattle.fp_reach.specs.declared.node.Lock.{Lock as Held}
 use Rattle.fp_reach.specs.declared.node.Lock.TheVariants.{Guard, Turn}
 use Rattle.fp_reach.specs.Nodes.{at_end, handled, guarded, held, sent, sent_for, sends, arrival_of, leads, guards, opens, taken, taken_with}
-use Rattle.fp_reach.specs.Reaching.{Among}
 use Rattle.fp_reach.proofs.Amid.{among_either}
 
 abbrev pub IsAt : Node → Type 0

@@ -1,5 +1,6 @@
 -- The graph of handlers, and that of guards and turns, with the actions that are on their cycles. Scenarios are this profile's own.
 use Rattle.std.specs.Prelude.{◌≡◌, ℕ, slice_get, Option, Some, None}
+use Rattle.fp_graph.specs.Visits.{Among}
 use Rattle.fp_tables.specs.Lookup.{Described}
 use Rattle.fp_tables.specs.declared.program.Act.{Act}
 use Rattle.fp_tables.specs.declared.program.Verb.TheVariants as verb
@@ -14,7 +15,7 @@ use Rattle.fp_reach.specs.declared.node.Lock.TheVariants.{Turn}
 use Rattle.fp_reach.specs.declared.cycles.Cycle.{Cycle}
 use Rattle.fp_reach.specs.declared.cycles.Cycle.TheVariants.{Synchronous, Locks}
 use Rattle.fp_reach.specs.Nodes.{leads, led, guards, taken, opens, sends}
-use Rattle.fp_reach.specs.Reaching.{Among, Reaches, Comes}
+use Rattle.fp_reach.specs.Reaching.{Reaches, Comes}
 
 module _ (t : Described) where
   -- the handlers to which an action of a handler of the instance leads: that of what arrives, and by `dispatch` each asynchronous one

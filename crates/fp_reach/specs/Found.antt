@@ -1,9 +1,10 @@
 -- An action among the vertices that are on a cycle.
 use Rattle.std.specs.Prelude.{List, Option, Some, None, ℕ}
+use Rattle.fp_graph.specs.Visits.{Among}
 use Rattle.fp_reach.specs.declared.vertex.Vertex.{Vertex}
 use Rattle.fp_reach.specs.declared.vertex.Vertex.TheVariants.{Action}
 use Rattle.fp_reach.specs.declared.cycles.Ring.{Ring}
-use Rattle.fp_reach.specs.Reaching.{Among, Reaches}
+use Rattle.fp_reach.specs.Reaching.{Reaches}
 use Rattle.fp_reach.specs.Rings.{Step}
 
 -- one of which this holds, and none only where it holds of no action

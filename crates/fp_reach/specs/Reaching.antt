@@ -1,9 +1,5 @@
 -- What leads to what in one step after another.
-use Rattle.std.specs.Prelude.{◌≡◌, ◌⊎◌, List, [], ◌∷◌}
-
-abbrev pub Among : {A : Type 0} → List A → A → Type 0
-Among [] x = ⊥
-Among (y ∷ ys) x = (y ≡ x) ⊎ Among ys x
+use Rattle.std.specs.Prelude.{◌≡◌, ◌⊎◌}
 
 module _ {A : Type 0} (Step : A → A → Type 0) where
   -- in at least one step

@@ -2,7 +2,8 @@
 use Rattle.std.specs.Prelude.{◌≡◌, ◌<◌, ℕ, Bool, true, false, cond, List, [], ◌∷◌, ◌++◌, length, slice_get, Option, Some, option_and_then, unwrap_or}
 use Rattle.std.specs.declared.cmp.Ordering.{Ordering}
 use Rattle.std.specs.BTreeMap.{BTreeMap, get_by, is_at}
-use Rattle.fp_reach.specs.Reaching.{Among, Reaches}
+use Rattle.fp_graph.specs.Visits.{Among}
+use Rattle.fp_reach.specs.Reaching.{Reaches}
 
 -- an order tells all keys apart
 abbrev pub Tells : {K : Type 0} → (K → K → Ordering) → Type 0

@@ -7,7 +7,7 @@ use Rattle.fp_tables.specs.Sound.{IsSoundFor, IsSoundAt}
 use Rattle.fp_tables.specs.declared.model.Model.{Model}
 use Rattle.fp_tables.specs.declared.topology.Topology.{Topology}
 
-listed_apart : (m : Model) (o : Option Topology) → IsSoundAt m o → numbers_differ (unwrap_or (option_map (λ (x : Topology). x.instances) o) []) ≡ true
+pub listed_apart : (m : Model) (o : Option Topology) → IsSoundAt m o → numbers_differ (unwrap_or (option_map (λ (x : Topology). x.instances) o) []) ≡ true
 listed_apart m None sound = absurd sound
 listed_apart m (Some o) sound = sound.instances_differ
 

@@ -54,11 +54,7 @@ use Rattle.fp_run_laws.proofs.Responding.{special_wired}
 use Rattle.fp_run_laws.proofs.Notes.{special_end, general_end, bind_is_name}
 use Rattle.fp_run_laws.proofs.Places.{port_fits, post_fits, command_fits, signal_fits, wire_fits, sent_fits}
 use Rattle.fp_tables.proofs.Optional.{some_and_of}
-
--- nothing is bound without a type
-pub untyped : (name : Option (List ℕ)) (scope : Scope) → bound_to name None scope ≡ scope
-untyped None scope = refl
-untyped (Some name) scope = refl
+use Rattle.fp_tables.proofs.Untyped.{none_bound}
 
 pub never : false ≡ true → ⊥
 never h = cc
@@ -176,7 +172,7 @@ module _ (t : Described) (program : Program) (sound : IsSoundFor t.model (Some t
               (arguments_kinds t.model.types sound.0.types.no_type_uses_itself scope bound (kinds_of c.0.formals) with suits c.2))
               refl;
           noted = refl;
-          binds = λ bound scope. untyped given scope;
+          binds = λ bound scope. none_bound given scope;
         }
     caller_suits i result verb.Emit subject name with given h = absurd (never (both (is_placed t subject.instance) false h).1)
     caller_suits i result verb.Write subject name with given h = absurd (never (both (is_placed t subject.instance) false h).1)
@@ -282,7 +278,7 @@ module _ (t : Described) (program : Program) (sound : IsSoundFor t.model (Some t
               (arguments_kinds t.model.types sound.0.types.no_type_uses_itself scope bound (kinds_of c.0.formals) with suits c.2))
               (wire_fits t program subject None j.output j.from_placed j.from_port j.from_below);
           noted = general_end t subject (both _ _ (both _ _ b.0).0).0;
-          binds = λ bound scope. untyped given scope;
+          binds = λ bound scope. none_bound given scope;
         })
     inside_suits o result place verb.Respond subject name with given inside here may h =
         let a = both _ (programs.has_identifier (record { verb = verb.Respond; subject = subject; name = name; with = with; bind = given })) h in
@@ -290,7 +286,7 @@ module _ (t : Described) (program : Program) (sound : IsSoundFor t.model (Some t
         let c = both _ (nat_le subject.number 0) b.0 in
         let d = both (programs.is_command place) (has_role t (is_special special.CmdResp) subject) c.0 in
         send_suits o subject.instance result (act (record { verb = verb.Respond; subject = subject; name = name; with = with; bind = given })) special.CmdResp (unwrap_or given [])
-        (λ bound. refl, λ scope. untyped given scope)
+        (λ bound. refl, λ scope. none_bound given scope)
         (special_wired t sound special.CmdResp subject d.1 (zero_below subject.number c.1) b.1) (bind_is_name given a.1)
     inside_suits o result place verb.Post subject name with given inside here may h =
         let p = some_and_of (λ (p : PortOf). is_internal p.role && arguments_suit t.model.types scope (kinds_of p.formals) with) (port_of t.model subject.instance subject.port) h in
@@ -302,7 +298,7 @@ module _ (t : Described) (program : Program) (sound : IsSoundFor t.model (Some t
               (arguments_kinds t.model.types sound.0.types.no_type_uses_itself scope bound (kinds_of p.0.formals) with suits x.1))
               refl;
           noted = refl;
-          binds = λ bound scope. untyped given scope;
+          binds = λ bound scope. none_bound given scope;
         }
     inside_suits o result place verb.Signal subject name with given inside here may h =
         let m = some_and_of (λ (m : Machine). some_and (λ (s : Named). arguments_suit t.model.types scope (option_to_list s.kind) with) (slice_get m.signals name)) (machine_at t subject.instance subject.port) h in
@@ -314,7 +310,7 @@ module _ (t : Described) (program : Program) (sound : IsSoundFor t.model (Some t
               (arguments_kinds t.model.types sound.0.types.no_type_uses_itself scope bound (option_to_list s.0.kind) with suits s.2))
               refl;
           noted = refl;
-          binds = λ bound scope. untyped given scope;
+          binds = λ bound scope. none_bound given scope;
         }
     inside_suits o result place verb.Emit subject name with given inside here may h =
         let c = some_and_of (λ (c : Component). some_and (λ (e : Event). arguments_suit t.model.types scope (kinds_of e.formals) with) (slice_get c.events name)) (component_of t.model subject.instance) h in
@@ -324,7 +320,7 @@ module _ (t : Described) (program : Program) (sound : IsSoundFor t.model (Some t
           fits = fits_emit subject.instance name (values bound with) e.0 (event_in t subject.instance name ∙ ap (option_and_then (λ (c : Component). slice_get c.events name)) c.1 ∙ e.1)
               (arguments_kinds t.model.types sound.0.types.no_type_uses_itself scope bound (kinds_of e.0.formals) with suits e.2);
           noted = refl;
-          binds = (inside, refl, λ scope. untyped given scope);
+          binds = (inside, refl, λ scope. none_bound given scope);
         }
     inside_suits o result place verb.Write subject name with given inside here may h =
         let c = some_and_of (λ (c : Component). some_and (λ (x : Channel). arguments_suit t.model.types scope (x.kind ∷ []) with) (slice_get c.channels name)) (component_of t.model subject.instance) h in
@@ -334,7 +330,7 @@ module _ (t : Described) (program : Program) (sound : IsSoundFor t.model (Some t
           fits = fits_write subject.instance name (first_value (values bound with)) e.0 (channel_in t subject.instance name ∙ ap (option_and_then (λ (c : Component). slice_get c.channels name)) c.1 ∙ e.1)
               (one_value t.model.types sound.0.types.no_type_uses_itself scope bound e.0.kind with suits e.2);
           noted = refl;
-          binds = (inside, refl, λ scope. untyped given scope);
+          binds = (inside, refl, λ scope. none_bound given scope);
         }
     inside_suits o result place verb.Read subject name with given inside here may h =
         let b = both (component_passes t subject.instance (λ c. is_some (slice_get c.params name))) (is_some given) h in
@@ -357,6 +353,6 @@ module _ (t : Described) (program : Program) (sound : IsSoundFor t.model (Some t
           };
         }
     inside_suits o result place verb.Dispatch subject name with given inside here may h =
-        record { placed = here; fits = (fits_plain subject.instance None).2; noted = refl; binds = (inside, refl, λ scope. untyped given scope) }
+        record { placed = here; fits = (fits_plain subject.instance None).2; noted = refl; binds = (inside, refl, λ scope. none_bound given scope) }
     inside_suits o result place verb.Return subject name with given inside here may h =
         return_suits o subject result place with (act (record { verb = verb.Return; subject = subject; name = name; with = with; bind = given })) here may inside h

@@ -2,6 +2,7 @@
 use Rattle.std.proofs.Common.{◌≡◌, ℕ, ◌<◌, ◌≤◌, Bool, true, false, ◌⊎◌, inl, inr, List, [], ◌∷◌, map, Some, slice_get, refl, sym, ap, ◌∙◌, subst, arith}
 use Rattle.std.proofs.lemmas.List.{length-map}
 use Rattle.std.proofs.lemmas.Option.{slice_get-get_or}
+use Rattle.fp_base.proofs.Spots.{before_or_not}
 use Rattle.fp_system.specs.Run as system
 use Rattle.fp_system.proofs.OfRun.{told_rises}
 use Rattle.fp_system.proofs.Seen.{seen_agree}
@@ -15,7 +16,7 @@ use Rattle.fp_events.specs.Fits.{actor_count}
 use Rattle.fp_events.specs.Instance.{InstanceState}
 use Rattle.fp_events.specs.Run.{by, IsKept, IsTold, IsRising, trace, AreRecords}
 use Rattle.fp_events.specs.Step.{core}
-use Rattle.fp_events.proofs.Recorded.{fit_parts, row_absent, row_past, near}
+use Rattle.fp_events.proofs.Recorded.{fit_parts, row_absent, row_past}
 use Rattle.fp_events.proofs.StepLaws.{given, taken, core_laws}
 use Rattle.fp_run_laws.specs.Seen.{entries, with_stamps, IsTimed, seen_by, seen_at, AreSeen}
 use Rattle.fp_run_laws.proofs.Rows.{row_found, row_of-mapped}
@@ -72,14 +73,14 @@ module _ (t : Described) (program : Program) where
     told_at a low = seen.told a (trace t program traces a) (trace_at a low)
 
     rises : (a : ℕ) → IsRising (trace t program traces a)
-    rises a = go (near a (actor_count t program))
+    rises a = go (before_or_not a (actor_count t program))
       where
         go : (a < actor_count t program) ⊎ (actor_count t program ≤ a) → IsRising (trace t program traces a)
         go (inl low) = let told = told_at a low in told_rises (core t program) (core_laws t program) a (trace t program traces a) told.0 told.1
         go (inr past) = subst IsRising (sym (none_past a past)) tt
 
     left_at : (i a : ℕ) → seen_by a (held_of i) ≡ seen_at i (with_stamps (trace t program traces a))
-    left_at i a = go (is_placed t i) refl (near a (actor_count t program))
+    left_at i a = go (is_placed t i) refl (before_or_not a (actor_count t program))
       where
         go : (b : Bool) → is_placed t i ≡ b → (a < actor_count t program) ⊎ (actor_count t program ≤ a)
             → seen_by a (held_of i) ≡ seen_at i (with_stamps (trace t program traces a))

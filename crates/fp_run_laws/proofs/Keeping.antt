@@ -2,7 +2,7 @@
 use Rattle.std.proofs.Common.{◌≡◌, ℕ, ℤ, true, false, ◌==◌, nat_lt, List, [], ◌∷◌, ◌++◌, drop, length, Option, Some, None, option_map, option_and_then, is_some, refl, sym, ap, ◌∙◌, subst, slice_get}
 use Rattle.fp_events.proofs.StepLaws.{answered_arrival}
 use Rattle.fp_tables.specs.Specials.{component}
-use Rattle.fp_base.proofs.Options.{mapped_some}
+use Rattle.fp_base.proofs.Options.{mapped_some, no_some}
 use Rattle.fp_base.specs.declared.value.Value.{Value}
 use Rattle.fp_base.proofs.Sameness.{nat_same}
 use Rattle.fp_base.proofs.Bools.{both}
@@ -47,10 +47,11 @@ use Rattle.fp_events.proofs.SameArrival.{value_option_same}
 use Rattle.fp_run_laws.specs.Suits.{result_of_point, results_by, returns_fit, Source, at, source, AdvanceSuits, ActionSuits, MayReturn, DoingSuits, DoingsSuit, Returns, awaited, Stands, FramesSuit, AllSuit}
 use Rattle.fp_base.specs.Names.{is_name}
 use Rattle.fp_tables.specs.declared.component.Channel.{Channel}
+use Rattle.fp_tables.proofs.Untyped.{none_bound}
 use Rattle.fp_events.proofs.Fitting.{kind_there}
 use Rattle.fp_run_laws.proofs.Notes.{AreNamed, event_named, channel_named, saved_named}
-use Rattle.fp_run_laws.proofs.Asks.{untyped, FirstSuits, first_suits}
-use Rattle.fp_run_laws.proofs.TypingDues.{no_some, IsEnd, BindsFirst, first_binds}
+use Rattle.fp_run_laws.proofs.Asks.{FirstSuits, first_suits}
+use Rattle.fp_run_laws.proofs.TypingDues.{IsEnd, BindsFirst, first_binds}
 use Rattle.fp_run_laws.proofs.Handling.{spot_of, handling_suits, hooking_suits, sends_suit, Has, has_value, performed_suit}
 use Rattle.fp_run_laws.proofs.Removing.{first_answer, same_answer, without_first_suits, bind_suits, frames_same_answer, removed_suits, quietly_removed, bound_below_suits}
 use Rattle.fp_run_laws.proofs.Results.{later_returns_nothing, post_is_later, default_is, default_of_result}
@@ -216,9 +217,9 @@ module _ (t : Described) (program : Program) (sound : IsSoundFor t.model (Some t
 
   may_return : (i : ℕ) (point : Point) (default : Option Value) (name : Option (List ℕ)) → IsOutside point → MayReturn t program (arrived default name) i (result_of_point t i point) (spot_of t program good point)
   may_return i (Port n number) default name out = λ k h. h
-  may_return i (OfCommand n) default name out = λ k h. absurd (no_some k h)
+  may_return i (OfCommand n) default name out = λ k h. no_some h
   may_return i (Post n) default name out = absurd out
-  may_return i (Signal running signal) default name out = λ k h. absurd (no_some k h)
+  may_return i (Signal running signal) default name out = λ k h. no_some h
 
   default_returns : (i : ℕ) (point : Point) → Returns t program (result_of_point t i point) (returned t program i point)
   default_returns i point = subst (λ (v : Option Value). Returns t program (result_of_point t i point) v) (sym (default_is t sound program i point)) (go (result_of_point t i point) refl)
@@ -255,7 +256,7 @@ module _ (t : Described) (program : Program) (sound : IsSoundFor t.model (Some t
       let m = later_manner (manner t i r.point) w later treated in
       let none = later_returns_nothing t sound i r.point m.0 m.1 m.2 in
       quietly_removed t program ks a fs h
-      (λ scope. arrival_answer ks a i fs q r h due is scope ∙ ap (λ (k : Option Kind). bound_to (name_for (first_action (doing fs))) k scope) none ∙ untyped (name_for (first_action (doing fs))) scope)
+      (λ scope. arrival_answer ks a i fs q r h due is scope ∙ ap (λ (k : Option Kind). bound_to (name_for (first_action (doing fs))) k scope) none ∙ none_bound (name_for (first_action (doing fs))) scope)
 
   taking : (ks : List (Option Kind)) (a i number : ℕ) (point : Point) (vs : List Value) (fs : List Frame) (q : Ask) → AllSuit t program ks a fs → due_of t program a fs ≡ Some (i, q) → IsPlain q → is_placed t i ≡ true → point_fits t program i point vs ≡ true
       → AllSuit t program (None ∷ ks) a (record { instance = i; doing = handling t program i point vs ∷ []; opened = taken } ∷ removed fs)

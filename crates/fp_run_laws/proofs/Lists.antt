@@ -42,6 +42,3 @@ mapped_test p (Some x) = refl
 pub some_mapped : {X Y : Type 0} (f : X → Y) (o : Option X) → is_some (option_map f o) ≡ is_some o
 some_mapped f None = refl
 some_mapped f (Some x) = refl
-
-pub some_and_at : {X : Type 0} (p : X → Bool) (o : Option X) (x : X) → o ≡ Some x → p x ≡ true → some_and p o ≡ true
-some_and_at p o x e h = ap (some_and p) e ∙ h

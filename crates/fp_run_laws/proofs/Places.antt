@@ -1,14 +1,13 @@
 -- Where the places of a point are, and when what arrives there fits.
-use Rattle.std.proofs.Common.{◌≡◌, ℕ, Bool, true, false, cond, ◌==◌, nat_lt, List, [], ◌∷◌, map, length, find, Option, Some, None, option_map, option_and_then, option_to_list, unwrap_or, is_some, refl, sym, ap, ap₂, ◌∙◌, slice_get}
-use Rattle.std.proofs.lemmas.List.Folds.{find_at}
-use Rattle.std.specs.List.{position, position_or_len}
+use Rattle.std.proofs.Common.{◌≡◌, ℕ, Bool, true, false, cond, ◌==◌, nat_lt, List, [], ◌∷◌, map, Option, Some, None, option_map, option_and_then, option_to_list, unwrap_or, is_some, refl, sym, ap, ap₂, ◌∙◌, slice_get}
+use Rattle.std.specs.List.{position}
 use Rattle.std.specs.Str.{bytes_eq}
-use Rattle.fp_base.proofs.Lists.{get_below}
 use Rattle.fp_tables.specs.Specials.{component, is_special, special_wire}
-use Rattle.fp_base.proofs.Options.{then_some, mapped_some, same_some, some_of}
+use Rattle.fp_base.proofs.Options.{then_some, mapped_some, same_some}
 use Rattle.fp_base.specs.declared.value.Value.{Value}
 use Rattle.fp_base.proofs.Sameness.{nat_same}
 use Rattle.fp_base.proofs.Bools.{both, join}
+use Rattle.fp_base.proofs.Passing.{position_passes}
 use Rattle.fp_tables.specs.Acts as acts
 use Rattle.fp_tables.specs.Arguments.{kinds_of}
 use Rattle.fp_tables.specs.Components as components
@@ -127,25 +126,6 @@ module _ (t : Described) (program : Program) where
       here (ap (λ (o : Option PortOf). unwrap_or (option_map (λ (p : PortOf). nat_lt e.number p.size) o) false) (port_here e.instance e.port p found) ∙ below)
 
 -- ---- special ports
-
-found_passes : {X : Type 0} (p : X → Bool) (xs : List X) (x : X) → find p xs ≡ Some x → p x ≡ true
-found_passes p [] x h = absurd (cc)
-found_passes {X} p (y ∷ xs) x h = go (p y) refl h (λ k. found_passes p xs x k)
-  where
-    go : (b : Bool) → p y ≡ b → cond b (Some y) (find p xs) ≡ Some x → (find p xs ≡ Some x → p x ≡ true) → p x ≡ true
-    go true e h rest = ap p (sym (same_some h)) ∙ e
-    go false e h rest = rest h
-
--- the item at a position that is found
-position_passes : {X : Type 0} (p : X → Bool) (xs : List X) (k : ℕ) → position p xs ≡ Some k → (x : X) × (slice_get xs k ≡ Some x) × (p x ≡ true)
-position_passes {X} p xs k h = go (nat_lt (position_or_len p xs) (length xs)) refl h
-  where
-    go : (b : Bool) → nat_lt (position_or_len p xs) (length xs) ≡ b → cond b (Some (position_or_len p xs)) None ≡ Some k → (x : X) × (slice_get xs k ≡ Some x) × (p x ≡ true)
-    go false e h = absurd (cc)
-    go true e h =
-        let is : position_or_len p xs ≡ k = same_some h in
-        let x = some_of (slice_get xs (position_or_len p xs)) (get_below xs (position_or_len p xs) e) in
-        (x.0, ap (slice_get xs) (sym is) ∙ x.1, found_passes p xs x.0 (find_at p xs ∙ x.1))
 
 -- both ends of the wire of a special port
 pub record SpecialWire (t : Described) (i : ℕ) (s : Special) (w : End × End) : Type 0 where

@@ -16,34 +16,11 @@ use Rattle.fp_tables.specs.declared.component.Port.{Port as PortOf}
 use Rattle.fp_tables.specs.declared.component.Role.{Role}
 use Rattle.fp_tables.specs.declared.component.Role.TheVariants as role
 use Rattle.fp_tables.specs.declared.component.Special.{Special}
-use Rattle.fp_tables.specs.declared.component.Special.TheVariants.{CmdRecv, CmdReg, CmdResp, Event, TextEvent, Tlm, Time, PrmGet, PrmSet}
 use Rattle.fp_tables.specs.declared.topology.End.{End}
 use Rattle.fp_tables.specs.Specials.{component, no_parts, is_special, special_wire}
 use Rattle.fp_run_laws.proofs.Parts.{of_component}
 use Rattle.fp_tables.proofs.Optional.{some_and_of}
-
-one_special : (a b : Special) → same_special a b ≡ true → a ≡ b
-one_special CmdRecv CmdRecv h = refl
-one_special CmdReg CmdReg h = refl
-one_special CmdResp CmdResp h = refl
-one_special Event Event h = refl
-one_special TextEvent TextEvent h = refl
-one_special Tlm Tlm h = refl
-one_special Time Time h = refl
-one_special PrmGet PrmGet h = refl
-one_special PrmSet PrmSet h = refl
-one_special _ _ h = absurd (cc)
-
-itself : (a : Special) → same_special a a ≡ true
-itself CmdRecv = refl
-itself CmdReg = refl
-itself CmdResp = refl
-itself Event = refl
-itself TextEvent = refl
-itself Tlm = refl
-itself Time = refl
-itself PrmGet = refl
-itself PrmSet = refl
+use Rattle.fp_tables.proofs.SpecialPorts.{one_special, special_is, special_itself}
 
 specials : List PortOf → List Special
 specials ps = filter_map (λ (p : PortOf). components.special_in p.role) ps
@@ -55,7 +32,7 @@ module _ (s : Special) where
   among [] k p h is = absurd (cc)
   among (q ∷ ps) zero p h is =
       let e : q.role ≡ role.Special s = ap (λ (p : PortOf). p.role) (same_some h) ∙ is in
-      ap (λ (r : Role). list_any (same_special s) (specials (record q { role = r } ∷ ps))) e ∙ ap (λ (b : Bool). b || list_any (same_special s) (specials ps)) (itself s)
+      ap (λ (r : Role). list_any (same_special s) (specials (record q { role = r } ∷ ps))) e ∙ ap (λ (b : Bool). b || list_any (same_special s) (specials ps)) (special_itself s)
   among (q ∷ ps) (suc k) p h is = go q.role refl (among ps k p h is)
     where
       go : (r : Role) → q.role ≡ r → list_any (same_special s) (specials ps) ≡ true → list_any (same_special s) (specials (q ∷ ps)) ≡ true
@@ -77,7 +54,7 @@ module _ (s : Special) where
   first_is [] k p differ h is = absurd (cc)
   first_is (q ∷ ps) zero p differ h is =
       let e : q.role ≡ role.Special s = ap (λ (p : PortOf). p.role) (same_some h) ∙ is in
-      let b : is_special s q.role ≡ true = ap (is_special s) e ∙ itself s in
+      let b : is_special s q.role ≡ true = ap (is_special s) e ∙ special_itself s in
       ap (λ (b : Bool). cond (not b) (1 + position_or_len (λ (p : PortOf). is_special s p.role) ps) 0) b
   first_is (q ∷ ps) (suc k) p differ h is = go q.role refl (λ d. ap (λ (n : ℕ). 1 + n) (first_is ps k p d h is) ∙ one_more k)
     where
@@ -109,12 +86,6 @@ below_length [] k x h = absurd (cc)
 below_length (y ∷ xs) zero x h = grind (arith, nat_tests)
 below_length (y ∷ xs) (suc k) x h = let r : nat_lt k (length xs) ≡ true = below_length xs k x h in grind (arith, nat_tests)
 
-is_role : (s : Special) (r : Role) → is_special s r ≡ true → r ≡ role.Special s
-is_role s (role.Special c) h = ap role.Special (sym (one_special s c h))
-is_role s role.Output h = absurd (cc)
-is_role s (role.Input way) h = absurd (cc)
-is_role s (role.Internal way) h = absurd (cc)
-
 module _ (t : Described) (sound : IsSoundFor t.model (Some t.topology)) where
   pub special_wired : (s : Special) (e : End) → has_role t (is_special s) e ≡ true → e.number ≡ 0 → is_some (wire_from t e) ≡ true → is_some (special_wire t e.instance s) ≡ true
   unfolding specials
@@ -123,7 +94,7 @@ module _ (t : Described) (sound : IsSoundFor t.model (Some t.topology)) where
       let c = then_some (λ (c : Component). slice_get c.ports e.port) (component_of t.model e.instance) p.0 p.1 in
       let parts : component t e.instance ≡ c.0 = ap (λ (o : Option Component). unwrap_or o no_parts) c.1 in
       let differ = of_component t.model components.special_ports_differ e.instance c.0 sound.0.ports.special_ports_differ c.1 in
-      let place : position_or_len (λ (p : PortOf). is_special s p.role) c.0.ports ≡ e.port = first_is s c.0.ports e.port p.0 differ c.2 (is_role s p.0.role p.2) in
+      let place : position_or_len (λ (p : PortOf). is_special s p.role) c.0.ports ≡ e.port = first_is s c.0.ports e.port p.0 differ c.2 (special_is s p.0.role p.2) in
       let below : nat_lt (position_or_len (λ (p : PortOf). is_special s p.role) c.0.ports) (length c.0.ports) ≡ true = ap (λ (n : ℕ). nat_lt n (length c.0.ports)) place ∙ below_length c.0.ports e.port p.0 c.2 in
       let found : position (λ (p : PortOf). is_special s p.role) c.0.ports ≡ Some e.port =
       ap (λ (b : Bool). cond b (Some (position_or_len (λ (p : PortOf). is_special s p.role) c.0.ports)) None) below ∙ ap Some place in

@@ -1,7 +1,7 @@
 -- The frames of a told trace suit.
 use Rattle.std.proofs.Common.{◌≡◌, ◌<◌, ◌↔◌, ℕ, zero, suc, ◌⊎◌, inl, inr, Bool, true, false, cond, ◌&&◌, ◌-◌, nat_lt, List, [], ◌∷◌, ◌++◌, map, length, Option, Some, None, option_map, is_some, is_none, refl, sym, ap, ◌∙◌, subst, slice_get, arith}
 use Rattle.std.proofs.lemmas.Bool.Decides.{nat_tests}
-use Rattle.fp_base.proofs.Options.{mapped_some}
+use Rattle.fp_base.proofs.Options.{mapped_some, no_some}
 use Rattle.fp_base.proofs.Lists.{all_get, get_below}
 use Rattle.fp_system.specs.Run.{InTurn, ActorStep, Told}
 use Rattle.fp_base.proofs.Bools.{both}
@@ -26,20 +26,20 @@ use Rattle.fp_events.specs.declared.event.Arrival.{Arrival}
 use Rattle.fp_events.specs.declared.event.Ask.{Ask}
 use Rattle.fp_events.specs.declared.event.Ask.TheVariants as ask
 use Rattle.fp_events.specs.declared.event.Entry.{Entry}
-use Rattle.fp_events.specs.declared.event.What.{What}
 use Rattle.fp_events.specs.declared.event.What.TheVariants as what
 use Rattle.fp_events.proofs.StepLaws.{Taken, taken}
+use Rattle.fp_events.proofs.Halting.{follows_halted}
 use Rattle.fp_run_laws.specs.Notes.{note_fits}
 use Rattle.fp_run_laws.specs.Suits.{AllSuit, results_by, results_from, returns_fit, asserted_last, ends_asserted}
 use Rattle.fp_run_laws.proofs.Scopes.{nothing_suits}
 use Rattle.fp_run_laws.proofs.Asks.{never}
 use Rattle.fp_run_laws.proofs.Handling.{acts_of_caller}
-use Rattle.fp_run_laws.proofs.TypingDues.{no_some, due_fine, none_due}
+use Rattle.fp_run_laws.proofs.TypingDues.{due_fine, none_due}
 use Rattle.fp_run_laws.proofs.Keeping.{keeps, returns}
 
 -- what has an item is longer
 within : {X : Type 0} (xs : List X) (a : ℕ) (c : X) → slice_get xs a ≡ Some c → nat_lt a (length xs) ≡ true
-within [] a c h = absurd (no_some c h)
+within [] a c h = no_some h
 within (x ∷ xs) zero c h = grind (arith, nat_tests)
 within (x ∷ xs) (suc a) c h = let r : nat_lt a (length xs) ≡ true = within xs a c h in grind (arith, nat_tests)
 
@@ -85,7 +85,7 @@ module _ (t : Described) (program : Program) (sound : IsSoundFor t.model (Some t
   step_keeps ks a x z e h k = go x.thread.halted k.due
     where
       go : (b : Bool) → cond b None (due_of t program a x.thread.frames) ≡ Some k.asked → AllSuit t program (results_by t e.instance ks e.what) a z.thread.frames
-      go true due = absurd (no_some k.asked due)
+      go true due = no_some due
       go false due =
           let f = both (nat_lt a (actor_count t program) && is_placed t k.asked.0) (what_fits t program k.asked.0 e.what) k.fit in
           let g = both (nat_lt a (actor_count t program)) (is_placed t k.asked.0) f.0 in
@@ -108,7 +108,7 @@ module _ (t : Described) (program : Program) (sound : IsSoundFor t.model (Some t
   step_returns ks a x z e h k = go x.thread.halted k.due
     where
       go : (b : Bool) → cond b None (due_of t program a x.thread.frames) ≡ Some k.asked → returns_fit t ks e.what ≡ true
-      go true due = absurd (no_some k.asked due)
+      go true due = no_some due
       go false due = returns t program sound good ks a k.asked.0 x.thread.frames k.asked.1 e.what h due k.answer
 
   returns_from : (ks : List (Option Kind)) (a : ℕ) (x z : ActorState) (before rest : List Entry) (e : Entry) → AllSuit t program ks a x.thread.frames → InTurn (ActorStep (core t program) a) x (before ++ e ∷ rest) z
@@ -132,7 +132,7 @@ module _ (t : Described) (program : Program) (sound : IsSoundFor t.model (Some t
   home_counted a i h = go (nat_lt a (callers program)) refl h
     where
       go : (b : Bool) → nat_lt a (callers program) ≡ b → cond b None (slice_get (actives t) (a - callers program)) ≡ Some i → nat_lt a (actor_count t program) ≡ true
-      go true e h = absurd (no_some i h)
+      go true e h = no_some h
       go false e h = let r : nat_lt (a - callers program) (length (actives t)) ≡ true = within (actives t) (a - callers program) i h in grind (arith, nat_tests)
 
   due_at_once : (a : ℕ) (d : ℕ × Ask) → due_of t program a (first_frames program a) ≡ Some d → nat_lt a (actor_count t program) ≡ true
@@ -163,7 +163,7 @@ module _ (t : Described) (program : Program) (sound : IsSoundFor t.model (Some t
       go x.thread.halted h (grind (arith, nat_tests))
     where
       go : (b : Bool) → cond b None (due_of t program a x.thread.frames) ≡ Some (i, q) → a < actor_count t program → (a < actor_count t program) × (is_placed t i ≡ true) × (ask_fits t program i q ≡ true)
-      go true e r = absurd (no_some {X = ℕ × Ask} (i, q) e)
+      go true e r = no_some e
       go false e r = let f = due_fine t program sound (results_from t [] es) a x.thread.frames (i, q) (told_suits a es x told) e in (r, f.0, f.1)
 
   -- the note of an arrival that is due fits
@@ -172,7 +172,7 @@ module _ (t : Described) (program : Program) (sound : IsSoundFor t.model (Some t
   noted ks a x i r h is = go x.halted is
     where
       go : (b : Bool) → cond b None (due_of t program a x.frames) ≡ Some (i, ask.Arrive r) → note_fits t.model r.origin ≡ true
-      go true e = absurd (no_some {X = ℕ × Ask} (i, ask.Arrive r) e)
+      go true e = no_some e
       go false e = (due_fine t program sound ks a x.frames (i, ask.Arrive r) h e).2
 
   pub told_notes : (a : ℕ) (es : List Entry) (x : ActorState) → Told (core t program) a es x → (i : ℕ) (r : Arrival) → due t program a x.thread ≡ Some (i, ask.Arrive r) → note_fits t.model r.origin ≡ true
@@ -222,33 +222,13 @@ module _ (t : Described) (program : Program) (sound : IsSoundFor t.model (Some t
 -- ---- who has halted
 
 module _ (t : Described) (program : Program) where
-  follows_halted : (i : ℕ) (x : Thread) (w : What) → x.halted ≡ false → (follows t program i x w).halted ≡ is_asserted w
-  unfolding follows
-  follows_halted i x (what.Asserted r) h = refl
-  follows_halted i x (what.Enter r) h = h
-  follows_halted i x (what.Guard r) h = h
-  follows_halted i x (what.Set r) h = h
-  follows_halted i x (what.Save r v) h = h
-  follows_halted i x (what.Put number r) h = h
-  follows_halted i x (what.Dropped r) h = h
-  follows_halted i x (what.Hooked r) h = h
-  follows_halted i x (what.Leave v) h = h
-  follows_halted i x what.Done h = h
-  follows_halted i x (what.Take number point vs) h = h
-  follows_halted i x what.Empty h = h
-  follows_halted i x (what.Emit event became text) h = h
-  follows_halted i x (what.Write channel became v) h = h
-  follows_halted i x (what.Read param v) h = h
-  follows_halted i x (what.Start running actions leaf) h = h
-  follows_halted i x (what.Move running signal actions leaf) h = h
-
   step_halts : (a : ℕ) (x z : ActorState) (e : Entry) → Taken t program a x e z → z.thread.halted ≡ is_asserted e.what
   unfolding due
   step_halts a x z e k = go x.thread.halted refl k.due
     where
       go : (b : Bool) → x.thread.halted ≡ b → cond b None (due_of t program a x.thread.frames) ≡ Some k.asked → z.thread.halted ≡ is_asserted e.what
-      go true is due = absurd (no_some k.asked due)
-      go false is due = ap (λ (y : Thread). y.halted) k.thread ∙ follows_halted k.asked.0 x.thread e.what is
+      go true is due = no_some due
+      go false is due = ap (λ (y : Thread). y.halted) k.thread ∙ follows_halted t program k.asked.0 x.thread e.what is
 
   halts_from : (a : ℕ) (x z : ActorState) (es : List Entry) → InTurn (ActorStep (core t program) a) x es z → z.thread.halted ≡ asserted_last x.thread.halted es
   halts_from a x z [] told = ap (λ (y : ActorState). y.thread.halted) told

@@ -3,7 +3,7 @@ use Rattle.std.proofs.Common.{◌≡◌, ℕ, zero, suc, Bool, true, false, cond
 use Rattle.std.proofs.lemmas.Bool.Decides.{nat_tests}
 use Rattle.fp_base.proofs.Lists.{get_below}
 use Rattle.fp_tables.specs.Specials.{component, special_wire}
-use Rattle.fp_base.proofs.Options.{mapped_some, same_some, some_of}
+use Rattle.fp_base.proofs.Options.{mapped_some, same_some, some_of, no_some}
 use Rattle.fp_base.specs.declared.value.Value.{Value}
 use Rattle.fp_base.proofs.Sameness.{nat_same}
 use Rattle.fp_base.proofs.Bools.{both}
@@ -26,9 +26,6 @@ use Rattle.fp_events.specs.declared.event.Ask.TheVariants as ask
 use Rattle.fp_run_laws.specs.Notes.{ask_note_fits}
 use Rattle.fp_run_laws.specs.Suits.{BoundSuits, at, AdvanceSuits, ActionSuits, MayReturn, DoingsSuit, Returns, Stands, AllSuit}
 use Rattle.fp_run_laws.proofs.Asks.{FirstSuits, first_suits, Binds, DueSuits, send_suits, caller_suits, inside_suits}
-
-pub no_some : {X : Type 0} (x : X) → None ≡ Some x → ⊥
-no_some x h = cc
 
 module _ (t : Described) (program : Program) (sound : IsSoundFor t.model (Some t.topology)) where
   fits_end : (i : ℕ) (v : Option Value) → (ask_fits t program i (ask.Leave v) ≡ true) × (ask_fits t program i ask.Done ≡ true) × (ask_fits t program i ask.Take ≡ true)
@@ -104,13 +101,13 @@ module _ (t : Described) (program : Program) (sound : IsSoundFor t.model (Some t
   fine_at o i result x (Some p) d h e = subst IsFine (same_some e) (h.placed, h.fits, h.noted)
 
   through_fine : (ks : List (Option Kind)) (a : ℕ) (o : Opened) (i : ℕ) (fs : List Frame) (rest : List (Option Kind) → Type 0) (result : Option Kind) (d : ℕ × Ask) → Stands t program ks a o i result fs rest → through t program o i ≡ Some d → IsFine d
-  through_fine ks a own i fs rest result d stands e = absurd (no_some d e)
+  through_fine ks a own i fs rest result d stands e = no_some e
   through_fine ks a (arrived default name) i fs rest result d stands e = subst IsFine (same_some e) (stands.0, (fits_end i default).0, refl)
   through_fine ks a taken i fs rest result d stands e = subst IsFine (same_some e) (stands.0, (fits_end i None).1, refl)
 
   -- the instances of dispatchers are of the topology
   of_filter : (p : ℕ → Bool) (xs : List ℕ) (k i : ℕ) → slice_get (filter p xs) k ≡ Some i → is_in i xs ≡ true
-  of_filter p [] k i h = absurd (no_some i h)
+  of_filter p [] k i h = no_some h
   of_filter p (x ∷ xs) k i h = go (p x) k h (λ k h. of_filter p xs k i h)
     where
       in_rest : (b : Bool) → is_in i xs ≡ true → (b || is_in i xs) ≡ true
@@ -126,7 +123,7 @@ module _ (t : Described) (program : Program) (sound : IsSoundFor t.model (Some t
   home_placed a i h = go (nat_lt a (callers program)) h
     where
       go : (b : Bool) → cond b None (slice_get (actives t) (a - callers program)) ≡ Some i → is_placed t i ≡ true
-      go true h = absurd (no_some i h)
+      go true h = no_some h
       go false h = of_filter (λ i. is_active (component t i).queueing) (placed t) (a - callers program) i h
 
   pub due_fine : (ks : List (Option Kind)) (a : ℕ) (fs : List Frame) (d : ℕ × Ask) → AllSuit t program ks a fs → due_of t program a fs ≡ Some d → IsFine d
@@ -152,7 +149,7 @@ module _ (t : Described) (program : Program) (sound : IsSoundFor t.model (Some t
   BindsFirst o i result (Some (x, b)) j q = Binds t program o i result x j q
 
   through_ends : (ks : List (Option Kind)) (a : ℕ) (o : Opened) (i : ℕ) (fs : List Frame) (rest : List (Option Kind) → Type 0) (result : Option Kind) (d : ℕ × Ask) → Stands t program ks a o i result fs rest → through t program o i ≡ Some d → IsEnd o result d.1
-  through_ends ks a own i fs rest result d stands e = absurd (no_some d e)
+  through_ends ks a own i fs rest result d stands e = no_some e
   through_ends ks a (arrived default name) i fs rest result d stands e =
       subst (λ (p : ℕ × Ask). IsEnd (arrived default name) result p.1) (same_some e) (default, name, refl, stands.1)
   through_ends ks a taken i fs rest result d stands e = subst (λ (p : ℕ × Ask). IsEnd taken result p.1) (same_some e) refl
@@ -174,8 +171,8 @@ module _ (t : Described) (program : Program) (sound : IsSoundFor t.model (Some t
   home_is a i h k = ap (λ (b : Bool). cond b None (slice_get (actives t) (a - callers program))) h ∙ k
 
   clash : {X : Type 0} (o : Option X) (x : X) → o ≡ None → o ≡ Some x → ⊥
-  clash None x h k = no_some x k
-  clash (Some y) x h k = no_some y (sym h)
+  clash None x h k = no_some k
+  clash (Some y) x h k = no_some (sym h)
 
   home_there : (a : ℕ) → nat_lt a (callers program) ≡ false → nat_lt a (actor_count t program) ≡ true → home t program a ≡ None → ⊥
   home_there a h k e =
@@ -186,19 +183,19 @@ module _ (t : Described) (program : Program) (sound : IsSoundFor t.model (Some t
   through_none : (ks : List (Option Kind)) (a : ℕ) (o : Opened) (i : ℕ) (fs : List Frame) (rest : List (Option Kind) → Type 0) (result : Option Kind) → Stands t program ks a o i result fs rest → through t program o i ≡ None
       → (is_own o ≡ true) × (nat_lt a (callers program) ≡ true) × (fs ≡ [])
   through_none ks a own i fs rest result stands e = (refl, stands.0, stands.1)
-  through_none ks a (arrived default name) i fs rest result stands e = absurd (no_some _ (sym e))
-  through_none ks a taken i fs rest result stands e = absurd (no_some _ (sym e))
+  through_none ks a (arrived default name) i fs rest result stands e = no_some (sym e)
+  through_none ks a taken i fs rest result stands e = no_some (sym e)
 
   none_fine : (o : Opened) (i : ℕ) (result : Option Kind) (x : Action) (q : Option (ℕ × Ask)) → DueSuits t program o i result x q → q ≡ None → ⊥
   none_fine o i result x None h e = h
-  none_fine o i result x (Some p) h e = no_some p (sym e)
+  none_fine o i result x (Some p) h e = no_some (sym e)
 
   pub none_due : (ks : List (Option Kind)) (a : ℕ) (fs : List Frame) → nat_lt a (actor_count t program) ≡ true → AllSuit t program ks a fs → due_of t program a fs ≡ None → (is_through fs ≡ true) × (nat_lt a (callers program) ≡ true)
   none_due ks a [] here h e = absurd (home_there a h.0 here (no_home (home t program a) e))
     where
       no_home : (o : Option ℕ) → option_map {U = ℕ × Ask} (λ i. (i, ask.Take)) o ≡ None → o ≡ None
       no_home None e = refl
-      no_home (Some i) e = absurd (no_some _ (sym e))
+      no_home (Some i) e = no_some (sym e)
   none_due ks a (f ∷ fs) here h e = go (first_action f.doing) refl e
     where
       go : (first : Option (Action × Bindings)) → first_action f.doing ≡ first → due_in t program f first ≡ None → (is_through (f ∷ fs) ≡ true) × (nat_lt a (callers program) ≡ true)

@@ -5,22 +5,14 @@ use Rattle.fp_system.proofs.Turns.{InTurn-induction}
 use Rattle.fp_tables.specs.Lookup.{Described}
 use Rattle.fp_tables.specs.declared.program.Program.{Program}
 use Rattle.fp_events.specs.declared.event.Entry.{Entry}
-use Rattle.fp_events.specs.declared.event.What.{What}
 use Rattle.fp_events.specs.declared.event.What.TheVariants as what
 use Rattle.fp_events.specs.Instance.{Inside, InstanceState, Pending, opened_instance}
-use Rattle.fp_events.specs.Leaves.{leaves}
 use Rattle.fp_events.specs.QueueOrder.{untaken_after, untaken_from}
 use Rattle.fp_events.specs.Step.{core}
-use Rattle.fp_events.proofs.QueueLaws.{untaken_from-more}
+use Rattle.fp_events.proofs.QueueLaws.{untaken_from-more, leaves_untaken}
 use Rattle.fp_events.proofs.StepLaws.{given}
 
 module _ (t : Described) (program : Program) (i : ℕ) where
-  left_pending : (s : Inside) (a : ℕ) (w : What) → (leaves t program i s a w).pending ≡ untaken_after t i s.pending w
-  unfolding leaves
-  left_pending s a (what.Put number r) = refl
-  left_pending s a (what.Take number point with) = refl
-  left_pending s a _ = refl
-
   abbrev first : InstanceState
   first = record { inside = opened_instance t i; last = 0 }
 
@@ -28,7 +20,7 @@ module _ (t : Described) (program : Program) (i : ℕ) where
       → system.InstanceStep (core t program) i s e u → u.inside.pending ≡ untaken_from t i [] (es ++ e ∷ [])
   one_more es s u e holds step =
       let g = given t program i e.actor step.seen s u step.ask e step.part in
-      ap (λ (x : Inside). x.pending) g.inside ∙ left_pending s.inside e.actor e.what ∙ ap (λ (ps : List Pending). untaken_after t i ps e.what) holds
+      ap (λ (x : Inside). x.pending) g.inside ∙ leaves_untaken t program i s.inside e.actor e.what ∙ ap (λ (ps : List Pending). untaken_after t i ps e.what) holds
       ∙ sym (untaken_from-more t i [] es e)
 
   pub pending_untaken : (es : List Entry) (s : InstanceState) → system.Kept (core t program) i es s → s.inside.pending ≡ untaken_from t i [] es

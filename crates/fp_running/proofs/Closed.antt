@@ -11,6 +11,7 @@ use Rattle.fp_events.specs.Ends.{EndsAs, IsEnded, can_step, finish, is_asserted,
 use Rattle.fp_events.specs.Fits.{actor_count}
 use Rattle.fp_events.specs.Lookup.{actives, is_active}
 use Rattle.fp_events.specs.Run.{World, actors, at, by, IsRun, RunTo}
+use Rattle.fp_events.proofs.Ended.{ending}
 use Rattle.fp_actor.specs.Acting.{Acting}
 use Rattle.fp_cell.specs.Cells.{Standing}
 use Rattle.fp_running.specs.Closing.{are_idle}
@@ -102,12 +103,6 @@ any_counted p (suc n) b a low high h = go (first b a low) (λ above. any_counted
     go (inr above) later = either (p b) (list_any p (range_with_len (b + 1) n)) (later above)
 
 -- ---- the end
-
--- an end has no step within the limit left
-ending : (can asserted above complete : Bool) (f : Finish)
-    → cond can None (Some (cond asserted Asserted (cond above Spent (cond complete Complete Stuck)))) ≡ Some f → can ≡ false
-ending true asserted above complete f h = absurd (cc)
-ending false asserted above complete f h = refl
 
 abbrev pub Ends : Type 0
 Ends = (t : Described) (p : Program) (es : List Entry) → IsRun t p es → IsEnded t p es ↔ ((f : Finish) × EndsAs t p es f)

@@ -13,4 +13,3 @@ mod Placing
 mod Replaying
 mod Stepping
 mod Steps
-mod Walks

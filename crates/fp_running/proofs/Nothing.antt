@@ -1,18 +1,15 @@
 -- Where no actor has a step within the limit a run is ended.
-use Rattle.std.proofs.Common.{◌≡◌, ◌<◌, ◌≤◌, ◌↔◌, ◌⊎◌, inl, inr, ◌+◌, ℕ, suc, Bool, true, false, List, Option, Some, None, option_map, is_some, unwrap_or, nat_le, refl, sym, ap, ◌∙◌, subst, arith}
-use Rattle.std.proofs.lemmas.Bool.Decides.{nat_tests}
+use Rattle.std.proofs.Common.{◌≡◌, ◌<◌, ◌≤◌, ◌↔◌, ◌⊎◌, inl, inr, ◌+◌, ℕ, suc, Bool, true, false, List, Option, None, option_map, is_some, unwrap_or, nat_le, sym, ap, ◌∙◌, subst, arith}
 use Rattle.fp_system.specs.System.{Laws}
 use Rattle.fp_system.proofs.OfRun.{by_run}
 use Rattle.fp_tables.specs.Lookup.{Described}
 use Rattle.fp_tables.specs.declared.program.Program.{Program}
-use Rattle.fp_events.specs.declared.event.Ask.{Ask}
 use Rattle.fp_events.specs.declared.event.Entry.{Entry}
-use Rattle.fp_events.specs.Due.{due}
-use Rattle.fp_events.specs.Ends.{HasNoDueStep, IsEnded, can_step, next_stamp}
+use Rattle.fp_events.specs.Ends.{HasNoDueStep, IsEnded, can_step}
 use Rattle.fp_events.specs.Fits.{actor_count}
-use Rattle.fp_events.specs.Instance.{InstanceState}
 use Rattle.fp_events.specs.Run.{World, by, opening, IsRun, RunTo}
-use Rattle.fp_events.specs.Step.{core, instance_part}
+use Rattle.fp_events.specs.Step.{core}
+use Rattle.fp_events.proofs.Ended.{stamp_is, above}
 use Rattle.fp_running.specs.Progress.{Progress}
 use Rattle.fp_running.proofs.Steps.{Cannot, HasNone}
 use Rattle.fp_running.proofs.OneTurn.{DueFits}
@@ -21,13 +18,6 @@ abbrev pub EndedByDues : Type 0
 EndedByDues = (t : Described) (p : Program) (es : List Entry) (w : World) → RunTo t p es w → IsEnded t p es ↔ HasNoDueStep t p w
 
 module _ (t : Described) (p : Program) where
-  stamp_is : (w : World) (a i : ℕ) (q : Ask) (e : Entry) (s : InstanceState) → due t p a (w.actors a).thread ≡ Some (i, q)
-      → instance_part t p i (w.instances i) a q (w.actors a).last ≡ Some (e, s) → next_stamp t p w a ≡ Some e.stamp
-  stamp_is w a i q e s is_due gives = rw (is_due, gives) refl
-
-  too_high : (n : ℕ) → nat_le n p.steps ≡ false → p.steps < n
-  too_high n h = grind (arith, nat_tests)
-
   pub ended : Laws (core t p) → DueFits t p → EndedByDues → (es : List Entry) → IsRun t p es
       → ((a : ℕ) → a < actor_count t p → Cannot (record { tables = t; program = p; entries = es }) a) → IsEnded t p es
   ended laws fits law es run cannot = (law t p es run.0 run.1).1 none
@@ -37,8 +27,8 @@ module _ (t : Described) (p : Program) where
           let low = (fits a (by a es) (run.0.actors a) (by_run (core t p) laws es (opening t p) run.0 run.1 a) i q is_due).0 in
           let can : can_step t p run.0 a ≡ false = cannot a low run.0 run.1 in
           let seen : can_step t p run.0 a ≡ nat_le e.stamp p.steps =
-          ap (λ (o : Option ℕ). unwrap_or (option_map (λ n. nat_le n p.steps) o) false) (stamp_is run.0 a i q e s is_due gives) in
-          too_high e.stamp (sym seen ∙ can)
+          ap (λ (o : Option ℕ). unwrap_or (option_map (λ n. nat_le n p.steps) o) false) (stamp_is t p run.0 a i q e s is_due gives) in
+          above t p e.stamp (sym seen ∙ can)
 
 -- one more actor was tried
 pub one_more : (P : ℕ → Type 0) (n m : ℕ) → m ≡ suc n → ((a : ℕ) → a < n → P a) → P n → (a : ℕ) → a < m → P a

@@ -1,7 +1,7 @@
 -- Lists of which each item is what is said of its number, and numbers that stand once in a list.
-use Rattle.std.proofs.Common.{◌≡◌, ◌≢◌, ℕ, zero, suc, Bool, true, false, not, ◌||◌, ◌==◌, List, [], ◌∷◌, length, slice_set, Option, Some, None, refl, ap, ◌∙◌, sym, subst, arith}
+use Rattle.std.proofs.Common.{◌≡◌, ◌≢◌, ℕ, zero, suc, Bool, true, not, ◌||◌, ◌==◌, List, [], ◌∷◌, length, slice_set, Option, Some, None, refl, ap, ◌∙◌, sym, subst, arith}
 use Rattle.std.specs.List.{list_any, slice_get}
-use Rattle.fp_base.proofs.Bools.{both, or_right}
+use Rattle.fp_base.proofs.Bools.{both, or_right, never_true}
 use Rattle.fp_base.proofs.Options.{same_some}
 use Rattle.fp_base.proofs.Sameness.{nat_same}
 use Rattle.fp_tables.specs.Names.{numbers_differ}
@@ -21,10 +21,6 @@ length_set [] i y = refl
 length_set (z ∷ xs) zero y = refl
 length_set (z ∷ xs) (suc i) y = ap suc (length_set xs i y)
 
-clash : (b : Bool) → not b ≡ true → b ≡ true → ⊥
-clash true h k = cc
-clash false h k = cc
-
 module _ (x : ℕ) where
   stands : (xs : List ℕ) (k : ℕ) → slice_get xs k ≡ Some x → list_any (λ m. x == m) xs ≡ true
   stands [] k h = absurd (cc)
@@ -32,7 +28,7 @@ module _ (x : ℕ) where
   stands (y ∷ xs) (suc k) h = or_right (x == y) (list_any (λ m. x == m) xs) (stands xs k h)
 
   stands_once : (xs : List ℕ) (k : ℕ) → not (list_any (λ m. x == m) xs) ≡ true → slice_get xs k ≡ Some x → ⊥
-  stands_once xs k out h = clash (list_any (λ m. x == m) xs) out (stands xs k h)
+  stands_once xs k out h = never_true (list_any (λ m. x == m) xs) out (stands xs k h)
 
 -- of numbers that differ, one stands in one place
 pub one_place : (xs : List ℕ) → numbers_differ xs ≡ true → (j k i : ℕ) → slice_get xs j ≡ Some i → slice_get xs k ≡ Some i → j ≡ k

@@ -5,13 +5,13 @@ use Rattle.fp_base.proofs.Options.{same_some}
 use Rattle.fp_tables.specs.Acts.{is_placed}
 use Rattle.fp_tables.specs.Lookup.{Described, placed}
 use Rattle.fp_tables.specs.declared.program.Program.{Program}
+use Rattle.fp_tables.proofs.Indexed.{item_in}
 use Rattle.fp_events.specs.Actor.{opened_actor}
 use Rattle.fp_events.specs.Fits.{actor_count}
 use Rattle.fp_events.specs.Run.{opening}
 use Rattle.fp_actor.specs.Acting.{Acting}
 use Rattle.fp_cell.specs.Cells.{Standing, opened}
 use Rattle.fp_running.specs.Standing.{AreActors, AreCells, actor_of, cell_of}
-use Rattle.fp_running.proofs.Placing.{item_in}
 
 one_more : {A : Type 0} (P : ℕ → A → Type 0) (xs : List A) (y : A) → ((k : ℕ) (x : A) → slice_get xs k ≡ Some x → P k x) → P (length xs) y
     → (k : ℕ) (x : A) → slice_get (xs ++ y ∷ []) k ≡ Some x → P k x

@@ -5,6 +5,7 @@ use Rattle.std.proofs.lemmas.List.FromFn.{length-map-range_with_len, get_or-map-
 use Rattle.std.proofs.lemmas.Option.{slice_get-map}
 use Rattle.std.specs.Prelude.{option_map}
 use Rattle.fp_base.proofs.Options.{same_some}
+use Rattle.fp_base.proofs.Spots.{before_or_not}
 use Rattle.fp_system.specs.Run as system
 use Rattle.fp_tables.specs.Acts.{is_placed}
 use Rattle.fp_tables.specs.Lists.{is_in}
@@ -13,7 +14,7 @@ use Rattle.fp_tables.specs.declared.program.Program.{Program}
 use Rattle.fp_events.specs.declared.event.Entry.{Entry}
 use Rattle.fp_events.specs.Fits.{actor_count}
 use Rattle.fp_events.specs.Run.{at, by, actors, history, trace, IsKept, IsTold}
-use Rattle.fp_events.proofs.Recorded.{fit_parts, near, row_absent, row_past}
+use Rattle.fp_events.proofs.Recorded.{fit_parts, row_absent, row_past}
 use Rattle.fp_events.proofs.StepLaws.{given, taken}
 use Rattle.fp_run_laws.proofs.Rows.{row_found}
 
@@ -47,7 +48,7 @@ module _ (t : Described) (p : Program) where
         go false is = row_absent (placed t) (map (λ i. at i es) (placed t)) i is ∙ sym (nothing_out i (at i es) (kept i) is)
 
     pub parts_by : ((a : ℕ) → IsTold t p a (by a es)) → (a : ℕ) → trace t p (map (λ a. by a es) (actors t p)) a ≡ by a es
-    parts_by told a = go (near a (actor_count t p))
+    parts_by told a = go (before_or_not a (actor_count t p))
       where
         long : length (map (λ a. by a es) (actors t p)) ≡ actor_count t p
         long = length-map-range_with_len (λ a. by a es) 0 (actor_count t p)

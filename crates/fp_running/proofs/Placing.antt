@@ -1,52 +1,7 @@
--- The places of instances in a topology.
-use Rattle.std.proofs.Common.{◌≡◌, ◌<◌, ℕ, zero, suc, Bool, true, false, cond, ◌||◌, ◌==◌, List, [], ◌∷◌, length, Option, Some, None, option_map, unwrap_or, is_some, slice_get, refl, sym, ap, ◌∙◌, subst}
-use Rattle.std.specs.List.{position}
+-- The place of an instance lies in its topology.
+use Rattle.std.proofs.Common.{◌≡◌, ◌<◌, ℕ, List, length, Some, slice_get}
 use Rattle.std.proofs.lemmas.Option.{slice_get_within}
-use Rattle.fp_base.proofs.Options.{same_some}
-use Rattle.fp_base.proofs.Sameness.{nat_same}
-use Rattle.fp_tables.specs.Lists.{is_in}
-use Rattle.fp_tables.specs.Lookup.{Described, placed}
-use Rattle.fp_tables.specs.Names.{numbers_differ}
-use Rattle.fp_tables.specs.Sound.{IsSoundAt, IsSoundFor}
-use Rattle.fp_tables.specs.declared.model.Model.{Model}
-use Rattle.fp_tables.specs.declared.topology.Topology.{Topology}
-use Rattle.fp_tables.proofs.Firsts.{position_cons, placed_somewhere}
-
-pub item_in : (xs : List ℕ) (k i : ℕ) → slice_get xs k ≡ Some i → is_in i xs ≡ true
-item_in [] k i h = absurd (cc)
-item_in (x ∷ xs) zero i h = ap (λ (b : Bool). b || is_in i xs) (ap (λ (y : ℕ). y == i) (same_some h) ∙ nat_same.itself i)
-item_in (x ∷ xs) (suc k) i h = go (x == i) (item_in xs k i h)
-  where
-    go : (b : Bool) → is_in i xs ≡ true → (b || is_in i xs) ≡ true
-    go true e = refl
-    go false e = e
-
--- where an instance has a place, it stands there
-pub place_holds : (xs : List ℕ) (i k : ℕ) → position (λ m. m == i) xs ≡ Some k → slice_get xs k ≡ Some i
-place_holds [] i k h = absurd (cc)
-place_holds (x ∷ xs) i k h = go (x == i) refl (position (λ m. m == i) xs) (λ j is. place_holds xs i j is) (sym (position_cons (λ (m : ℕ). m == i) x xs) ∙ h)
-  where
-    go : (b : Bool) → (x == i) ≡ b → (o : Option ℕ) → ((j : ℕ) → o ≡ Some j → slice_get xs j ≡ Some i) → cond b (Some 0) (option_map suc o) ≡ Some k → slice_get (x ∷ xs) k ≡ Some i
-    go true e o rest h = subst (λ (n : ℕ). slice_get (x ∷ xs) n ≡ Some i) (same_some h) (ap Some (nat_same.equal x i e))
-    go false e None rest h = absurd (cc)
-    go false e (Some j) rest h = subst (λ (n : ℕ). slice_get (x ∷ xs) n ≡ Some i) (same_some h) (rest j refl)
-
--- an instance of the topology has a place
-pub has_place : (xs : List ℕ) (i : ℕ) → is_in i xs ≡ true → position (λ m. m == i) xs ≡ None → ⊥
-has_place xs i h none = go (position (λ (m : ℕ). m == i) xs) none (placed_somewhere (λ (m : ℕ). m == i) xs ∙ h)
-  where
-    go : (o : Option ℕ) → o ≡ None → is_some o ≡ true → ⊥
-    go None e there = cc
-    go (Some k) e there = cc
 
 -- a place is below the number of instances
 pub place_below : (xs : List ℕ) (k i : ℕ) → slice_get xs k ≡ Some i → k < length xs
 place_below xs k i h = slice_get_within xs k i h
-
--- the instances of a sound topology differ
-differing : (m : Model) (o : Option Topology) → IsSoundAt m o → numbers_differ (unwrap_or (option_map (λ (x : Topology). x.instances) o) []) ≡ true
-differing m None h = absurd h
-differing m (Some o) h = h.instances_differ
-
-pub instances_differ : (t : Described) → IsSoundFor t.model (Some t.topology) → numbers_differ (placed t) ≡ true
-instances_differ t sound = differing t.model (slice_get t.model.topologies t.topology) sound.1

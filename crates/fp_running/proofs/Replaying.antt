@@ -1,6 +1,7 @@
 -- A run that is replayed entry by entry.
 use Rattle.std.proofs.Common.{◌≡◌, ◌<◌, ◌≤◌, ◌+◌, ℕ, zero, suc, Bool, true, false, List, [], ◌∷◌, ◌++◌, length, take, drop, append_assoc, append-nil, Some, refl, sym, ap, ◌∙◌, subst, arith}
 use Rattle.std.specs.List.{slice_get}
+use Rattle.fp_base.proofs.Lists.{split_at}
 use Rattle.fp_tables.specs.Lookup.{Described}
 use Rattle.fp_tables.specs.declared.program.Program.{Program}
 use Rattle.fp_events.specs.declared.event.Entry.{Entry}
@@ -19,14 +20,6 @@ Fitting = (t : Described) (p : Program) (es : List Entry) → IsRun t p es → (
 -- the actor of the last entry of a run is one of the program
 pub known_actor : Fitting → (t : Described) (p : Program) (es : List Entry) (e : Entry) → IsRun t p (es ++ e ∷ []) → e.actor < actor_count t p
 known_actor law t p es e run = (fit_parts t p e.actor e.instance e.what (law t p (es ++ e ∷ []) run es [] e refl)).0
-
-split_at : {A : Type 0} (xs : List A) (k : ℕ) (x : A) → slice_get xs k ≡ Some x → xs ≡ take k xs ++ x ∷ drop (suc k) xs
-split_at [] k x h = absurd (cc)
-split_at (y ∷ xs) zero x h = ap (λ z. z ∷ xs) (some_is h)
-  where
-    some_is : {A : Type 0} {u v : A} → Some u ≡ Some v → u ≡ v
-    some_is e = cc
-split_at (y ∷ xs) (suc k) x h = ap (λ l. y ∷ l) (split_at xs k x h)
 
 take_one_more : {A : Type 0} (xs : List A) (k : ℕ) (x : A) → slice_get xs k ≡ Some x → take (suc k) xs ≡ take k xs ++ x ∷ []
 take_one_more [] k x h = absurd (cc)

@@ -1,9 +1,10 @@
 -- What a sound value has at its keys and in its lists is sound.
-use Rattle.std.proofs.Common.{◌≡◌, ◌<◌, ◌+◌, ℕ, zero, suc, List, [], ◌∷◌, ◌++◌, length, get_or, take, map, Option, Some, None, Bool, true, false, option_map, option_and_then, unwrap_or, codes, nat_le, ◌&&◌, ◌^◌, rules, refl, sym, ap, ◌∙◌, subst, arith, IsSome, is_some}
+use Rattle.std.proofs.Common.{◌≡◌, ◌<◌, ◌+◌, ℕ, zero, suc, List, [], ◌∷◌, ◌++◌, length, get_or, take, map, Option, Some, None, true, false, option_map, option_and_then, unwrap_or, codes, nat_le, ◌&&◌, ◌^◌, rules, refl, sym, ap, ◌∙◌, subst, arith, IsSome, is_some}
 use Rattle.std.specs.List.{list_all}
 use Rattle.std.proofs.lemmas.List.{take_more, map-append}
 use Rattle.std.specs.Prelude.{slice_get}
 use Rattle.std.proofs.lemmas.Option.{none-some}
+use Rattle.std.proofs.lemmas.Bool.{true_from_ne_false}
 use Rattle.serde_json.specs.Data.{Data, Items, no_items, item, null, boolean, number, string, array, object}
 use Rattle.serde_json.specs.Find.{get, at, get_item, as_object}
 use Rattle.serde_json.specs.View.{view}
@@ -18,15 +19,11 @@ use Rattle.fp_scenario.specs.declared.wanted.Wanted.{Wanted}
 use Rattle.fp_scenario.specs.declared.wanted.Wanted.TheVariants.{Scenario, Steps}
 use Rattle.fp_scenario.proofs.Breaking.{breaks_here, breaks_in_member, breaks_in_item}
 
-bool_is : (b : Bool) → (b ≡ false → ⊥) → b ≡ true
-bool_is true h = refl
-bool_is false h = absurd (h refl)
-
 pub kind_of_sound : (w : Wanted) (d : Data) → IsSound w d → is_of_kind w d ≡ true
-kind_of_sound w d h = bool_is (is_of_kind w d) (λ wrong. h WrongKindOfValue [] (breaks_here w d WrongKindOfValue [] (refl, wrong)))
+kind_of_sound w d h = true_from_ne_false (is_of_kind w d) (λ wrong. h WrongKindOfValue [] (breaks_here w d WrongKindOfValue [] (refl, wrong)))
 
 pub size_of_sound : (w : Wanted) (d : Data) → IsSound w d → is_of_size w d ≡ true
-size_of_sound w d h = bool_is (is_of_size w d) (λ wrong. h PastSize [] (breaks_here w d PastSize [] (refl, kind_of_sound w d h, wrong)))
+size_of_sound w d h = true_from_ne_false (is_of_size w d) (λ wrong. h PastSize [] (breaks_here w d PastSize [] (refl, kind_of_sound w d h, wrong)))
 
 pub member_sound : (w v : Wanted) (d x : Data) (k : List ℕ) → IsSound w d → wanted_at w d k ≡ Some v → get k d ≡ Some x → IsSound v x
 member_sound w v d x k h wants found rule path b = h rule _ (breaks_in_member w v d x k found wants rule path b)
@@ -93,4 +90,4 @@ pub steps_fit : (d : Data) (n : ℕ) → IsSound Scenario d → number_at (codes
 steps_fit d n h is = few_at (get (codes "steps") d) n (λ y found. member_sound Scenario Steps d y (codes "steps") h refl found) is
 
 pub needed_of_sound : (w : Wanted) (d : Data) → IsSound w d → IsSome (as_object d) → list_all (λ k. is_some (get k d)) (needed w (first_of d)) ≡ true
-needed_of_sound w d h some = bool_is _ (λ lacks. h MissingKey [] (breaks_here w d MissingKey [] (refl, some, lacks)))
+needed_of_sound w d h some = true_from_ne_false _ (λ lacks. h MissingKey [] (breaks_here w d MissingKey [] (refl, some, lacks)))

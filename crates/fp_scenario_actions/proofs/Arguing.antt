@@ -16,9 +16,9 @@ use Rattle.fp_tables.specs.declared.kind.Kind.{Kind}
 use Rattle.fp_tables.specs.declared.kind.TypeDef.{TypeDef}
 use Rattle.fp_tables.specs.declared.program.Arg.{Arg}
 use Rattle.fp_tables.specs.declared.program.Arg.TheVariants.{Given, Bound}
-use Rattle.fp_base.proofs.Options.{same_some}
+use Rattle.fp_base.proofs.Options.{same_some, none_some}
+use Rattle.fp_base.proofs.Bools.{not_both}
 use Rattle.fp_scenario_actions.specs.Wanted.{Wanted, wanted}
-use Rattle.fp_scenario_actions.proofs.Making.{none_some, not_both}
 use Rattle.fp_scenario_actions.specs.Arguments.{Means, name_in, IsArgument, bound, value, AreArguments}
 use Rattle.fp_scenario_actions.specs.Made.{IsMade, IsArgumentMade, named_made}
 

@@ -1,7 +1,7 @@
 -- Actions of callers from what they name and their arguments.
-use Rattle.std.proofs.Common.{◌≡◌, ℕ, ◌-◌, List, [], ◌∷◌, take, drop, Some, refl, ap, ◌∙◌, subst, arith}
+use Rattle.std.proofs.Common.{◌≡◌, List, [], ◌∷◌, drop, Some, refl, ap, ◌∙◌, subst}
+use Rattle.std.proofs.lemmas.Bool.{and_right}
 use Rattle.std.specs.Prelude.{Result, Ok, Err, IfErr, option_map, option_and_then}
-use Rattle.std.specs.List.{slice_range}
 use Rattle.fp_base.specs.declared.rule.Rule.{Rule}
 use Rattle.fp_base.specs.declared.rule.Rule.TheVariants.{UnknownName, BadArgument}
 use Rattle.fp_tables.specs.Lookup.{Described}
@@ -19,11 +19,10 @@ use Rattle.fp_scenario_actions.specs.declared.halt.Halt.{Halt}
 use Rattle.fp_scenario_actions.specs.declared.halt.Halt.TheVariants as halt
 use Rattle.fp_scenario_actions.specs.Acting.{names_are_bound, ArgumentsBreak}
 use Rattle.fp_scenario_actions.specs.Calling.{input_named, kinds_in, is_known, Breaks}
-use Rattle.fp_scenario_actions.proofs.Halting.{either_false}
 
 module _ (t : Described) (scope : Scope) (a : ActText) where
   lifted : (kinds : List Kind) (rule : Rule) → kinds_in t key.Call a ≡ Some kinds → ArgumentsBreak t.model.types scope kinds a rule → Breaks t rule key.Call scope a
-  lifted kinds UnknownName is h = (refl, either_false (is_known t key.Call a) (names_are_bound scope a) h)
+  lifted kinds UnknownName is h = (refl, and_right (is_known t key.Call a) (names_are_bound scope a) h)
   lifted kinds BadArgument is h = (kinds, is, h)
   lifted kinds _ is h = absurd h
 
@@ -39,6 +38,3 @@ module _ (t : Described) (scope : Scope) (a : ActText) where
 drop_none : {A : Type 0} (xs : List A) → drop 0 xs ≡ xs
 drop_none [] = refl
 drop_none (x ∷ xs) = refl
-
-pub front_of : (name front : List ℕ) (at : ℕ) → front ≡ slice_range name 0 at → front ≡ take at name
-front_of name front at e = let same : at - 0 ≡ at = omega arith in e ∙ ap (λ (n : ℕ). take n (drop 0 name)) same ∙ ap (take at) (drop_none name)

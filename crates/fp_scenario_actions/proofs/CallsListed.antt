@@ -1,6 +1,7 @@
 -- Lists of actions of callers, an action at a time.
 use Rattle.std.proofs.Common.{◌≡◌, ℕ, suc, ◌+◌, ◌<◌, ◌≤◌, List, [], ◌∷◌, ◌++◌, length, drop, get_or, sym, subst, arith, append_assoc, append-nil}
 use Rattle.fp_base.specs.declared.rule.Rule.{Rule}
+use Rattle.fp_base.proofs.Lists.{drop_over}
 use Rattle.fp_tables.specs.Lookup.{Described}
 use Rattle.fp_tables.specs.Arguments.{Scope}
 use Rattle.fp_tables.specs.declared.program.Act.{Act}
@@ -11,7 +12,7 @@ use Rattle.fp_scenario_actions.specs.Listing.{at_position}
 use Rattle.fp_scenario_actions.specs.declared.halt.Halt.{Halt}
 use Rattle.fp_scenario_actions.specs.declared.halt.Halt.TheVariants as halt
 use Rattle.fp_scenario_actions.specs.declared.listing.ListHalt.{ListHalt}
-use Rattle.fp_scenario_actions.proofs.Listed.{dropped, all_dropped}
+use Rattle.fp_scenario_actions.proofs.Listed.{dropped}
 
 module _ (t : Described) (begins : Scope) (texts : List ActText) where
   abbrev pub Completes : Scope → ℕ → List Act → Type 0
@@ -52,4 +53,4 @@ module _ (t : Described) (begins : Scope) (texts : List ActText) where
 
   pub completed : (scope : Scope) (n : ℕ) (row : List Act) → length texts ≤ n → Completes scope n row → ActsPlan t begins texts row
   completed scope n row all h =
-      subst (λ r. ActsPlan t begins texts r) (append-nil row) (h [] (subst (λ xs. ActsPlan t scope xs []) (sym (all_dropped texts n all)) tt))
+      subst (λ r. ActsPlan t begins texts r) (append-nil row) (h [] (subst (λ xs. ActsPlan t scope xs []) (sym (drop_over texts n all)) tt))

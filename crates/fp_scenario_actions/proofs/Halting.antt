@@ -1,5 +1,6 @@
 -- Actions from what they name and their arguments.
-use Rattle.std.proofs.Common.{◌≡◌, ℕ, Bool, true, false, ◌&&◌, List, [], ◌∷◌, map, Option, Some, None, refl, sym, ap, ◌∙◌, subst}
+use Rattle.std.proofs.Common.{◌≡◌, ℕ, Bool, true, ◌&&◌, List, [], ◌∷◌, map, Option, Some, None, refl, sym, ap, ◌∙◌, subst}
+use Rattle.std.proofs.lemmas.Bool.{and_right}
 use Rattle.std.specs.Prelude.{Result, Ok, Err, IfOk, IfErr, slice_get, option_and_then, option_to_list, is_some}
 use Rattle.std.specs.List.{list_all}
 use Rattle.serde_json.specs.View.{view}
@@ -38,16 +39,9 @@ use Rattle.fp_scenario_actions.specs.declared.halt.Halt.{Halt}
 use Rattle.fp_scenario_actions.specs.declared.halt.Halt.TheVariants as halt
 use Rattle.fp_scenario_actions.specs.Acting.{verb_of, binding, names_are_bound, ArgumentsBreak, PlansWith, subject_of, name_in, kinds_in, is_known, is_wired, is_allowed, returns_well, dispatches_well, machine_in, command_at, takes_at, SendBreaks, Breaks, Plans}
 
-pub at_slice : {A : Type 0} (xs ys : List A) (n : ℕ) (x : A) → xs ≡ ys → slice_get xs n ≡ Some x → slice_get ys n ≡ Some x
-at_slice xs ys n x is found = subst (λ zs. slice_get zs n ≡ Some x) is found
-
-pub either_false : (a b : Bool) → b ≡ false → (a && b) ≡ false
-either_false true b e = e
-either_false false b e = refl
-
 module _ (t : Described) (i : ℕ) (c : Component) (place : Spot) (k : FirstKey) (scope : Scope) (last : Bool) (a : ActText) where
   lifted : (kinds : List Kind) (rule : Rule) → kinds_in t i c place k a ≡ Some kinds → ArgumentsBreak t.model.types scope kinds a rule → Breaks t i c place rule k scope last a
-  lifted kinds UnknownName is h = either_false (is_known t i c place k a) (names_are_bound scope a) h
+  lifted kinds UnknownName is h = and_right (is_known t i c place k a) (names_are_bound scope a) h
   lifted kinds BadArgument is h = (kinds, is, h)
   lifted kinds _ is h = absurd h
 
@@ -111,7 +105,7 @@ actions_of_short x h =
     let b = both (is_short x.signals && is_short x.actions) (is_short x.guards) a.0 in
     (both (is_short x.signals) (is_short x.actions) b.0).1
 
-machine_at_short : (m : Model) (n : ℕ) (x : Machine) → lists_are_short m ≡ true → slice_get m.machines n ≡ Some x → machine_is_short x ≡ true
+pub machine_at_short : (m : Model) (n : ℕ) (x : Machine) → lists_are_short m ≡ true → slice_get m.machines n ≡ Some x → machine_is_short x ≡ true
 machine_at_short m n x h e =
     let a = both _ (list_all (λ (o : Topology). is_short o.instances) m.topologies) h in
     all_get machine_is_short m.machines n x (both _ (list_all machine_is_short m.machines) a.0).1 e
@@ -140,7 +134,7 @@ component_short m i c h e = in_components m (slice_get m.instances i) c h e
 
 module _ (t : Described) (scope : Scope) (e : End) (a : ActText) where
   sent_lifted : (n : ℕ) (kinds : List Kind) (rule : Rule) → command_at t a.name e ≡ Some n → takes_at t e n ≡ Some kinds → ArgumentsBreak t.model.types scope kinds a rule → SendBreaks t scope e a rule
-  sent_lifted n kinds UnknownName is takes h = either_false (is_some (command_at t a.name e)) (names_are_bound scope a) h
+  sent_lifted n kinds UnknownName is takes h = and_right (is_some (command_at t a.name e)) (names_are_bound scope a) h
   sent_lifted n kinds BadArgument is takes h = (kinds, ap (option_and_then (takes_at t e)) is ∙ takes, h)
   sent_lifted n kinds _ is takes h = absurd h
 

@@ -1,21 +1,18 @@
 -- The identifiers of a scenario are the names of the language.
-use Rattle.std.proofs.Common.{◌≡◌, ℕ, Bool, true, false, ◌&&◌, ◌||◌, ◌==◌, List, [], ◌∷◌, refl, ap, ap₂, ◌∙◌, arith}
+use Rattle.std.proofs.Common.{◌≡◌, ℕ, Bool, ◌&&◌, ◌||◌, ◌==◌, List, [], ◌∷◌, refl, ap, ap₂, ◌∙◌, arith}
 use Rattle.std.specs.Prelude.{nat_le}
 use Rattle.std.specs.List.{list_all}
 use Rattle.std.proofs.lemmas.Bool.Decides.{nat_tests}
 use Rattle.fp_base.specs.Names as names
+use Rattle.fp_base.proofs.Bools.{or_assoc}
 use Rattle.fp_scenario.specs.Kinds as kinds
 
 one_byte : (n : ℕ) → (nat_le 95 n && nat_le n 95) ≡ (n == 95)
 one_byte n = grind (arith, nat_tests)
 
-apart : (a b c : Bool) → ((a || b) || c) ≡ (a || (b || c))
-apart true b c = refl
-apart false b c = refl
-
 same_letter : (n : ℕ) → kinds.is_letter n ≡ names.is_letter n
 same_letter n =
-    apart (nat_le 65 n && nat_le n 90) (nat_le 97 n && nat_le n 122) (nat_le 95 n && nat_le n 95)
+    or_assoc (nat_le 65 n && nat_le n 90) (nat_le 97 n && nat_le n 122) (nat_le 95 n && nat_le n 95)
     ∙ ap (λ b. (nat_le 65 n && nat_le n 90) || ((nat_le 97 n && nat_le n 122) || b)) (one_byte n)
 
 same_byte : (n : ℕ) → kinds.is_letter_or_digit n ≡ names.is_name_byte n

@@ -4,7 +4,7 @@ use Rattle.std.specs.List.{list_all}
 use Rattle.serde_json.specs.Data as json
 use Rattle.serde_json.specs.View.{view}
 use Rattle.serde_json.specs.declared.value.Value.{Value as Json}
-use Rattle.fp_base.proofs.Bools.{join}
+use Rattle.fp_base.proofs.Bools.{join, not_both}
 use Rattle.fp_base.proofs.Options.{same_some}
 use Rattle.fp_base.specs.declared.rule.Rule.{Rule}
 use Rattle.fp_base.specs.declared.rule.Rule.TheVariants.{UnknownName, BadArgument, NoWire, BadReturn, BadDispatch, ActionNotAllowed}
@@ -20,7 +20,6 @@ use Rattle.fp_tables.specs.declared.program.Spot.{Spot}
 use Rattle.fp_scenario.specs.declared.scenario.ActText.{ActText}
 use Rattle.fp_scenario.specs.declared.first_key.FirstKey.{FirstKey}
 use Rattle.fp_scenario_actions.specs.Arguments.{is_bound, IsArgument, bound, value, AreArguments}
-use Rattle.fp_scenario_actions.proofs.Making.{not_both}
 use Rattle.fp_scenario_actions.specs.Acting.{names_are_bound, is_known, scope_after, Breaks, Plans}
 use Rattle.fp_scenario_actions.specs.Listing.{is_end, ActsPlan, BreaksAt}
 

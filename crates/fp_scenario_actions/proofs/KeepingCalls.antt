@@ -11,9 +11,8 @@ use Rattle.fp_scenario.specs.declared.first_key.FirstKey.{FirstKey}
 use Rattle.fp_scenario.specs.declared.first_key.FirstKey.TheVariants as key
 use Rattle.fp_scenario_actions.specs.Arguments.{AreArguments}
 use Rattle.fp_scenario_actions.specs.Calling.{is_call, is_return, is_dispatch, scope_after, Breaks, Plans, ActsPlan, BreaksAt}
-use Rattle.fp_base.proofs.Bools.{join}
+use Rattle.fp_base.proofs.Bools.{join, not_both}
 use Rattle.fp_base.proofs.Options.{same_some}
-use Rattle.fp_scenario_actions.proofs.Making.{not_both}
 use Rattle.fp_scenario_actions.proofs.Keeping.{all_bound}
 
 not_true : false ≡ true → ⊥

@@ -2,6 +2,7 @@
 use Rattle.std.proofs.Common.{◌≡◌, ℕ, zero, suc, ◌+◌, ◌<◌, ◌≤◌, Bool, List, [], ◌∷◌, ◌++◌, length, drop, get_or, eqb, refl, sym, ap, ◌∙◌, subst, arith, add-one, append_assoc, append-nil}
 use Rattle.std.proofs.lemmas.Bool.Decides.{nat_tests}
 use Rattle.fp_base.specs.declared.rule.Rule.{Rule}
+use Rattle.fp_base.proofs.Lists.{drop_over}
 use Rattle.fp_tables.specs.Lookup.{Described}
 use Rattle.fp_tables.specs.Arguments.{Scope}
 use Rattle.fp_tables.specs.declared.component.Component.{Component}
@@ -34,12 +35,6 @@ end_at_length (y ∷ ys) (suc i) lt = one_less (suc i) (length ys) ∙ end_at_le
 
 pub ends : {A : Type 0} (xs : List A) (i : ℕ) → i < length xs → eqb (i + 1) (length xs) ≡ is_end (drop (i + 1) xs)
 ends xs i lt = rw add-one (end_at_length xs i lt)
-
-pub all_dropped : {A : Type 0} (xs : List A) (i : ℕ) → length xs ≤ i → drop i xs ≡ []
-all_dropped [] zero h = refl
-all_dropped [] (suc i) h = refl
-all_dropped (x ∷ xs) zero h = absurd (omega arith)
-all_dropped (x ∷ xs) (suc i) h = all_dropped xs i (omega arith)
 
 module _ (t : Described) (i : ℕ) (c : Component) (place : Spot) (begins : Scope) (texts : List ActText) where
   abbrev pub Completes : Scope → ℕ → List Act → Type 0
@@ -80,4 +75,4 @@ module _ (t : Described) (i : ℕ) (c : Component) (place : Spot) (begins : Scop
 
   pub completed : (scope : Scope) (n : ℕ) (row : List Act) → length texts ≤ n → Completes scope n row → ActsPlan t i c place begins texts row
   completed scope n row all h =
-      subst (λ r. ActsPlan t i c place begins texts r) (append-nil row) (h [] (subst (λ xs. ActsPlan t i c place scope xs []) (sym (all_dropped texts n all)) tt))
+      subst (λ r. ActsPlan t i c place begins texts r) (append-nil row) (h [] (subst (λ xs. ActsPlan t i c place scope xs []) (sym (drop_over texts n all)) tt))

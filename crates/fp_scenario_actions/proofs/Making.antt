@@ -1,7 +1,7 @@
 -- What is made of a JSON value, from what is made of its parts.
 use Rattle.std.proofs.Common.{◌≡◌, ℕ, ◌+◌, ◌<◌, ◌≤◌, suc, zero, ℤ, Bool, true, false, cond, ◌&&◌, List, [], ◌∷◌, ◌++◌, map, length, take, get_or, slice_get, Option, Some, None, string_bytes, refl, sym, ap, ◌∙◌, subst}
 use Rattle.std.specs.Prelude.{int_le, option_map, option_and_then}
-use Rattle.std.proofs.lemmas.List.{take_more, take_all, map-append, length-map}
+use Rattle.std.proofs.lemmas.List.{take_all, map-append, length-map}
 use Rattle.std.proofs.lemmas.Option.{slice_get_read}
 use Rattle.serde_json.specs.Data as json
 use Rattle.serde_json.specs.Find.{as_integer}
@@ -10,7 +10,9 @@ use Rattle.serde_json.specs.declared.value.Value.{Value as Json}
 use Rattle.serde_json.proofs.Views.{Entry}
 use Rattle.fp_base.specs.declared.value.Value.{Value, Int, Array}
 use Rattle.fp_base.specs.declared.value.MemberValue.{MemberValue}
-use Rattle.fp_base.proofs.Options.{same_some}
+use Rattle.fp_base.proofs.Options.{same_some, none_some}
+use Rattle.fp_base.proofs.Bools.{not_both}
+use Rattle.fp_base.proofs.Lists.{taken_next}
 use Rattle.fp_tables.specs.Types as shapes
 use Rattle.fp_tables.specs.declared.kind.Kind.{Kind}
 use Rattle.fp_tables.specs.declared.kind.Field.{Field}
@@ -24,15 +26,6 @@ use Rattle.fp_sound_types.specs.declared.shapes.Shape.TheVariants as read
 use Rattle.fp_scenario_actions.specs.Wanted.{Wanted, integer, truth, words, array, struct, constants, opaque, nothing, with_default, wanted, member, constant_named}
 use Rattle.fp_scenario_actions.specs.Arguments.{Means, number, truth_value, text, constant, no_value, items, members, EachMeans, none, more, MembersMean, no_member, in_member}
 use Rattle.fp_scenario_actions.specs.Made.{number_made, truth_made, text_made, null_made, completed, IsMade, IsMadeAt, AreMadeAt}
-
-pub none_some : {A B : Type 0} {x : A} {o : Option A} → o ≡ None → o ≡ Some x → B
-none_some e d = let both : None ≡ Some _ = sym e ∙ d in cc
-
-pub not_both : {A : Type 0} {b : Bool} → b ≡ true → b ≡ false → A
-not_both e f = let both : true ≡ false = sym e ∙ f in cc
-
-pushed : {A : Type 0} (xs : List A) (i : ℕ) (x : A) → i < length xs → x ≡ get_or xs i x → take (i + 1) xs ≡ take i xs ++ x ∷ []
-pushed xs i x lt is = take_more xs i x lt ∙ ap (λ y. take i xs ++ y ∷ []) (sym is)
 
 module _ (types : List TypeDef) where
   -- ---- what a value is that means something
@@ -129,7 +122,7 @@ module _ (types : List TypeDef) where
   pub each_next : (w : Wanted) (xs : List Json) (i : ℕ) (x : Json) (v : Value) (made longer : List Value) → i < length xs → x ≡ get_or xs i x
       → EachMeans types w (items_view (take i xs)) made → Means types w (view x) v → longer ≡ made ++ v ∷ [] → EachMeans types w (items_view (take (i + 1) xs)) longer
   each_next w xs i x v made longer lt is h g e =
-      let grown : map view (take (i + 1) xs) ≡ map view (take i xs) ++ view x ∷ [] = ap (map view) (pushed xs i x lt is) ∙ map-append view (take i xs) (x ∷ []) in
+      let grown : map view (take (i + 1) xs) ≡ map view (take i xs) ++ view x ∷ [] = ap (map view) (taken_next xs i x lt is) ∙ map-append view (take i xs) (x ∷ []) in
       subst (λ ds. EachMeans types w (items_of ds) longer) (sym grown) (subst (λ vs. EachMeans types w (items_of (map view (take i xs) ++ view x ∷ [])) vs) (sym e) (each_snoc w (map view (take i xs)) (view x) v h g))
 
   pub each_last : (w : Wanted) (xs : List Json) (i : ℕ) (made : List Value) → length xs ≤ i → EachMeans types w (items_view (take i xs)) made → EachMeans types w (items_view xs) made

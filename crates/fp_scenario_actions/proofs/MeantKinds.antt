@@ -1,5 +1,5 @@
 -- What a JSON value means where a type is wanted is a value of the type.
-use Rattle.std.proofs.Common.{◌≡◌, ℕ, zero, suc, Bool, true, false, cond, List, [], ◌∷◌, length, eqb, slice_get, Option, Some, None, refl, sym, ap, ◌∙◌, subst}
+use Rattle.std.proofs.Common.{◌≡◌, ℕ, zero, suc, Bool, true, false, cond, List, [], ◌∷◌, length, slice_get, Option, Some, None, refl, sym, ap, ◌∙◌, subst}
 use Rattle.std.specs.Prelude.{find, option_map, unwrap_or}
 use Rattle.std.specs.List.{list_all, list_any}
 use Rattle.std.specs.Str.{bytes_eq}
@@ -11,7 +11,8 @@ use Rattle.fp_base.specs.declared.value.MemberValue.{MemberValue}
 use Rattle.fp_base.proofs.Bools.{both, join, or_left, or_right}
 use Rattle.fp_base.proofs.Lists.{all_get}
 use Rattle.fp_base.proofs.Options.{same_some, mapped_some}
-use Rattle.fp_base.proofs.Sameness.{nat_same, value_same}
+use Rattle.fp_base.proofs.Sameness.{value_same}
+use Rattle.fp_base.proofs.Numbers.{number_same}
 use Rattle.fp_tables.specs.Arguments.{Scope, is_one_kind, argument_suits, arguments_suit}
 use Rattle.fp_tables.specs.Lists.{all_beside, some_and}
 use Rattle.fp_tables.specs.Machines.{target_by, follow}
@@ -42,9 +43,6 @@ found_passes {A = A} p q (y ∷ xs) x e h = go (p y) e (both (q y) (list_all q x
     go : (b : Bool) → cond b (Some y) (find p xs) ≡ Some x → (q y ≡ true) × (list_all q xs ≡ true) → (find p xs ≡ Some x → list_all q xs ≡ true → q x ≡ true) → q x ≡ true
     go true e h rest = subst (λ (z : A). q z ≡ true) (same_some e) h.0
     go false e h rest = rest e h.1
-
-nat_same_of : {m n : ℕ} → m ≡ n → eqb m n ≡ true
-nat_same_of {m = m} e = subst (λ (x : ℕ). eqb m x ≡ true) e (nat_same.itself m)
 
 -- ---- the shape of what is wanted
 
@@ -230,7 +228,7 @@ module _ (m : Model) (sound : HasSoundTypes m) where
     has_meant (constant {s = s} {cs = cs} {x = x} e) good = constant_has m.types cs s x e good
     has_meant no_value good = refl
     has_meant (items {size = size} {k = k} {vs = vs} h long) good =
-        array_has m.types size k vs ∙ join _ _ (nat_same_of long) (all_out_of m.types (default_of m.types k) (shape m.types k) vs (each_has h (kind_sound k)))
+        array_has m.types size k vs ∙ join _ _ (number_same _ _ long) (all_out_of m.types (default_of m.types k) (shape m.types k) vs (each_has h (kind_sound k)))
     has_meant (members {fields = fields} {default = default} {given = given} h) good =
         struct_has m.types fields (with_given given (parts_in default))
         ∙ given_beside m.types fields given fields (parts_in default) (are_given h) (all_meant fields good.0) (parts_beside m.types fields default good.1)

@@ -1,16 +1,13 @@
 -- Lists that 32 bits number.
 use Rattle.std.proofs.Common.{◌≡◌, ℕ, ◌<◌, ◌^◌, true, ◌&&◌, List, length, Option, Some, None, arith}
 use Rattle.std.specs.Prelude.{IfSome}
-use Rattle.std.proofs.lemmas.Bool.Decides.{nat_tests}
 use Rattle.fp_base.proofs.Bools.{both}
 use Rattle.fp_tables.specs.Positions.{is_short, component_is_short}
 use Rattle.fp_tables.specs.declared.component.Component.{Component}
-
-below : {A : Type 0} (xs : List A) → is_short xs ≡ true → length xs < 2 ^ 32
-below xs h = grind (arith, nat_tests)
+use Rattle.fp_tables.proofs.Short.{short_length}
 
 pub narrow : {A : Type 0} (xs : List A) (o : Option ℕ) → is_short xs ≡ true → IfSome o (λ at. at < length xs) → IfSome o (λ n. n < 2 ^ 32)
-narrow xs (Some n) short h = let few = below xs short in omega (arith, few, h)
+narrow xs (Some n) short h = let few = short_length xs short in omega (arith, few, h)
 narrow xs None short h = tt
 
 pub record AreShort (c : Component) : Type 0 where

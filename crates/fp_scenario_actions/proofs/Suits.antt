@@ -6,7 +6,8 @@ use Rattle.std.specs.Str.{bytes_eq}
 use Rattle.serde_json.specs.View.{view}
 use Rattle.fp_base.proofs.Bools.{both, join}
 use Rattle.fp_base.proofs.Options.{same_some, some_of, mapped_some, then_some}
-use Rattle.fp_base.proofs.Sameness.{nat_same}
+use Rattle.fp_base.proofs.Numbers.{number_itself}
+use Rattle.fp_base.proofs.Passing.{position_passes}
 use Rattle.fp_base.specs.Names.{is_name}
 use Rattle.fp_base.specs.Same.{same_bool}
 use Rattle.fp_tables.specs.Acts as acts
@@ -36,6 +37,8 @@ use Rattle.fp_tables.specs.declared.program.Verb.{Verb}
 use Rattle.fp_tables.specs.declared.program.Verb.TheVariants as verb
 use Rattle.fp_tables.specs.declared.program.Act.{Act}
 use Rattle.fp_tables.specs.declared.program.Spot.{Spot}
+use Rattle.fp_tables.proofs.Optional.{some_and_at}
+use Rattle.fp_tables.proofs.Untyped.{none_bound}
 use Rattle.fp_scenario.specs.Same.{IsNamed}
 use Rattle.fp_scenario.specs.declared.scenario.ActText.{ActText}
 use Rattle.fp_scenario.specs.declared.first_key.FirstKey.{FirstKey}
@@ -45,24 +48,17 @@ use Rattle.fp_scenario_actions.specs.Acting.{verb_of, end_at, wire_at, is_for_co
 use Rattle.fp_scenario_actions.specs.Listing.{is_end, is_return, ActsPlan, lacks_return}
 use Rattle.fp_scenario_actions.specs.Named.{port_where, running_named, name_of}
 use Rattle.fp_scenario_actions.proofs.Identifiers.{identifier_is_name}
-use Rattle.fp_scenario_actions.proofs.Wired.{tested, tested_if, position_passes, where_is, wire_is, wire_to_general}
+use Rattle.fp_scenario_actions.proofs.Wired.{tested_if, where_is, wire_is, wire_to_general}
 
 there_some : {A : Type 0} (o : Option A) (x : A) → o ≡ Some x → is_some o ≡ true
 there_some o x e = ap is_some e
-
-pub none_bound : (o : Option (List ℕ)) (scope : Scope) → bound_to o None scope ≡ scope
-none_bound None scope = refl
-none_bound (Some name) scope = refl
-
-same_number : (n : ℕ) → (n == n) ≡ true
-same_number n = nat_same.itself n
 
 module _ (t : Described) (sound : IsSoundFor t.model (Some t.topology)) (i : ℕ) (c : Component) (there : component_of t.model i ≡ Some c) (place : Spot) where
   port_is : (p : ℕ) → port_of t.model i p ≡ slice_get c.ports p
   port_is p = ap (option_and_then (λ (d : Component). slice_get d.ports p)) there
 
   component_is : (test : Component → Bool) → test c ≡ true → component_passes t i test ≡ true
-  component_is test h = tested test (component_of t.model i) c there h
+  component_is test h = some_and_at test (component_of t.model i) c there h
 
   machine_runs : (o : Option Running) → option_and_then (slice_get t.model.machines) (option_map (λ (x : Running). x.machine) o) ≡ option_and_then (λ (x : Running). slice_get t.model.machines x.machine) o
   machine_runs None = refl
@@ -103,8 +99,8 @@ module _ (t : Described) (sound : IsSoundFor t.model (Some t.topology)) (i : ℕ
         let wire = some_of (wire_at t e) (tested_if (λ (y : End). is_some (wire_at t y)) (subject_of t i c place key.Call a) e subject plan.wired) in
         let allowed = tested_if (λ (y : End). not (is_recv t y)) (wire_of t i c place key.Call a) wire.0 (ap (option_and_then (wire_at t)) subject ∙ wire.1) plan.allowed in
         ap CallsAt (sym p.2)
-        ∙ join _ _ (tested (λ (y : Port). is_general_output y.role && takes t scope y.formals act) (port_of t.model i p.0) x.0 (port_is p.0 ∙ x.1) (join _ _ x.2 (suit_for key.Call (kinds_of x.0.formals) plan kinds)))
-        (tested (has_role t is_general_input) (wire_from t e) wire.0 (wire_is t e wire.0 wire.1) (wire_to_general t sound e wire.0 (wire_is t e wire.0 wire.1) allowed))
+        ∙ join _ _ (some_and_at (λ (y : Port). is_general_output y.role && takes t scope y.formals act) (port_of t.model i p.0) x.0 (port_is p.0 ∙ x.1) (join _ _ x.2 (suit_for key.Call (kinds_of x.0.formals) plan kinds)))
+        (some_and_at (has_role t is_general_input) (wire_from t e) wire.0 (wire_is t e wire.0 wire.1) (wire_to_general t sound e wire.0 (wire_is t e wire.0 wire.1) allowed))
 
     abbrev SendsAt : End → Bool
     SendsAt e =
@@ -129,11 +125,11 @@ module _ (t : Described) (sound : IsSoundFor t.model (Some t.topology)) (i : ℕ
         let x2 = mapped_some (λ (y : Command). kinds_of y.formals) (command_of t wire.0.instance act.name) plan.arguments.0 kinds in
         ap SendsAt (sym p.2)
         ∙ join _ _
-        (join _ _ (join _ _ (tested (λ (y : Port). is_general_output y.role) (port_of t.model i p.0) x.0 port roles.0)
+        (join _ _ (join _ _ (some_and_at (λ (y : Port). is_general_output y.role) (port_of t.model i p.0) x.0 port roles.0)
         (ap (λ o. some_and (λ (d : PortDef). bytes_eq d.name (codes "Fw.Cmd")) (option_and_then (slice_get t.model.ports) (option_and_then (λ (y : Port). y.of) o))) port ∙ roles.1))
-        (tested (has_role t (is_special CmdRecv)) (wire_from t e) wire.0 leads recv))
-        (tested (λ (to : End). some_and (λ (y : Command). takes t scope y.formals act) (command_of t to.instance act.name)) (wire_from t e) wire.0 leads
-        (tested (λ (y : Command). takes t scope y.formals act) (command_of t wire.0.instance act.name) x2.0 x2.1 (subst Suit (sym x2.2) (suit key.Command plan))))
+        (some_and_at (has_role t (is_special CmdRecv)) (wire_from t e) wire.0 leads recv))
+        (some_and_at (λ (to : End). some_and (λ (y : Command). takes t scope y.formals act) (command_of t to.instance act.name)) (wire_from t e) wire.0 leads
+        (some_and_at (λ (y : Command). takes t scope y.formals act) (command_of t wire.0.instance act.name) x2.0 x2.1 (subst Suit (sym x2.2) (suit key.Command plan))))
 
     emit_suits : Planned key.Emit → programs.emits t scope act ≡ true
     emit_suits plan =
@@ -141,7 +137,7 @@ module _ (t : Described) (sound : IsSoundFor t.model (Some t.topology)) (i : ℕ
         let x = mapped_some (λ (y : Event). kinds_of y.formals) (slice_get c.events act.name) plan.arguments.0 kinds in
         ap (λ (e : End). component_passes t e.instance (λ (d : Component). some_and (λ (y : Event). takes t scope y.formals act) (slice_get d.events act.name))) (sym (same_some plan.subject))
         ∙ component_is (λ (d : Component). some_and (λ (y : Event). takes t scope y.formals act) (slice_get d.events act.name))
-        (tested (λ (y : Event). takes t scope y.formals act) (slice_get c.events act.name) x.0 x.1 (subst Suit (sym x.2) (suit key.Emit plan)))
+        (some_and_at (λ (y : Event). takes t scope y.formals act) (slice_get c.events act.name) x.0 x.1 (subst Suit (sym x.2) (suit key.Emit plan)))
 
     write_suits : Planned key.Write → programs.writes t scope act ≡ true
     write_suits plan =
@@ -149,7 +145,7 @@ module _ (t : Described) (sound : IsSoundFor t.model (Some t.topology)) (i : ℕ
         let x = mapped_some (λ (y : Channel). y.kind ∷ []) (slice_get c.channels act.name) plan.arguments.0 kinds in
         ap (λ (e : End). component_passes t e.instance (λ (d : Component). some_and (λ (y : Channel). takes_one t scope y.kind act) (slice_get d.channels act.name))) (sym (same_some plan.subject))
         ∙ component_is (λ (d : Component). some_and (λ (y : Channel). takes_one t scope y.kind act) (slice_get d.channels act.name))
-        (tested (λ (y : Channel). takes_one t scope y.kind act) (slice_get c.channels act.name) x.0 x.1 (subst Suit (sym x.2) (suit key.Write plan)))
+        (some_and_at (λ (y : Channel). takes_one t scope y.kind act) (slice_get c.channels act.name) x.0 x.1 (subst Suit (sym x.2) (suit key.Write plan)))
 
     read_suits : Planned key.Read → is_some a.as_ ≡ true → programs.reads t act ≡ true
     read_suits plan bound =
@@ -171,8 +167,8 @@ module _ (t : Described) (sound : IsSoundFor t.model (Some t.topology)) (i : ℕ
         let x = mapped_some (λ (y : Named). option_to_list y.kind) (slice_get m.0.signals act.name) plan.arguments.0
         (sym (ap (λ o. option_map (λ (y : Named). option_to_list y.kind) (option_and_then (λ n. slice_get m.0.signals n) o)) m.2) ∙ kinds) in
         ap (λ (e : End). some_and (λ (d : Machine). some_and (λ (y : Named). arguments_suit t.model.types scope (option_to_list y.kind) act.with) (slice_get d.signals act.name)) (machine_at t e.instance e.port)) (sym r.2)
-        ∙ tested (λ (d : Machine). some_and (λ (y : Named). arguments_suit t.model.types scope (option_to_list y.kind) act.with) (slice_get d.signals act.name)) (machine_at t i r.0) m.0 (machine_is r.0 ∙ m.1)
-        (tested (λ (y : Named). arguments_suit t.model.types scope (option_to_list y.kind) act.with) (slice_get m.0.signals act.name) x.0 x.1 (subst Suit (sym x.2) (suit key.Signal plan)))
+        ∙ some_and_at (λ (d : Machine). some_and (λ (y : Named). arguments_suit t.model.types scope (option_to_list y.kind) act.with) (slice_get d.signals act.name)) (machine_at t i r.0) m.0 (machine_is r.0 ∙ m.1)
+        (some_and_at (λ (y : Named). arguments_suit t.model.types scope (option_to_list y.kind) act.with) (slice_get m.0.signals act.name) x.0 x.1 (subst Suit (sym x.2) (suit key.Signal plan)))
 
     post_suits : Planned key.Post → programs.posts t scope act ≡ true
     post_suits plan =
@@ -180,7 +176,7 @@ module _ (t : Described) (sound : IsSoundFor t.model (Some t.topology)) (i : ℕ
         let x = where_is (λ (x : Port). is_internal x.role) c.ports a.first p.0 p.1 in
         let kinds = ap (λ o. option_map (λ (y : Port). kinds_of y.formals) (option_and_then (λ q. slice_get c.ports q) o)) p.1 ∙ ap (option_map (λ (y : Port). kinds_of y.formals)) x.1 in
         ap (λ (e : End). some_and (λ (y : Port). is_internal y.role && takes t scope y.formals act) (port_of t.model e.instance e.port)) (sym p.2)
-        ∙ tested (λ (y : Port). is_internal y.role && takes t scope y.formals act) (port_of t.model i p.0) x.0 (port_is p.0 ∙ x.1) (join _ _ x.2 (suit_for key.Post (kinds_of x.0.formals) plan kinds))
+        ∙ some_and_at (λ (y : Port). is_internal y.role && takes t scope y.formals act) (port_of t.model i p.0) x.0 (port_is p.0 ∙ x.1) (join _ _ x.2 (suit_for key.Post (kinds_of x.0.formals) plan kinds))
 
     abbrev RespondsAt : End → Bool
     RespondsAt e = is_command place && has_role t (is_special CmdResp) e && nat_le e.number 0 && is_some (wire_from t e)
@@ -195,9 +191,9 @@ module _ (t : Described) (sound : IsSoundFor t.model (Some t.topology)) (i : ℕ
         let wire = some_of (wire_at t e) (sym (ap (λ o. is_some (option_and_then (wire_at t) o)) subject) ∙ plan.wired) in
         join _ _
         (ap RespondsAt (sym p.2)
-        ∙ join _ _ (join _ _ (join _ _ plan.allowed (tested (λ (y : Port). is_special CmdResp y.role) (port_of t.model i p.0) x.0 (port_is p.0 ∙ x.1) x.2)) refl)
+        ∙ join _ _ (join _ _ (join _ _ plan.allowed (some_and_at (λ (y : Port). is_special CmdResp y.role) (port_of t.model i p.0) x.0 (port_is p.0 ∙ x.1) x.2)) refl)
         (there_some (wire_from t e) wire.0 (wire_is t e wire.0 wire.1)))
-        (tested is_name act.bind a.first plan.bind named)
+        (some_and_at is_name act.bind a.first plan.bind named)
 
     dispatch_suits : Planned key.Dispatch → programs.dispatches t act ≡ true
     dispatch_suits plan =
@@ -207,7 +203,7 @@ module _ (t : Described) (sound : IsSoundFor t.model (Some t.topology)) (i : ℕ
     return_suits plan =
         let k = mapped_some (λ j. j ∷ []) (returned_at t i place) plan.arguments.0 plan.arguments.1 in
         ap (λ (e : End). some_and (λ j. takes_one t scope j act) (returned_at t e.instance place)) (sym (same_some plan.subject))
-        ∙ tested (λ j. takes_one t scope j act) (returned_at t i place) k.0 k.1 (subst Suit (sym k.2) (suit key.Return plan))
+        ∙ some_and_at (λ j. takes_one t scope j act) (returned_at t i place) k.0 k.1 (subst Suit (sym k.2) (suit key.Return plan))
 
     -- ---- whichever the verb
 
@@ -245,7 +241,7 @@ module _ (t : Described) (sound : IsSoundFor t.model (Some t.topology)) (i : ℕ
     own_instance key.Return plan = ap (λ (e : End). e.instance) (sym (same_some plan.subject))
 
     act_suits_by : (k : FirstKey) → Planned k → (k ≡ key.Respond → is_name a.first ≡ true) → (k ≡ key.Read → is_some a.as_ ≡ true) → act_suits t i place scope act ≡ true
-    act_suits_by k plan named bound = join _ _ (ap (λ (n : ℕ). n == i) (own_instance k plan) ∙ same_number i) (verb_suits_by k plan named bound)
+    act_suits_by k plan named bound = join _ _ (ap (λ (n : ℕ). n == i) (own_instance k plan) ∙ number_itself i) (verb_suits_by k plan named bound)
 
     -- ---- what it binds
 

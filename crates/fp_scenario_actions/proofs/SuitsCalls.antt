@@ -21,6 +21,8 @@ use Rattle.fp_tables.specs.declared.program.Verb.{Verb}
 use Rattle.fp_tables.specs.declared.program.Verb.TheVariants as verb
 use Rattle.fp_tables.specs.declared.program.Act.{Act}
 use Rattle.fp_tables.proofs.Firsts.{position_cons}
+use Rattle.fp_tables.proofs.Optional.{some_and_at}
+use Rattle.fp_tables.proofs.Untyped.{none_bound}
 use Rattle.fp_scenario.specs.declared.scenario.ActText.{ActText}
 use Rattle.fp_scenario.specs.declared.first_key.FirstKey.{FirstKey}
 use Rattle.fp_scenario.specs.declared.first_key.FirstKey.TheVariants as key
@@ -28,8 +30,7 @@ use Rattle.fp_scenario_actions.proofs.MeantKinds.{arguments_kinds}
 use Rattle.fp_scenario_actions.specs.Acting.{end_at, command_at, takes_at}
 use Rattle.fp_scenario_actions.specs.Calling.{input_at, input_of_parts, input_named, input_port, last_parted, Plans, scope_after, ActsPlan}
 use Rattle.fp_scenario_actions.specs.Named.{port_where, placed_named}
-use Rattle.fp_scenario_actions.proofs.Suits.{none_bound}
-use Rattle.fp_scenario_actions.proofs.Wired.{tested, tested_if, where_is}
+use Rattle.fp_scenario_actions.proofs.Wired.{tested_if, where_is}
 
 in_list : (i : ℕ) (ns : List ℕ) (p : ℕ) → position (λ k. k == i) ns ≡ Some p → is_in i ns ≡ true
 in_list i [] p e = absurd (cc)
@@ -85,7 +86,7 @@ module _ (t : Described) (sound : IsSoundFor t.model (Some t.topology)) where
         let kinds = same_some (sym plan.arguments.1 ∙ ap (option_map (λ (y : Port). kinds_of y.formals)) port) in
         let below = tested_if (λ (y : Port). nat_lt a.at y.size) (input_port t a.first) x.1 port plan.numbered in
         ap CallsAt (sym e.2)
-        ∙ join _ _ x.0 (tested (λ (y : Port). is_general_input y.role && nat_lt a.at y.size && takes t scope y.formals act) (port_of t.model e.0.instance e.0.port) x.1 x.2
+        ∙ join _ _ x.0 (some_and_at (λ (y : Port). is_general_input y.role && nat_lt a.at y.size && takes t scope y.formals act) (port_of t.model e.0.instance e.0.port) x.1 x.2
         (join _ _ (join _ _ x.3 below) (subst Suit kinds (suit key.Call plan))))
 
     abbrev SendsAt : End → Bool
@@ -100,7 +101,7 @@ module _ (t : Described) (sound : IsSoundFor t.model (Some t.topology)) where
         let x = mapped_some (λ (y : Command). kinds_of y.formals) (command_of t i.0 act.name) plan.arguments.0 kinds in
         ap SendsAt (sym i.2)
         ∙ join _ _ (named_placed a.first i.0 i.1) (join _ _ plan.numbered
-        (tested (λ (y : Command). takes t scope y.formals act) (command_of t i.0 act.name) x.0 x.1 (subst Suit (sym x.2) (suit key.Command plan))))
+        (some_and_at (λ (y : Command). takes t scope y.formals act) (command_of t i.0 act.name) x.0 x.1 (subst Suit (sym x.2) (suit key.Command plan))))
 
     abbrev with_verb : Verb → Act
     with_verb v = record act { verb = v }

@@ -4,7 +4,7 @@ use Rattle.serde_json.specs.Data as json
 use Rattle.serde_json.specs.Find.{as_integer}
 use Rattle.fp_base.specs.declared.value.Value.{Value, Int, Bool as Truth, Text, Array, Struct, Opaque}
 use Rattle.fp_base.specs.declared.value.MemberValue.{MemberValue}
-use Rattle.fp_base.proofs.Options.{one_some}
+use Rattle.fp_base.proofs.Options.{one_some, none_some}
 use Rattle.fp_tables.specs.Arguments.{Scope}
 use Rattle.fp_tables.specs.declared.kind.Kind.{Kind}
 use Rattle.fp_tables.specs.declared.kind.Field.{Field}
@@ -16,7 +16,6 @@ use Rattle.fp_types.specs.Converting.{member_named, parts_in}
 use Rattle.fp_scenario_actions.specs.Wanted.{Wanted, integer, truth, words, array, struct, constants, opaque, wanted, member, constant_named, with_given}
 use Rattle.fp_scenario_actions.specs.Arguments.{name_in, Means, number, truth_value, text, constant, no_value, items, members, EachMeans, none, more, MembersMean, no_member, in_member, IsArgument, AreArguments}
 use Rattle.fp_scenario_actions.proofs.Arguing.{Stands, back}
-use Rattle.fp_scenario_actions.proofs.Making.{none_some}
 
 module _ (types : List TypeDef) where
   -- ---- what a value is that is meant, form by form

@@ -1,8 +1,8 @@
 -- What the ends of wires, ports and names are that an action finds.
-use Rattle.std.proofs.Common.{◌≡◌, ℕ, suc, Bool, true, false, not, cond, List, [], ◌∷◌, Option, Some, None, option_map, refl, sym, ap, ◌∙◌}
-use Rattle.std.specs.Prelude.{nat_lt, ◌^◌, find, position, unwrap_or, slice_get}
+use Rattle.std.proofs.Common.{◌≡◌, ℕ, Bool, true, false, not, cond, List, [], Option, Some, None, option_map, refl, sym, ap, ◌∙◌}
+use Rattle.std.specs.Prelude.{nat_lt, ◌^◌, find, unwrap_or, slice_get}
 use Rattle.fp_base.proofs.Bools.{both}
-use Rattle.fp_base.proofs.Options.{same_some, mapped_some, then_some}
+use Rattle.fp_base.proofs.Options.{same_some, mapped_some, then_some, some_if}
 use Rattle.fp_tables.specs.Acts.{has_role}
 use Rattle.fp_tables.specs.Instances.{is_port, goes_from_output_to_input}
 use Rattle.fp_tables.specs.Lists.{if_some, some_and}
@@ -18,29 +18,15 @@ use Rattle.fp_tables.specs.declared.component.Special.TheVariants as special
 use Rattle.fp_tables.specs.declared.topology.End.{End}
 use Rattle.fp_tables.specs.declared.topology.Topology.{Topology}
 use Rattle.fp_tables.specs.declared.topology.Wire.{Wire}
-use Rattle.fp_tables.proofs.Firsts.{position_cons}
-use Rattle.fp_tables.proofs.Optional.{some_and_of}
+use Rattle.fp_tables.proofs.Optional.{some_and_of, some_and_at}
 use Rattle.fp_scenario_actions.proofs.MeantKinds.{found_passes}
 use Rattle.fp_scenario_actions.specs.Acting.{end_at, is_recv, small, wire_at}
 use Rattle.fp_scenario_actions.specs.Named.{port_named, port_where}
-
-pub tested : {A : Type 0} (p : A → Bool) (o : Option A) (x : A) → o ≡ Some x → p x ≡ true → some_and p o ≡ true
-tested p o x is h = ap (some_and p) is ∙ h
 
 pub tested_if : {A : Type 0} (p : A → Bool) (o : Option A) (x : A) → o ≡ Some x → if_some p o ≡ true → p x ≡ true
 tested_if p o x is h = ap (if_some p) (sym is) ∙ h
 
 -- ---- what is found by a test
-
-pub position_passes : {A : Type 0} (p : A → Bool) (xs : List A) (n : ℕ) → position p xs ≡ Some n → (x : A) × (slice_get xs n ≡ Some x) × (p x ≡ true)
-position_passes p [] n e = absurd (cc)
-position_passes {A = A} p (x ∷ xs) n e = go (p x) refl (position p xs) (position_passes p xs) (sym (position_cons p x xs) ∙ e)
-  where
-    go : (b : Bool) → p x ≡ b → (o : Option ℕ) → ((m : ℕ) → o ≡ Some m → (y : A) × (slice_get xs m ≡ Some y) × (p y ≡ true)) → cond b (Some 0) (option_map suc o) ≡ Some n
-        → (y : A) × (slice_get (x ∷ xs) n ≡ Some y) × (p y ≡ true)
-    go true is o rest found = (x, ap (slice_get (x ∷ xs)) (sym (same_some found)), is)
-    go false is None rest found = absurd (cc)
-    go false is (Some m) rest found = let r = rest m refl in (r.0, ap (slice_get (x ∷ xs)) (sym (same_some found)) ∙ r.1, r.2)
 
 kept_is : (test : Port → Bool) (ports : List Port) (n p : ℕ) (b : Bool) → some_and test (slice_get ports n) ≡ b → cond b (Some n) None ≡ Some p → (x : Port) × (slice_get ports p ≡ Some x) × (test x ≡ true)
 kept_is test ports n p true is e = let r = some_and_of test (slice_get ports n) is in (r.0, ap (slice_get ports) (sym (same_some e)) ∙ r.1, r.2)
@@ -51,14 +37,10 @@ where_is test ports name p e = let q = then_some (λ (n : ℕ). cond (some_and t
 
 -- ---- wires
 
-small_is : (m n : ℕ) (b : Bool) → cond b (Some m) None ≡ Some n → m ≡ n
-small_is m n true e = same_some e
-small_is m n false e = absurd (cc)
-
 pub wire_is : (t : Described) (e to : End) → wire_at t e ≡ Some to → wire_from t e ≡ Some to
 wire_is t e to is =
     let n = then_some (λ (k : ℕ). wire_from t (end_at e.instance e.port k)) (small e.number) to is in
-    ap (λ (k : ℕ). wire_from t (end_at e.instance e.port k)) (small_is e.number n.0 (nat_lt e.number (2 ^ 32)) n.1) ∙ n.2
+    ap (λ (k : ℕ). wire_from t (end_at e.instance e.port k)) (some_if e.number n.0 (nat_lt e.number (2 ^ 32)) n.1) ∙ n.2
 
 input_of_role : (r : Role) → is_input r ≡ true → is_special special.CmdRecv r ≡ false → is_general_input r ≡ true
 input_of_role (role.Input way) is not = refl
@@ -87,7 +69,7 @@ module _ (t : Described) (sound : IsSoundFor t.model (Some t.topology)) where
   pub wire_to_general : (e to : End) → wire_from t e ≡ Some to → not (is_recv t to) ≡ true → has_role t is_general_input to ≡ true
   wire_to_general e to is not_recv =
       let y = wire_to_input e to is in
-      tested (λ (x : Port). is_general_input x.role) (port_of t.model to.instance to.port) y.0 y.1
+      some_and_at (λ (x : Port). is_general_input x.role) (port_of t.model to.instance to.port) y.0 y.1
       (input_of_role y.0.role y.2 (not_of (is_special special.CmdRecv y.0.role) (ap not (sym (ap (some_and (λ (x : Port). is_special special.CmdRecv x.role)) y.1)) ∙ not_recv)))
     where
       not_of : (b : Bool) → not b ≡ true → b ≡ false

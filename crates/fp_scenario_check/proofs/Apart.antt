@@ -1,16 +1,13 @@
 -- Lists in which no two items are related.
-use Rattle.std.proofs.Common.{◌≡◌, ◌<◌, ℕ, suc, Bool, true, false, not, ◌||◌, cond, List, [], ◌∷◌, ◌++◌, map, filter, flat_map, Some, refl, ap, arith}
+use Rattle.std.proofs.Common.{◌≡◌, ◌<◌, ℕ, suc, Bool, true, false, not, ◌||◌, cond, List, [], ◌∷◌, ◌++◌, map, filter, flat_map, refl, ap, arith}
 use Rattle.std.specs.Prelude.{slice_get, ⊤}
 use Rattle.std.specs.List.{AllByRecursion, list_any}
 use Rattle.fp_base.proofs.Bools.{both, join, neither, not_true}
-use Rattle.fp_base.proofs.Lists.{each_append, each_of_any}
+use Rattle.fp_base.proofs.Lists.{each_append, each_of_any, each_item}
+use Rattle.fp_base.proofs.Passing.{each_filtered}
 use Rattle.fp_tables.specs.Lists.{apart}
-use Rattle.fp_scenario_actions.proofs.Wired.{tested}
+use Rattle.fp_tables.proofs.Optional.{some_and_at}
 use Rattle.fp_scenario_check.specs.Planned.{IsRepeated}
-
-pub each_by : {A : Type 0} (P : A → Type 0) (xs : List A) → ((k : ℕ) (x : A) → slice_get xs k ≡ Some x → P x) → AllByRecursion P xs
-each_by P [] h = tt
-each_by P (x ∷ xs) h = (h 0 x refl, each_by P xs (λ k y e. h (suc k) y e))
 
 pub each_joined : {A : Type 0} (P Q S : A → Type 0) → ((x : A) → P x → Q x → S x) → (xs : List A) → AllByRecursion P xs → AllByRecursion Q xs → AllByRecursion S xs
 each_joined P Q S joins [] h k = tt
@@ -51,7 +48,7 @@ apart_tests same (x ∷ xs) h = let e = both (not (list_any (same x) xs)) (apart
 pub unrepeated : {A : Type 0} (same : A → A → Bool) (xs : List A) → ((n : ℕ) → IsRepeated same xs n → ⊥) → Apart (λ x y. same x y ≡ true) xs
 unrepeated same [] none = tt
 unrepeated {A = A} same (x ∷ xs) none =
-    (each_by (λ y. same x y ≡ true → ⊥) xs (λ k y e s. none (suc k) (0, first k, tested (λ z. same x z) (slice_get xs k) y e s)), unrepeated same xs (λ n r. none (suc n) (suc r.0, later r.0 n r.1, r.2)))
+    (each_item (λ y. same x y ≡ true → ⊥) xs (λ k y e s. none (suc k) (0, first k, some_and_at (λ z. same x z) (slice_get xs k) y e s)), unrepeated same xs (λ n r. none (suc n) (suc r.0, later r.0 n r.1, r.2)))
   where
     first : (k : ℕ) → 0 < suc k
     first k = omega arith
@@ -73,14 +70,6 @@ pub apart_map : {A B : Type 0} (R : A → A → Type 0) (S : B → B → Type 0)
 apart_map R S f to [] h = tt
 apart_map R S f to (x ∷ xs) h = (each_beside (R x) (S (f x)) f (to x) xs h.0, apart_map R S f to xs h.1)
 
-each_filtered : {A : Type 0} (P : A → Type 0) (p : A → Bool) (xs : List A) → AllByRecursion P xs → AllByRecursion P (filter p xs)
-each_filtered P p [] h = tt
-each_filtered P p (x ∷ xs) h = go (p x) (each_filtered P p xs h.1)
-  where
-    go : (b : Bool) → AllByRecursion P (filter p xs) → AllByRecursion P (cond b (x ∷ filter p xs) (filter p xs))
-    go true rest = (h.0, rest)
-    go false rest = rest
-
 pub apart_filter : {A : Type 0} (R : A → A → Type 0) (p : A → Bool) (xs : List A) → Apart R xs → Apart R (filter p xs)
 apart_filter R p [] h = tt
 apart_filter R p (x ∷ xs) h = go (p x) (apart_filter R p xs h.1)
@@ -88,14 +77,6 @@ apart_filter R p (x ∷ xs) h = go (p x) (apart_filter R p xs h.1)
     go : (b : Bool) → Apart R (filter p xs) → Apart R (cond b (x ∷ filter p xs) (filter p xs))
     go true rest = (each_filtered (λ y. R x y → ⊥) p xs h.0, rest)
     go false rest = rest
-
-pub each_passing : {A : Type 0} (P Q : A → Type 0) (p : A → Bool) → ((x : A) → P x → p x ≡ true → Q x) → (xs : List A) → AllByRecursion P xs → AllByRecursion Q (filter p xs)
-each_passing P Q p to [] h = tt
-each_passing P Q p to (x ∷ xs) h = go (p x) refl (each_passing P Q p to xs h.1)
-  where
-    go : (b : Bool) → p x ≡ b → AllByRecursion Q (filter p xs) → AllByRecursion Q (cond b (x ∷ filter p xs) (filter p xs))
-    go true is rest = (to x h.0 is, rest)
-    go false is rest = rest
 
 apart_append : {A : Type 0} (R : A → A → Type 0) (xs ys : List A) → Apart R xs → Apart R ys → AllByRecursion (λ x. AllByRecursion (λ y. R x y → ⊥) ys) xs → Apart R (xs ++ ys)
 apart_append R [] ys h k across = k

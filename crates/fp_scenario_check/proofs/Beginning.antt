@@ -3,6 +3,7 @@ use Rattle.std.proofs.Common.{◌≡◌, ℕ, Bool, true, false, cond, ◌||◌,
 use Rattle.std.specs.Prelude.{codes, option_and_then, slice_get}
 use Rattle.std.specs.Str.{bytes_eq}
 use Rattle.fp_base.proofs.Options.{mapped_some, then_some}
+use Rattle.fp_base.proofs.Passing.{position_passes}
 use Rattle.fp_tables.specs.Acts.{command_of, machine_at}
 use Rattle.fp_tables.specs.Arguments.{Scope, formals_bound, nothing_bound}
 use Rattle.fp_tables.specs.Lists.{some_and}
@@ -24,7 +25,7 @@ use Rattle.fp_tables.proofs.Optional.{some_and_of}
 use Rattle.fp_scenario_actions.specs.Acting.{machine_in}
 use Rattle.fp_scenario_actions.specs.Named.{command_named, name_of, port_where, running_named}
 use Rattle.fp_scenario_actions.specs.Spots.{action_at, action_spot, behind, command_spot, hook_command_spot, hook_port_spot, hook_signal_spot, parted, port_spot, spot_in}
-use Rattle.fp_scenario_actions.proofs.Wired.{position_passes, where_is}
+use Rattle.fp_scenario_actions.proofs.Wired.{where_is}
 use Rattle.fp_scenario_check.proofs.Spelled.{form_is, kept_spot}
 
 -- what is hooked arrives at a general input or an internal port

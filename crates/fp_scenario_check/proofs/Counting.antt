@@ -1,8 +1,10 @@
 -- The text that gave a handler of the program, by how many each text gave.
-use Rattle.std.proofs.Common.{◌≡◌, ◌<◌, ◌≤◌, ◌-◌, ◌+◌, ℕ, zero, suc, List, [], ◌∷◌, ◌++◌, length, drop, get_or, length-append, map, flat_map, replicate, Option, Some, None, slice_get, refl, sym, ap, ap₂, ◌∙◌, subst, arith}
+use Rattle.std.proofs.Common.{◌≡◌, ◌<◌, ◌≤◌, ◌-◌, ◌+◌, ℕ, zero, suc, List, [], ◌∷◌, ◌++◌, length, drop, get_or, length-append, map, flat_map, replicate, Some, slice_get, refl, sym, ap, ap₂, ◌∙◌, subst, arith}
 use Rattle.std.proofs.lemmas.List.{length-map}
 use Rattle.fp_base.specs.declared.rule.Rule.{Rule}
 use Rattle.fp_base.specs.declared.rule.Rule.TheVariants.{SynchronousCycle, LockCycle}
+use Rattle.fp_base.proofs.Lists.{drop_over}
+use Rattle.fp_base.proofs.Options.{no_some, same_some}
 use Rattle.fp_tables.specs.Lookup.{Described}
 use Rattle.fp_tables.specs.declared.program.Handler.{Handler}
 use Rattle.fp_tables.specs.declared.program.Program.{Program}
@@ -14,7 +16,7 @@ use Rattle.fp_scenario.specs.declared.scenario.Scenario.{Scenario}
 use Rattle.fp_scenario.specs.declared.scenario.HandlerText.{HandlerText}
 use Rattle.fp_scenario.specs.declared.scenario.ScenarioStop.{ScenarioStop}
 use Rattle.fp_scenario.specs.declared.scenario.ScenarioStop.TheVariants.{Broken, NoMemory}
-use Rattle.fp_scenario_actions.proofs.Listed.{dropped, all_dropped}
+use Rattle.fp_scenario_actions.proofs.Listed.{dropped}
 use Rattle.fp_scenario_check.specs.Planned.{Planned, PlansHandler, at_each, pairs, stands_for, handler_path, action_path}
 use Rattle.fp_scenario_check.specs.Broken.{BreaksCycle, texts_from, synchronous, of_locks}
 use Rattle.fp_scenario_check.proofs.Beside.{as_many}
@@ -32,12 +34,6 @@ past_count zero n ys i j e = let same : i ≡ j = omega (arith, e) in ap (slice_
 past_count (suc k) n ys zero j e = absurd (omega (arith, e))
 past_count (suc k) n ys (suc i) j e = let same : i ≡ k + j = omega (arith, e) in past_count k n ys i j same
 
-some_same : (m n : ℕ) → ◌≡◌ {A = Option ℕ} (Some m) (Some n) → m ≡ n
-some_same m n e = cc
-
-none_some : (m : ℕ) → ◌≡◌ {A = Option ℕ} None (Some m) → ⊥
-none_some m e = cc
-
 abbrev pub Leaves : List ℕ → ℕ → ℕ → ℕ → Type 0
 Leaves ks handler at left = (m : ℕ) → slice_get (texts_counted 0 ks) handler ≡ Some m → slice_get (texts_counted at (drop at ks)) left ≡ Some m
 
@@ -54,7 +50,7 @@ counted_at ks at k d lt is = ap (texts_counted at) (dropped ks at k lt (is ∙ s
 
 pub text_found : (ks : List ℕ) (handler at left k d m : ℕ) → at < length ks → k ≡ get_or ks at d → left < k → Leaves ks handler at left → slice_get (texts_counted 0 ks) handler ≡ Some m → at ≡ m
 text_found ks handler at left k d m lt is here h found =
-    some_same at m (sym (within_count k at (texts_counted (at + 1) (drop (at + 1) ks)) left here) ∙ ap (λ xs. slice_get xs left) (sym (counted_at ks at k d lt is)) ∙ h m found)
+    same_some (sym (within_count k at (texts_counted (at + 1) (drop (at + 1) ks)) left here) ∙ ap (λ xs. slice_get xs left) (sym (counted_at ks at k d lt is)) ∙ h m found)
 
 pub text_further : (ks : List ℕ) (handler at left k d : ℕ) → at < length ks → k ≡ get_or ks at d → k ≤ left → Leaves ks handler at left → Leaves ks handler (at + 1) (left - k)
 text_further ks handler at left k d lt is past h = λ m found.
@@ -62,7 +58,7 @@ text_further ks handler at left k d lt is past h = λ m found.
     sym (past_count k at (texts_counted (at + 1) (drop (at + 1) ks)) left (left - k) split) ∙ ap (λ xs. slice_get xs left) (sym (counted_at ks at k d lt is)) ∙ h m found
 
 pub no_text : (ks : List ℕ) (handler at left m : ℕ) → length ks ≤ at → Leaves ks handler at left → slice_get (texts_counted 0 ks) handler ≡ Some m → ⊥
-no_text ks handler at left m past h found = none_some m (sym (ap (λ xs. slice_get (texts_counted at xs) left) (all_dropped ks at past)) ∙ h m found)
+no_text ks handler at left m past h found = no_some (sym (ap (λ xs. slice_get (texts_counted at xs) left) (drop_over ks at past)) ∙ h m found)
 
 -- ---- the handlers of a planned program have texts
 

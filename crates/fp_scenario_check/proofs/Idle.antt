@@ -3,6 +3,7 @@ use Rattle.std.proofs.Common.{◌≡◌, ◌↔◌, ◌⊎◌, inl, inr, Bool, t
 use Rattle.std.specs.Prelude.{sum_by}
 use Rattle.std.specs.List.{list_all}
 use Rattle.fp_base.specs.Names.{is_name}
+use Rattle.fp_base.proofs.Bools.{not_both}
 use Rattle.fp_tables.specs.Lists.{apart}
 use Rattle.fp_tables.specs.Names.{texts_differ}
 use Rattle.fp_tables.specs.Components.{is_from_1_to}
@@ -13,7 +14,6 @@ use Rattle.fp_tables.specs.declared.program.Caller.{Caller}
 use Rattle.fp_tables.specs.declared.program.Handler.{Handler}
 use Rattle.fp_tables.specs.declared.program.Answers.{Answers}
 use Rattle.fp_tables.specs.declared.program.Program.{Program}
-use Rattle.fp_scenario_actions.proofs.Making.{not_both}
 use Rattle.fp_scenario_check.specs.Planned.{IsTooLarge}
 
 module _ (t : Described) where

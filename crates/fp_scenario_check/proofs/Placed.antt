@@ -1,10 +1,11 @@
 -- The instances of a topology, by their names.
-use Rattle.std.proofs.Common.{◌≡◌, ℕ, zero, suc, Bool, true, false, cond, ◌==◌, List, [], ◌∷◌, Option, Some, None, is_some, option_map, refl, sym, ap, ◌∙◌, subst}
+use Rattle.std.proofs.Common.{◌≡◌, ℕ, Bool, true, false, cond, ◌==◌, List, [], Option, Some, None, is_some, option_map, refl, sym, ap, ◌∙◌, subst}
 use Rattle.std.specs.Prelude.{slice_get, unwrap_or}
-use Rattle.std.specs.List.{AllByRecursion, list_any}
-use Rattle.fp_base.proofs.Bools.{or_left, or_right}
-use Rattle.fp_base.proofs.Options.{same_some, then_some}
+use Rattle.std.specs.List.{AllByRecursion}
+use Rattle.fp_base.proofs.Options.{then_some, some_if}
 use Rattle.fp_base.proofs.Sameness.{nat_same}
+use Rattle.fp_base.proofs.Lists.{each_item}
+use Rattle.fp_base.proofs.Passing.{any_at}
 use Rattle.fp_tables.specs.Acts.{is_placed}
 use Rattle.fp_tables.specs.Lists.{is_in}
 use Rattle.fp_tables.specs.Lookup.{Described, instance_named, place_of, placed}
@@ -13,16 +14,11 @@ use Rattle.fp_tables.specs.declared.topology.Instance.{Instance}
 use Rattle.fp_tables.specs.declared.topology.Topology.{Topology}
 use Rattle.fp_tables.proofs.Firsts.{placed_somewhere}
 use Rattle.fp_scenario_actions.specs.Named.{placed_named}
-use Rattle.fp_scenario_check.proofs.Apart.{Apart, apart_tests, apart_weaker, each_by}
-use Rattle.fp_scenario_check.proofs.Spelled.{held, one_named}
-
-pub any_at : {A : Type 0} (p : A → Bool) (xs : List A) (k : ℕ) (x : A) → slice_get xs k ≡ Some x → p x ≡ true → list_any p xs ≡ true
-any_at p [] k x e h = absurd (cc)
-any_at p (y ∷ xs) zero x e h = or_left (p y) (list_any p xs) (ap p (same_some e) ∙ h)
-any_at p (y ∷ xs) (suc k) x e h = or_right (p y) (list_any p xs) (any_at p xs k x e h)
+use Rattle.fp_scenario_check.proofs.Apart.{Apart, apart_tests, apart_weaker}
+use Rattle.fp_scenario_check.proofs.Spelled.{one_named}
 
 pub each_is_in : (ns : List ℕ) → AllByRecursion (λ i. is_in i ns ≡ true) ns
-each_is_in ns = each_by (λ i. is_in i ns ≡ true) ns (λ k i e. any_at (λ m. m == i) ns k i e (nat_same.itself i))
+each_is_in ns = each_item (λ i. is_in i ns ≡ true) ns (λ k i e. any_at (λ m. m == i) ns k i e (nat_same.itself i))
 
 kept_so : (b : Bool) (j i : ℕ) → cond b (Some j) None ≡ Some i → b ≡ true
 kept_so true j i e = refl
@@ -32,13 +28,13 @@ module _ (t : Described) where
   pub instance_is : (name : List ℕ) (i : ℕ) → placed_named t name ≡ Some i → instance_named t.model name ≡ Some i
   instance_is name i h =
       let j = then_some (λ (n : ℕ). cond (is_some (place_of t n)) (Some n) None) (instance_named t.model name) i h in
-      j.1 ∙ ap Some (held j.0 i (is_some (place_of t j.0)) j.2)
+      j.1 ∙ ap Some (some_if j.0 i (is_some (place_of t j.0)) j.2)
 
   pub named_placed : (name : List ℕ) (i : ℕ) → placed_named t name ≡ Some i → is_placed t i ≡ true
   named_placed name i h =
       let j = then_some (λ (n : ℕ). cond (is_some (place_of t n)) (Some n) None) (instance_named t.model name) i h in
       let there : is_placed t j.0 ≡ true = sym (placed_somewhere (λ (k : ℕ). k == j.0) (placed t)) ∙ kept_so (is_some (place_of t j.0)) j.0 i j.2 in
-      subst (λ (n : ℕ). is_placed t n ≡ true) (held j.0 i (is_some (place_of t j.0)) j.2) there
+      subst (λ (n : ℕ). is_placed t n ≡ true) (some_if j.0 i (is_some (place_of t j.0)) j.2) there
 
   pub one_instance : (a b : List ℕ) (i : ℕ) → placed_named t a ≡ Some i → placed_named t b ≡ Some i → a ≡ b
   one_instance a b i h k = one_named (λ (x : Instance). x.name) t.model.instances a b i (instance_is a i h) (instance_is b i k)

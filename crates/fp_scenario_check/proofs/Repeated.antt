@@ -1,10 +1,12 @@
 -- What is given a second time.
-use Rattle.std.proofs.Common.{◌≡◌, ◌<◌, ◌≤◌, ◌+◌, ℕ, zero, suc, Bool, true, false, ◌&&◌, ◌||◌, List, [], ◌∷◌, ◌++◌, map, length, take, slice_get, Option, Some, None, option_map, bytes_eq, ⊎_elim, refl, sym, ap, ap₂, ◌∙◌, subst, arith}
+use Rattle.std.proofs.Common.{◌≡◌, ◌<◌, ◌≤◌, ◌+◌, ℕ, zero, suc, Bool, true, false, ◌&&◌, ◌||◌, List, [], ◌∷◌, map, length, take, slice_get, Option, Some, None, option_map, bytes_eq, ⊎_elim, refl, sym, ap, ap₂, ◌∙◌, subst, arith}
 use Rattle.std.specs.BTreeSet.{BTreeSet, contains_by}
 use Rattle.std.specs.List.{list_any}
 use Rattle.fp_base.proofs.Lists.{get_within, take_next}
-use Rattle.fp_base.proofs.Options.{same_some}
 use Rattle.fp_base.proofs.Spots.{below_or_at}
+use Rattle.fp_base.proofs.Bools.{and_true}
+use Rattle.fp_base.proofs.Passing.{any_pushed, any_before}
+use Rattle.fp_base.proofs.KeySets.{none_held}
 use Rattle.fp_tables.specs.Lists.{some_and}
 use Rattle.fp_tables.proofs.Optional.{some_and_of}
 use Rattle.fp_scenario.specs.declared.scenario.CallerText.{CallerText}
@@ -12,19 +14,7 @@ use Rattle.fp_scenario.specs.declared.scenario.GuardText.{GuardText}
 use Rattle.fp_scenario.specs.declared.scenario.HandlerText.{HandlerText}
 use Rattle.fp_scenario_check.specs.Planned.{IsRepeated, same_caller, same_guard, same_handler}
 use Rattle.fp_scenario_check.specs.Keys.{IsRepeat, Key, key_cmp, same_key, texts_of}
-use Rattle.fp_scenario_check.proofs.Keyed.{key_by_texts, none_held, same_texts}
-
-pub any_push : {A : Type 0} (p : A → Bool) (xs : List A) (x : A) → list_any p (xs ++ x ∷ []) ≡ (list_any p xs || p x)
-any_push p [] x = go (p x)
-  where
-    go : (b : Bool) → (b || false) ≡ (false || b)
-    go true = refl
-    go false = refl
-any_push p (y ∷ xs) x = ap (λ b. p y || b) (any_push p xs x) ∙ go (p y) (list_any p xs)
-  where
-    go : (a b : Bool) → (a || (b || p x)) ≡ ((a || b) || p x)
-    go true b = refl
-    go false b = refl
+use Rattle.fp_scenario_check.proofs.Keyed.{key_by_texts, same_texts}
 
 zero_below : (n : ℕ) → 0 < suc n
 zero_below n = omega arith
@@ -33,26 +23,16 @@ suc_below : (m n : ℕ) → m < n → suc m < suc n
 suc_below m n low = omega arith
 
 -- what passes among the first so many stands at a place below
-any_before : {A : Type 0} (p : A → Bool) (xs : List A) (n : ℕ) → list_any p (take n xs) ≡ true → (m : ℕ) × (m < n) × (x : A) × (slice_get xs m ≡ Some x) × (p x ≡ true)
-any_before p [] zero h = absurd (cc)
-any_before p [] (suc n) h = absurd (cc)
-any_before p (x ∷ xs) zero h = absurd (cc)
-any_before {A = A} p (x ∷ xs) (suc n) h = go (p x) refl (any_before p xs n) h
+found_before : {A : Type 0} (p : A → Bool) (xs : List A) (n : ℕ) → list_any p (take n xs) ≡ true → (m : ℕ) × (m < n) × (x : A) × (slice_get xs m ≡ Some x) × (p x ≡ true)
+found_before p [] zero h = absurd (cc)
+found_before p [] (suc n) h = absurd (cc)
+found_before p (x ∷ xs) zero h = absurd (cc)
+found_before {A = A} p (x ∷ xs) (suc n) h = go (p x) refl (found_before p xs n) h
   where
     go : (b : Bool) → p x ≡ b → (list_any p (take n xs) ≡ true → (m : ℕ) × (m < n) × (y : A) × (slice_get xs m ≡ Some y) × (p y ≡ true)) → (b || list_any p (take n xs)) ≡ true
         → (m : ℕ) × (m < suc n) × (y : A) × (slice_get (x ∷ xs) m ≡ Some y) × (p y ≡ true)
     go true is rest e = (0, zero_below n, x, refl, is)
     go false is rest e = let r = rest e in (suc r.0, suc_below r.0 n r.1, r.2, r.3, r.4)
-
-before_any : {A : Type 0} (p : A → Bool) (xs : List A) (n m : ℕ) (x : A) → m < n → slice_get xs m ≡ Some x → p x ≡ true → list_any p (take n xs) ≡ true
-before_any p [] n m x low e h = absurd (cc)
-before_any p (y ∷ xs) zero m x low e h = absurd (omega arith)
-before_any p (y ∷ xs) (suc n) zero x low e h = ap (λ b. b || list_any p (take n xs)) (ap p (same_some e) ∙ h)
-before_any p (y ∷ xs) (suc n) (suc m) x low e h = go (p y) (before_any p xs n m x (omega arith) e h)
-  where
-    go : (b : Bool) → list_any p (take n xs) ≡ true → (b || list_any p (take n xs)) ≡ true
-    go true e = refl
-    go false e = e
 
 -- ---- the keys that were seen
 
@@ -63,17 +43,17 @@ module _ (keys : List Key) where
     pub new : (m : ℕ) → m < n → IsRepeated same_key keys m → ⊥
 
   pub none_seen : (seen : BTreeSet Key) → seen.keys ≡ [] → AreSeen 0 seen
-  none_seen seen is = record { has = λ q. none_held key_cmp q seen is; new = λ m low r. absurd (omega (arith, low)) }
+  none_seen seen is = record { has = λ q. none_held (key_cmp q) seen is; new = λ m low r. absurd (omega (arith, low)) }
 
   repeats_now : (n : ℕ) (k : Key) → slice_get keys n ≡ Some k → list_any (λ j. same_key j k) (take n keys) ≡ true → IsRepeated same_key keys n
   repeats_now n k at h =
-      let r = any_before (λ j. same_key j k) keys n h in
+      let r = found_before (λ j. same_key j k) keys n h in
       (r.0, r.1, ap (some_and (λ (x : Key). some_and (λ (y : Key). same_key x y) (slice_get keys n))) r.3 ∙ ap (some_and (λ (y : Key). same_key r.2 y)) at ∙ r.4)
 
   repeat_seen : (n : ℕ) (k : Key) → slice_get keys n ≡ Some k → IsRepeated same_key keys n → list_any (λ j. same_key j k) (take n keys) ≡ true
   repeat_seen n k at r =
       let x = some_and_of (λ (x : Key). some_and (λ (y : Key). same_key x y) (slice_get keys n)) (slice_get keys r.0) r.2 in
-      before_any (λ j. same_key j k) keys n r.0 x.0 r.1 x.1 (sym (ap (some_and (λ (y : Key). same_key x.0 y)) at) ∙ x.2)
+      any_before (λ j. same_key j k) keys n r.0 x.0 r.1 x.1 (sym (ap (some_and (λ (y : Key). same_key x.0 y)) at) ∙ x.2)
 
   pub seen_again : (n : ℕ) (k : Key) (seen : BTreeSet Key) (again : Bool) → slice_get keys n ≡ Some k → AreSeen n seen → again ≡ contains_by (key_cmp k) seen → again ≡ true → IsRepeat same_key keys (Some n)
   seen_again n k seen again at before is h = repeats_now n k at (sym (before.has k) ∙ sym is ∙ h)
@@ -85,7 +65,7 @@ module _ (keys : List Key) where
   pub seen_next : (n : ℕ) (k : Key) (old new : BTreeSet Key) (again : Bool) → slice_get keys n ≡ Some k → AreSeen n old → again ≡ contains_by (key_cmp k) old → again ≡ false
       → ((q : Key) → contains_by (key_cmp q) new ≡ (contains_by (key_cmp q) old || same_key k q)) → AreSeen (n + 1) new
   seen_next n k old new again at before is h adds = record {
-    has = λ q. adds q ∙ ap (λ b. b || same_key k q) (before.has q) ∙ sym (any_push (λ j. same_key j q) (take n keys) k) ∙ sym (ap (list_any (λ j. same_key j q)) (take_next keys n k at));
+    has = λ q. adds q ∙ ap (λ b. b || same_key k q) (before.has q) ∙ sym (any_pushed (λ j. same_key j q) (take n keys) k) ∙ sym (ap (list_any (λ j. same_key j q)) (take_next keys n k at));
     new = λ m low r. go m r low;
   }
     where
@@ -136,21 +116,17 @@ module _ {A C B : Type 0} (f : A → B) (g : C → B) (same : A → A → Bool) 
   repeat_of (Some n) r = mapped_repeats g alike test are ys n (subst (λ (zs : List B). IsRepeated test zs n) one (repeats_mapped f same test is xs n r))
   repeat_of None none = λ n r. none n (mapped_repeats f same test is xs n (subst (λ (zs : List B). IsRepeated test zs n) (sym one) (repeats_mapped g alike test are ys n r)))
 
-with_empty : (b : Bool) → b ≡ (b && true)
-with_empty true = refl
-with_empty false = refl
-
 abbrev Texts : Type 0
 Texts = List ℕ × List ℕ × List ℕ
 
 pub caller_repeat : (keys : List Key) (xs : List CallerText) (o : Option ℕ) → map texts_of keys ≡ map (λ (x : CallerText). (x.name, [], [])) xs → IsRepeat same_key keys o → IsRepeat same_caller xs o
 caller_repeat keys xs o is r =
     repeat_of {B = Texts} texts_of (λ (x : CallerText). (x.name, [], [])) same_key same_caller same_texts key_by_texts
-    (λ x y. with_empty (bytes_eq x.name y.name) ∙ ap (λ b. b && true) (with_empty (bytes_eq x.name y.name))) keys xs is o r
+    (λ x y. and_true (bytes_eq x.name y.name) ∙ ap (λ b. b && true) (and_true (bytes_eq x.name y.name))) keys xs is o r
 
 pub handler_repeat : (keys : List Key) (xs : List HandlerText) (o : Option ℕ) → map texts_of keys ≡ map (λ (x : HandlerText). (x.of, x.on_, [])) xs → IsRepeat same_key keys o → IsRepeat same_handler xs o
 handler_repeat keys xs o is r =
-    repeat_of {B = Texts} texts_of (λ (x : HandlerText). (x.of, x.on_, [])) same_key same_handler same_texts key_by_texts (λ x y. with_empty (bytes_eq x.of y.of && bytes_eq x.on_ y.on_)) keys xs is o r
+    repeat_of {B = Texts} texts_of (λ (x : HandlerText). (x.of, x.on_, [])) same_key same_handler same_texts key_by_texts (λ x y. and_true (bytes_eq x.of y.of && bytes_eq x.on_ y.on_)) keys xs is o r
 
 pub guard_repeat : (keys : List Key) (xs : List GuardText) (o : Option ℕ) → map texts_of keys ≡ map (λ (x : GuardText). (x.of, x.machine, x.guard)) xs → IsRepeat same_key keys o → IsRepeat same_guard xs o
 guard_repeat keys xs o is r =

@@ -1,13 +1,16 @@
 -- A program that is planned of a scenario that breaks no rule is sound.
-use Rattle.std.proofs.Common.{◌≡◌, ◌≤◌, ◌<◌, ℕ, Bool, true, false, ◌&&◌, ◌==◌, List, [], length, map, Option, Some, None, is_some, refl, sym, ap, ◌∙◌, inl, inr, arith}
+use Rattle.std.proofs.Common.{◌≡◌, ◌≤◌, ◌<◌, ℕ, Bool, true, ◌&&◌, ◌==◌, List, [], length, map, Option, Some, None, is_some, sym, ap, ◌∙◌, inl, inr, arith}
 use Rattle.std.specs.Prelude.{nat_le, nat_lt, codes, filter, sum_by, option_and_then}
 use Rattle.std.specs.List.{AllByRecursion}
 use Rattle.std.specs.Str.{bytes_eq}
 use Rattle.std.proofs.lemmas.Bool.Decides.{nat_tests}
+use Rattle.std.proofs.lemmas.Bool.{true_from_ne_false}
 use Rattle.fp_base.proofs.Bools.{both, join}
 use Rattle.fp_base.proofs.Lists.{each_flat, each_mapped, each_weaker, get_within}
 use Rattle.fp_base.proofs.Options.{one_some, then_some}
 use Rattle.fp_base.proofs.Sameness.{nat_same}
+use Rattle.fp_base.proofs.Bytes.{bytes_same}
+use Rattle.fp_base.proofs.Passing.{position_passes}
 use Rattle.fp_base.specs.Names.{is_name}
 use Rattle.fp_base.specs.declared.rule.Rule.TheVariants.{PastSize, ScenarioRepeated}
 use Rattle.fp_tables.specs.Acts.{is_placed, machine_at, suit_in_turn}
@@ -29,6 +32,7 @@ use Rattle.fp_tables.specs.declared.program.Caller.{Caller}
 use Rattle.fp_tables.specs.declared.program.Handler.{Handler}
 use Rattle.fp_tables.specs.declared.program.Program.{Program}
 use Rattle.fp_tables.proofs.Spots.{spot_equal}
+use Rattle.fp_tables.proofs.Optional.{some_and_at}
 use Rattle.fp_scenario.specs.Kinds.{is_identifier}
 use Rattle.fp_scenario.specs.Same.{IsKept, IsNamed}
 use Rattle.fp_scenario.specs.declared.scenario.CallerText.{CallerText}
@@ -40,12 +44,11 @@ use Rattle.fp_scenario_actions.specs.Spots.{spot_in}
 use Rattle.fp_scenario_actions.proofs.Identifiers.{identifier_is_name}
 use Rattle.fp_scenario_actions.proofs.Suits.{acts_suit, as_long, returns_stand}
 use Rattle.fp_scenario_actions.proofs.SuitsCalls.{calls_as_long, calls_suit}
-use Rattle.fp_scenario_actions.proofs.Wired.{position_passes, tested}
 use Rattle.fp_scenario_check.specs.Planned.{at_each, caller_path, guard_at, guard_path, handler_path, pairs, running_at, same_caller, same_guard, same_handler, stands_for, IsWhole, Planned, PlansAnswers, PlansCaller, PlansHandler, too_large, caller_repeated, handler_repeated, guard_repeated}
 use Rattle.fp_scenario_check.proofs.Apart.{Apart, apart_map, tests_apart, unrepeated}
 use Rattle.fp_scenario_check.proofs.Beside.{all_planned, apart_beside, as_many}
 use Rattle.fp_scenario_check.proofs.Placed.{named_placed, one_instance}
-use Rattle.fp_scenario_check.proofs.Spelled.{bytes_same, one_named, one_spelling}
+use Rattle.fp_scenario_check.proofs.Spelled.{one_named, one_spelling}
 use Rattle.fp_scenario_check.proofs.StandingRules.{OnePlace, pairs_apart, stands_placed}
 
 at_most : (most n : ℕ) → n ≤ most → nat_le n most ≡ true
@@ -56,10 +59,6 @@ below most n h = grind (arith, nat_tests)
 
 in_range : (most n : ℕ) → 1 ≤ n → n ≤ most → is_from_1_to most n ≡ true
 in_range most n h k = join _ _ (at_most n 1 h) (at_most most n k)
-
-never_false : (b : Bool) → (b ≡ false → ⊥) → b ≡ true
-never_false true not_so = refl
-never_false false not_so = absurd (not_so refl)
 
 -- ---- callers
 
@@ -102,7 +101,7 @@ module _ (t : Described) (sound : IsSoundFor t.model (Some t.topology)) (p : Han
   handler_suits_so =
       ap SuitsAt plan.instance
       ∙ join _ _ (join _ _ kept.0 (returns_stand t p.1 plan.component x.place plan.begins p.0.do_ x.acts plan.acts plan.returned))
-      (tested (λ (scope : Scope). suit_in_turn t (act_suits t p.1 x.place) scope x.acts) (bound_at t p.1 x.place) plan.begins plan.formals
+      (some_and_at (λ (scope : Scope). suit_in_turn t (act_suits t p.1 x.place) scope x.acts) (bound_at t p.1 x.place) plan.begins plan.formals
       (acts_suit t sound p.1 plan.component plan.has x.place plan.begins p.0.do_ x.acts kept.1.1 plan.acts))
 
 handler_short : (t : Described) (p : HandlerText × ℕ) (x : Handler) → IsKeptPair t p → PlansHandler t p x → is_short_list x.acts ≡ true
@@ -126,7 +125,7 @@ answers_suit_so t g x kept plan =
     let m = then_some (λ (m : Machine). name_of m.guards g.guard) (machine_at t x.instance x.running) x.guard plan.guard in
     let named = position_passes (λ (y : Named). bytes_eq y.name g.guard) m.0.guards x.guard m.2 in
     join _ _ (named_placed t g.of x.instance plan.instance)
-    (tested (λ (m : Machine). nat_lt x.guard (length m.guards)) (machine_at t x.instance x.running) m.0 m.1 (below (length m.0.guards) x.guard (get_within m.0.guards x.guard named.0 named.1)))
+    (some_and_at (λ (m : Machine). nat_lt x.guard (length m.guards)) (machine_at t x.instance x.running) m.0 m.1 (below (length m.0.guards) x.guard (get_within m.0.guards x.guard named.0 named.1)))
 
 answers_in_range : (t : Described) (g : GuardText) (x : Answers) → IsKeptGuard g → PlansAnswers t g x → is_from_1_to 1024 (length x.given) ≡ true
 answers_in_range t g x kept plan = ap (λ (bs : List Bool). is_from_1_to 1024 (length bs)) plan.given ∙ in_range 1024 (length g.answers) kept.0 kept.1
@@ -196,6 +195,6 @@ module _ (t : Described) (scenario : Scenario) (program : Program) (sound : IsSo
         join _ _ (all_planned (PlansCaller t) IsKeptCaller (λ (x : Caller). is_short_list x.acts) (λ k x is p. caller_short t k x is p) scenario.callers program.callers kept.callers plan.callers)
         (all_planned (PlansHandler t) (IsKeptPair t) (λ (x : Handler). is_short_list x.acts) (λ p x is q. handler_short t p x is q) (pairs t scenario) program.handlers handlers_kept plan.handlers);
     answers_are_few = all_planned (PlansAnswers t) IsKeptGuard (λ (x : Answers). is_from_1_to 1024 (length x.given)) (λ g x is p. answers_in_range t g x is p) scenario.guards program.answers kept.guards plan.answers;
-    instances_are_few = never_false (nat_le (length (placed t)) 256 && nat_le (length (filter (is_active_at t) (placed t))) 64) (λ e. whole PastSize (codes "/") (too_large (inl e)));
-    queues_are_small = never_false (nat_le (sum_by (queue_places t) (placed t)) 1000000) (λ e. whole PastSize (codes "/") (too_large (inr e)));
+    instances_are_few = true_from_ne_false (nat_le (length (placed t)) 256 && nat_le (length (filter (is_active_at t) (placed t))) 64) (λ e. whole PastSize (codes "/") (too_large (inl e)));
+    queues_are_small = true_from_ne_false (nat_le (sum_by (queue_places t) (placed t)) 1000000) (λ e. whole PastSize (codes "/") (too_large (inr e)));
   }

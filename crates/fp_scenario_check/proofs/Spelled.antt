@@ -2,10 +2,11 @@
 use Rattle.std.proofs.Common.{◌≡◌, ℕ, Bool, true, false, cond, List, [], ◌∷◌, ◌++◌, length, take, drop, Option, Some, None, option_map, refl, sym, ap, ap₂, ◌∙◌}
 use Rattle.std.specs.Prelude.{codes, ◌==◌, ◌||◌, option_and_then, position, slice_get, unwrap_or}
 use Rattle.std.specs.Str.{bytes_eq}
-use Rattle.std.proofs.lemmas.Slice.Eq.{bytes_eq-Decides}
 use Rattle.std.proofs.lemmas.List.{take-append-drop}
-use Rattle.fp_base.proofs.Options.{same_some, mapped_some, then_some}
+use Rattle.fp_base.proofs.Options.{same_some, mapped_some, then_some, some_if}
 use Rattle.fp_base.proofs.Sameness.{nat_same}
+use Rattle.fp_base.proofs.Bytes.{same_bytes}
+use Rattle.fp_base.proofs.Passing.{position_passes}
 use Rattle.fp_tables.specs.Lists.{some_and}
 use Rattle.fp_tables.specs.Lookup.{Described}
 use Rattle.fp_tables.specs.Programs.{is_general_input, is_internal, is_hooked, way_in, way_written}
@@ -20,18 +21,6 @@ use Rattle.fp_tables.specs.declared.program.Spot.TheVariants as spot
 use Rattle.fp_scenario_actions.specs.Acting.{machine_in}
 use Rattle.fp_scenario_actions.specs.Named.{port_named, port_where, command_named, running_named, name_of}
 use Rattle.fp_scenario_actions.specs.Spots.{behind, parted, form, port_spot, command_spot, action_at, action_spot, hook_port_spot, hook_command_spot, hook_signal_spot, spot_in}
-use Rattle.fp_scenario_actions.proofs.Wired.{position_passes}
-
-pub bytes_equal : (xs ys : List ℕ) → bytes_eq xs ys ≡ true → xs ≡ ys
-bytes_equal xs ys h = (bytes_eq-Decides xs ys).0 h
-
-pub bytes_same : (xs ys : List ℕ) → xs ≡ ys → bytes_eq xs ys ≡ true
-bytes_same xs ys e = (bytes_eq-Decides xs ys).1 e
-
--- what is kept by a test is itself
-pub held : (m n : ℕ) (b : Bool) → cond b (Some m) None ≡ Some n → m ≡ n
-held m n true e = same_some e
-held m n false e = absurd (cc)
 
 -- ---- the parts of a text
 
@@ -39,7 +28,7 @@ behind_is : (beginning text rest : List ℕ) → behind beginning text ≡ Some 
 behind_is beginning text rest h = go (bytes_eq (take (length beginning) text) beginning) refl h
   where
     go : (same : Bool) → bytes_eq (take (length beginning) text) beginning ≡ same → cond same (Some (drop (length beginning) text)) None ≡ Some rest → text ≡ beginning ++ rest
-    go true is e = sym (take-append-drop (length beginning) text) ∙ ap₂ (λ (xs ys : List ℕ). xs ++ ys) (bytes_equal (take (length beginning) text) beginning is) (same_some e)
+    go true is e = sym (take-append-drop (length beginning) text) ∙ ap₂ (λ (xs ys : List ℕ). xs ++ ys) (same_bytes (take (length beginning) text) beginning is) (same_some e)
     go false is e = absurd (cc)
 
 parted_is : (byte : ℕ) (text : List ℕ) (p : List ℕ × List ℕ) → parted byte text ≡ Some p → text ≡ p.0 ++ byte ∷ p.1
@@ -57,12 +46,12 @@ parted_is byte (b ∷ bs) p h = go (b == byte) refl (parted byte bs) (parted_is 
 pub text_is : {A : Type 0} (name : A → List ℕ) (xs : List A) (text : List ℕ) (n : ℕ) → position (λ x. bytes_eq (name x) text) xs ≡ Some n → text ≡ unwrap_or (option_map name (slice_get xs n)) []
 text_is name xs text n h =
     let x = position_passes (λ y. bytes_eq (name y) text) xs n h in
-    sym (bytes_equal (name x.0) text x.2) ∙ sym (ap (λ o. unwrap_or (option_map name o) []) x.1)
+    sym (same_bytes (name x.0) text x.2) ∙ sym (ap (λ o. unwrap_or (option_map name o) []) x.1)
 
 where_named : (test : Port → Bool) (ports : List Port) (name : List ℕ) (n : ℕ) → port_where test ports name ≡ Some n → port_named ports name ≡ Some n
 where_named test ports name n h =
     let q = then_some (λ (m : ℕ). cond (some_and test (slice_get ports m)) (Some m) None) (port_named ports name) n h in
-    q.1 ∙ ap Some (held q.0 n (some_and test (slice_get ports q.0)) q.2)
+    q.1 ∙ ap Some (some_if q.0 n (some_and test (slice_get ports q.0)) q.2)
 
 -- one position has one name at most
 pub one_named : {A : Type 0} (name : A → List ℕ) (xs : List A) (a b : List ℕ) (n : ℕ) → position (λ x. bytes_eq (name x) a) xs ≡ Some n → position (λ x. bytes_eq (name x) b) xs ≡ Some n → a ≡ b

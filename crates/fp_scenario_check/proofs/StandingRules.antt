@@ -4,24 +4,24 @@ use Rattle.std.specs.Prelude.{slice_get}
 use Rattle.std.specs.List.{AllByRecursion}
 use Rattle.std.specs.Str.{bytes_eq}
 use Rattle.fp_base.proofs.Bools.{both, join, not_true}
-use Rattle.fp_base.proofs.Lists.{each_mapped, each_weaker}
+use Rattle.fp_base.proofs.Lists.{each_mapped, each_weaker, each_item}
 use Rattle.fp_base.proofs.Options.{one_some}
 use Rattle.fp_base.proofs.Sameness.{nat_same}
+use Rattle.fp_base.proofs.Passing.{any_at, each_passing}
+use Rattle.fp_base.proofs.Bytes.{same_bytes, bytes_same}
 use Rattle.fp_tables.specs.Acts.{is_placed}
 use Rattle.fp_tables.specs.Lists.{some_and}
 use Rattle.fp_tables.specs.Lookup.{Described, placed}
 use Rattle.fp_tables.specs.Positions.{component_of}
 use Rattle.fp_tables.specs.Sound.{IsSoundAt}
 use Rattle.fp_tables.specs.declared.component.Component.{Component}
-use Rattle.fp_tables.proofs.Optional.{some_and_of}
+use Rattle.fp_tables.proofs.Optional.{some_and_of, some_and_at}
 use Rattle.fp_scenario.specs.declared.scenario.Scenario.{Scenario}
 use Rattle.fp_scenario.specs.declared.scenario.HandlerText.{HandlerText}
 use Rattle.fp_scenario_actions.specs.Named.{placed_named}
-use Rattle.fp_scenario_actions.proofs.Wired.{tested}
 use Rattle.fp_scenario_check.specs.Planned.{has_own, is_of, of_instance, stands_for, at_each, pairs, same_handler}
-use Rattle.fp_scenario_check.proofs.Apart.{Apart, apart_map, apart_filter, apart_flat, each_by, each_passing}
-use Rattle.fp_scenario_check.proofs.Placed.{any_at, each_is_in, instances_apart, named_placed, one_instance}
-use Rattle.fp_scenario_check.proofs.Spelled.{bytes_equal, bytes_same}
+use Rattle.fp_scenario_check.proofs.Apart.{Apart, apart_map, apart_filter, apart_flat}
+use Rattle.fp_scenario_check.proofs.Placed.{each_is_in, instances_apart, named_placed, one_instance}
 
 -- one instance and one text of a place
 abbrev pub OnePlace : HandlerText × ℕ → HandlerText × ℕ → Type 0
@@ -62,14 +62,14 @@ module _ (t : Described) (scenario : Scenario) where
 
   are_own : AllByRecursion IsOwn scenario.handlers
   are_own =
-      each_by IsOwn scenario.handlers
-      (λ k h e on i same is. any_at (λ (g : HandlerText). bytes_eq g.on_ on && some_and (λ j. j == i) (placed_named t g.of)) scenario.handlers k h e (join _ _ (bytes_same h.on_ on same) (tested (λ (j : ℕ). j == i) (placed_named t h.of) i is (nat_same.itself i))))
+      each_item IsOwn scenario.handlers
+      (λ k h e on i same is. any_at (λ (g : HandlerText). bytes_eq g.on_ on && some_and (λ j. j == i) (placed_named t g.of)) scenario.handlers k h e (join _ _ (bytes_same h.on_ on same) (some_and_at (λ (j : ℕ). j == i) (placed_named t h.of) i is (nat_same.itself i))))
 
   one_component : (a b : List ℕ) (i : ℕ) → is_of t a i ≡ true → is_of t b i ≡ true → a ≡ b
   one_component a b i h k =
       let c = some_and_of (λ (c : Component). bytes_eq c.name a) (component_of t.model i) h in
       let d = some_and_of (λ (c : Component). bytes_eq c.name b) (component_of t.model i) k in
-      sym (bytes_equal c.0.name a c.2) ∙ ap (λ (x : Component). x.name) (one_some (component_of t.model i) c.0 d.0 c.1 d.1) ∙ bytes_equal d.0.name b d.2
+      sym (same_bytes c.0.name a c.2) ∙ ap (λ (x : Component). x.name) (one_some (component_of t.model i) c.0 d.0 c.1 d.1) ∙ same_bytes d.0.name b d.2
 
   differs : (b : Bool) → b ≡ true → b ≡ false → ⊥
   differs true h k = cc

@@ -3,8 +3,9 @@ use Rattle.std.proofs.Common.{◌≡◌, ◌⊎◌, inl, inr, ℕ, zero, suc, Bo
 use Rattle.std.specs.Prelude.{find}
 use Rattle.std.specs.List.{AllByRecursion}
 use Rattle.std.specs.Str.{bytes_eq}
-use Rattle.fp_base.proofs.Bools.{both}
+use Rattle.fp_base.proofs.Bools.{both, not_both}
 use Rattle.fp_base.proofs.Options.{same_some}
+use Rattle.fp_base.proofs.Lists.{of_item}
 use Rattle.fp_base.specs.declared.rule.Rule.{Rule}
 use Rattle.fp_tables.specs.Lists.{some_and}
 use Rattle.fp_tables.specs.Lookup.{Described, placed}
@@ -21,7 +22,6 @@ use Rattle.fp_scenario.specs.declared.scenario.Scenario.{Scenario}
 use Rattle.fp_scenario.specs.declared.scenario.CallerText.{CallerText}
 use Rattle.fp_scenario.specs.declared.scenario.HandlerText.{HandlerText}
 use Rattle.fp_scenario.specs.declared.scenario.GuardText.{GuardText}
-use Rattle.fp_scenario_actions.proofs.Making.{not_both}
 use Rattle.fp_scenario_actions.specs.Named.{placed_named}
 use Rattle.fp_scenario_actions.specs.Spots.{spot_in}
 use Rattle.fp_scenario_actions.specs.Listing.{ActsPlan, lacks_return}
@@ -40,14 +40,6 @@ module _ {A B : Type 0} (P : A → B → Type 0) where
   each_planned (x ∷ xs) (b ∷ bs) h = ((b, h.0), each_planned xs bs h.1)
 
 module _ {A : Type 0} (Q : A → Type 0) where
-  at_position : (xs : List A) (n : ℕ) (x : A) → AllByRecursion Q xs → slice_get xs n ≡ Some x → Q x
-  at_position [] n x h found = absurd (nothing x found)
-    where
-      nothing : (y : A) → ◌≡◌ {A = Option A} None (Some y) → ⊥
-      nothing y e = cc
-  at_position (y ∷ ys) zero x h found = subst Q (same_some found) h.0
-  at_position (y ∷ ys) (suc n) x h found = at_position ys n x h.1 found
-
   parted : (xs ys : List A) → AllByRecursion Q (xs ++ ys) → AllByRecursion Q xs × AllByRecursion Q ys
   parted [] ys h = (tt, h)
   parted (x ∷ xs) ys h = let rest = parted xs ys h.1 in ((h.0, rest.0), rest.1)
@@ -72,7 +64,7 @@ module _ (t : Described) (scenario : Scenario) (handlers : List Handler) (planne
 
   planned_at : (n k i : ℕ) (h : HandlerText) → slice_get scenario.handlers n ≡ Some h → slice_get (stands_for t scenario h) k ≡ Some i → IsPlanned (h, i)
   planned_at n k i h found one =
-      at_position (λ (j : ℕ). IsPlanned (h, j)) (stands_for t scenario h) k i
+      of_item (λ (j : ℕ). IsPlanned (h, j)) (stands_for t scenario h) k i
       (of_mapped IsPlanned (at_one h) (stands_for t scenario h)
       (in_part IsPlanned (at_each t scenario) scenario.handlers n h (each_planned (PlansHandler t) (pairs t scenario) handlers planned) found)) one
 
@@ -180,10 +172,10 @@ module _ (t : Described) (scenario : Scenario) where
     whole rule path (guard_repeated n h) = checked.guards_differ n h
     whole rule path (handler_unknown n h found unknown) = handler_known n h found unknown
     whole rule path (guard_unknown n g found unknown) =
-        let x = at_position (λ (h : GuardText). (a : Answers) × PlansAnswers t h a) scenario.guards n g (each_planned (PlansAnswers t) scenario.guards answers checked.answers_planned) found in
+        let x = of_item (λ (h : GuardText). (a : Answers) × PlansAnswers t h a) scenario.guards n g (each_planned (PlansAnswers t) scenario.guards answers checked.answers_planned) found in
         guard_known t g x.0 x.1 unknown
     whole rule path (in_caller broken n k x found breaks) =
-        let plan = at_position (λ (h : CallerText). (c : Caller) × PlansCaller t h c) scenario.callers n x (each_planned (PlansCaller t) scenario.callers callers checked.callers_planned) found in
+        let plan = of_item (λ (h : CallerText). (c : Caller) × PlansCaller t h c) scenario.callers n x (each_planned (PlansCaller t) scenario.callers callers checked.callers_planned) found in
         calls_break_nothing t nothing_bound x.do_ plan.0.acts broken k plan.1.acts breaks
     whole rule path (in_handler broken n k i h c place begins stands breaks) =
         let s = stands_planned t scenario handlers checked.handlers_planned n h i c place begins stands in

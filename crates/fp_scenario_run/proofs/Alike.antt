@@ -23,6 +23,7 @@ use Rattle.fp_scenario_actions.specs.Spots.{spot_in}
 use Rattle.fp_scenario_actions.specs.Listing.{ActsPlan, lacks_return}
 use Rattle.fp_scenario_check.specs.Planned.{Pairwise, IsRepeated, PlansCaller, PlansAnswers, same_guard, PlansHandler, Planned, IsUnknownHandler, nothing_named, no_place, no_place_of_component, Stands, Breaks, too_large, caller_repeated, handler_repeated, guard_repeated, handler_unknown, guard_unknown, in_caller, in_handler, return_missing, is_of, has_own, of_instance, stands_for, at_each, pairs, component_named, same_caller, same_handler}
 use Rattle.fp_scenario_check.specs.Broken.{texts_from, BreaksCycle, synchronous, of_locks, IsScenarioBroken}
+use Rattle.fp_scenario_check.proofs.AtEach.{at_one}
 use Rattle.fp_scenario_run.proofs.Paired.{beside, paired_append, planned_beside, repeated_beside}
 use Rattle.fp_scenario_run.proofs.AlikeActs.{acts_plan, acts_break, lacks_alike}
 use Rattle.fp_scenario_run.proofs.AlikeCalls.{calls_plan, calls_break}
@@ -43,9 +44,6 @@ same_callers x y u v h k = ap₂ bytes_eq h.name k.name
 
 same_handlers : (x y u v : HandlerText) → IsSameHandler x y → IsSameHandler u v → same_handler x u ≡ same_handler y v
 same_handlers x y u v h k = ap₂ (λ p q. p && q) (ap₂ bytes_eq h.of k.of) (ap₂ bytes_eq h.on_ k.on_)
-
-abbrev pub at_one : HandlerText → ℕ → HandlerText × ℕ
-at_one h i = (h, i)
 
 -- a handler at an instance, and its like there
 abbrev pub IsSamePair : HandlerText × ℕ → HandlerText × ℕ → Type 0

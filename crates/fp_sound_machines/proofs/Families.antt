@@ -4,10 +4,10 @@ use Rattle.std.specs.Option.{option_cmp}
 use Rattle.std.specs.Ordering.{eq_by_cmp, nat_cmp, is_eq, ordering_then}
 use Rattle.std.specs.Cmp.Lexicographic.{slice_cmp}
 use Rattle.std.specs.Str.{bytes_eq}
-use Rattle.std.specs.declared.cmp.Ordering.TheVariants.{Less, Equal, Greater}
 use Rattle.std.proofs.lemmas.Bool.Decides.{nat_tests}
 use Rattle.std.proofs.lemmas.Map.Text.{is_eq-slice_cmp}
 use Rattle.fp_base.specs.Same.{same_option}
+use Rattle.fp_base.proofs.Comparing.{both_equal}
 use Rattle.fp_tables.specs.Lists.{apart}
 use Rattle.fp_tables.specs.Machines.{siblings_differ}
 use Rattle.fp_sound_machines.specs.Walks.{family_name, family_name_of}
@@ -17,11 +17,6 @@ use denote.Ref.{Bor}
 
 abbrev pub key_cmp : Option ℕ × Bor (List ℕ) → Option ℕ × Bor (List ℕ) → Ordering
 key_cmp x y = ordering_then (option_cmp nat_cmp x.0 y.0) (slice_cmp nat_cmp x.1.now y.1.now)
-
-both_equal : (a b : Ordering) → is_eq (ordering_then a b) ≡ (is_eq a && is_eq b)
-both_equal Less b = refl
-both_equal Equal b = refl
-both_equal Greater b = refl
 
 options_equal : (p q : Option ℕ) → is_eq (option_cmp nat_cmp p q) ≡ same_option (λ m n. eqb m n) p q
 options_equal None None = refl

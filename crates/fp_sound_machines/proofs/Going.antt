@@ -1,5 +1,5 @@
 -- Steps of going through choices.
-use Rattle.std.proofs.Common.{◌≡◌, ◌≢◌, ℕ, suc, ◌+◌, ◌-◌, ◌*◌, ◌<◌, ◌≤◌, Bool, true, false, cond, not, ◌&&◌, leb, List, [], ◌∷◌, ◌++◌, length, set, Option, None, Some, is_none, is_some, ◌⊎◌, inl, inr, eqb, refl, sym, ap, subst, ◌∙◌, arith, length-set}
+use Rattle.std.proofs.Common.{◌≡◌, ◌≢◌, ℕ, suc, ◌+◌, ◌-◌, ◌*◌, ◌<◌, ◌≤◌, Bool, true, false, cond, not, ◌&&◌, leb, List, [], ◌∷◌, ◌++◌, length, set, Option, None, Some, is_none, is_some, ◌⊎◌, inl, inr, refl, sym, ap, subst, ◌∙◌, arith, length-set}
 use Rattle.std.proofs.lemmas.Bool.Decides.{nat_tests}
 use Rattle.fp_tables.specs.Machines.{node_at, begins_choices, either_branch, has_no_ring}
 use Rattle.fp_sound_machines.specs.Behind.{found_at, found_count, choice_at, is_open, open_target, open_branch, either, found_behind, IsBehind, AreBehind, AllBehind, is_branch, IsPath, Begins}
@@ -8,11 +8,12 @@ use Rattle.fp_tables.specs.declared.machine.Node.{Node}
 use Rattle.fp_tables.specs.declared.machine.Node.TheVariants as node
 use Rattle.fp_tables.specs.declared.machine.Vertex.{Vertex}
 use Rattle.fp_tables.specs.declared.machine.Machine.{Machine}
+use Rattle.fp_tables.proofs.Indexed.{all_from_any}
 use Rattle.fp_sound_machines.specs.declared.choices.Behind.{Behind}
 use Rattle.fp_base.proofs.Bools.{both}
+use Rattle.fp_base.proofs.Spots.{same_or_other}
 use Rattle.fp_sound_machines.proofs.Branches.{begins_step, closed_behind}
 use Rattle.fp_sound_machines.proofs.Chains.{choice_within}
-use Rattle.fp_sound_machines.proofs.Holding.{all_hold}
 use Rattle.fp_sound_machines.proofs.Found.{found_same, found_other, found_more, count_within}
 
 module _ (vs : List Vertex) (found : List (Option Behind)) where
@@ -75,13 +76,6 @@ module _ (vs : List Vertex) (found : List (Option Behind)) where
   last_open (x ∷ []) v h = h.2
   last_open (x ∷ y ∷ path) v h = last_open (y ∷ path) v h.2
 
-same_or_not : (m n : ℕ) → (m ≡ n) ⊎ (m ≢ n)
-same_or_not m n = go (eqb m n) refl
-  where
-    go : (b : Bool) → eqb m n ≡ b → (m ≡ n) ⊎ (m ≢ n)
-    go true e = inl (grind (arith, nat_tests))
-    go false e = inr (grind (arith, nat_tests))
-
 -- ---- something is found of the last choice of a path
 
 module _ (vs : List Vertex) (found : List (Option Behind)) (t : ℕ) (b : Behind) (lt : t < length found) where
@@ -112,7 +106,7 @@ module _ (vs : List Vertex) (found : List (Option Behind)) (t : ℕ) (b : Behind
   begins_shorter choice (v ∷ path) h = h
 
   pub still_found : (v : ℕ) → is_some (found_at found v) ≡ true → is_some (found_at after v) ≡ true
-  still_found v h = elim (same_or_not v t) [
+  still_found v h = elim (same_or_other v t) [
     | inl e ↦ ap (λ (o : Option Behind). is_some o) (ap (found_at after) e ∙ here_found)
     | inr ne ↦ ap (λ (o : Option Behind). is_some o) (found_other found t b v ne) ∙ h
   ]
@@ -123,11 +117,11 @@ module _ (vs : List Vertex) (found : List (Option Behind)) (t : ℕ) (b : Behind
       record {
         few = known.few;
         one_each = length-set found t (Some b) ∙ known.one_each;
-        right = λ v c e. elim (same_or_not v t) [
+        right = λ v c e. elim (same_or_other v t) [
           | inl s ↦ let same : b ≡ c = some_same b c (sym here_found ∙ ap (found_at after) (sym s) ∙ e) in subst (λ (x : ℕ). IsBehind types m (Some x) c) (sym s) (subst (IsBehind types m (Some t)) same behind)
           | inr ne ↦ known.right v c (sym (found_other found t b v ne) ∙ e)
         ];
-        bounded = λ v c e. elim (same_or_not v t) [
+        bounded = λ v c e. elim (same_or_other v t) [
           | inl s ↦ let same : b ≡ c = some_same b c (sym here_found ∙ ap (found_at after) (sym s) ∙ e) in let long : b.choices ≡ c.choices = ap (λ (x : Behind). x.choices) same in omega (arith, more, long, bound)
           | inr ne ↦ let few = known.bounded v c (sym (found_other found t b v ne) ∙ e) in omega (arith, more, few)
         ];
@@ -160,7 +154,7 @@ module _ (types : List TypeDef) (m : Machine) (found : List (Option Behind)) (kn
 
   pub no_ring : ((v : ℕ) → is_open vs found v ≡ false) → has_no_ring vs ≡ true
   no_ring closed =
-      all_hold (λ n (x : Vertex). not (begins_choices vs (suc (length vs)) (Some n))) 0 vs (λ k x. ap (λ (b : Bool). not b) (none_begins k (closed k) (node_at vs k) refl))
+      all_from_any (λ n (x : Vertex). not (begins_choices vs (suc (length vs)) (Some n))) 0 vs (λ k x. ap (λ (b : Bool). not b) (none_begins k (closed k) (node_at vs k) refl))
 
 pub all_behind : (types : List TypeDef) (m : Machine) (found : List (Option Behind)) → AreBehind types m found → ((v : ℕ) → is_open m.vertices found v ≡ false) → AllBehind types m found
 all_behind types m found known closed = record {

@@ -1,5 +1,5 @@
 -- The states in which vertices stand.
-use Rattle.std.proofs.Common.{◌≡◌, ℕ, suc, Bool, true, ◌||◌, eqb, List, [], ◌∷◌, map, Option, None, Some, refl, ap, ap₂, ◌∙◌, arith}
+use Rattle.std.proofs.Common.{◌≡◌, ℕ, suc, Bool, ◌||◌, eqb, List, [], ◌∷◌, map, Option, None, Some, refl, ap, ap₂, ◌∙◌, arith}
 use Rattle.std.specs.List.{list_any}
 use Rattle.std.specs.Option.{option_cmp}
 use Rattle.std.specs.Ordering.{eq_by_cmp, nat_cmp}
@@ -34,10 +34,6 @@ begins vs n v = of_node v.node
 pub all_alike : {A : Type 0} (f g : ℕ → A → Bool) → ((n : ℕ) (x : A) → f n x ≡ g n x) → (n : ℕ) (xs : List A) → all_from f n xs ≡ all_from g n xs
 all_alike f g same n [] = refl
 all_alike f g same n (x ∷ xs) = rw (same n x, all_alike f g same (suc n) xs) refl
-
-pub all_hold : {A : Type 0} (f : ℕ → A → Bool) (n : ℕ) (xs : List A) → ((k : ℕ) (x : A) → f k x ≡ true) → all_from f n xs ≡ true
-all_hold f n [] h = refl
-all_hold f n (x ∷ xs) h = rw (h n x) (all_hold f (suc n) xs h)
 
 pub all_begin : (vs : List Vertex) (held : BTreeSet (Option ℕ)) → IsFromIterResult (option_cmp nat_cmp) (map (λ (v : Vertex). v.parent) vs) held →
     all_from (λ n (v : Vertex). begins_where (contains (option_cmp nat_cmp) held (Some n)) v.node) 0 vs ≡ all_from (has_its_initial vs) 0 vs

@@ -1,6 +1,6 @@
 -- What actions and guards want, and what they are given.
-use Rattle.std.proofs.Common.{◌≡◌, Bool, true, false, cond, ◌&&◌, List, Option, None, Some, refl, sym, ap, ap₂, subst, ◌∙◌, arith}
-use Rattle.std.proofs.lemmas.Bool.Decides.{nat_tests}
+use Rattle.std.proofs.Common.{◌≡◌, Bool, true, false, cond, ◌&&◌, List, Option, None, Some, refl, sym, ap, ap₂, subst, ◌∙◌}
+use Rattle.fp_base.proofs.Bools.{and_true}
 use Rattle.fp_tables.specs.Components.{same_kind}
 use Rattle.fp_tables.specs.Machines.{target, is_given}
 use Rattle.fp_sound_machines.specs.Wanted.{meets, both_wanted, wanted_by}
@@ -11,18 +11,9 @@ use Rattle.fp_tables.specs.declared.machine.Named.{Named}
 use Rattle.fp_tables.specs.declared.machine.Machine.{Machine}
 use Rattle.fp_sound_machines.specs.declared.wanted.Wanted.{Wanted}
 use Rattle.fp_sound_machines.specs.declared.wanted.Wanted.TheVariants.{Nothing, One, Never}
-use Rattle.fp_tables.proofs.OneKind.{same_kind_is}
-
-same_kind_refl : (k : Kind) → same_kind k k ≡ true
-same_kind_refl (kind.Str n) = grind (arith, nat_tests)
-same_kind_refl (kind.Named n) = grind (arith, nat_tests)
-same_kind_refl k = refl
+use Rattle.fp_tables.proofs.OneKind.{same_kind_is, kind_itself}
 
 -- ---- what wants both
-
-and_true : (b : Bool) → b ≡ (b && true)
-and_true true = refl
-and_true false = refl
 
 and_false : (b : Bool) → false ≡ (b && false)
 and_false true = refl
@@ -37,7 +28,7 @@ not_both g j k h true true p q =
     let first : g ≡ j = same_kind_is g j p in
     let second : g ≡ k = same_kind_is g k q in
     let same : j ≡ k = sym first ∙ second in
-    let here : same_kind j k ≡ true = subst (λ (i : Kind). same_kind j i ≡ true) same (same_kind_refl j) in
+    let here : same_kind j k ≡ true = subst (λ (i : Kind). same_kind j i ≡ true) same (kind_itself j) in
     absurd (cc)
 not_both g j k h true false p q = refl
 not_both g j k h false b p q = refl

@@ -1,5 +1,5 @@
 -- A type that uses itself begins chains of every length.
-use Rattle.std.proofs.Common.{◌≡◌, ℕ, zero, suc, ◌+◌, Bool, true, false, not, ◌&&◌, ◌||◌, List, [], ◌∷◌, Option, Some, None, option_map, is_some, refl, sym, ap, subst, ◌∙◌, arith}
+use Rattle.std.proofs.Common.{◌≡◌, ℕ, zero, suc, ◌+◌, Bool, true, false, not, ◌&&◌, ◌||◌, List, [], ◌∷◌, Option, Some, None, option_map, is_some, refl, sym, ap, subst, arith}
 use Rattle.std.proofs.lemmas.Bool.Decides.{Decides-eqb}
 use Rattle.std.specs.List.{list_any, slice_get}
 use Rattle.fp_tables.specs.Lists.{all_from, some_and}
@@ -8,7 +8,7 @@ use Rattle.fp_tables.specs.declared.kind.Kind.{Kind}
 use Rattle.fp_tables.specs.declared.kind.Kind.TheVariants.{Named}
 use Rattle.fp_tables.specs.declared.kind.Form.{Form}
 use Rattle.fp_tables.specs.declared.kind.TypeDef.{TypeDef}
-use Rattle.fp_base.proofs.Bools.{both}
+use Rattle.fp_tables.proofs.Indexed.{all_from_at}
 
 any_more : {X : Type 0} (f g : X → Bool) → ((x : X) → f x ≡ true → g x ≡ true) → (xs : List X) → list_any f xs ≡ true → list_any g xs ≡ true
 any_more f g more [] h = absurd (cc)
@@ -31,16 +31,6 @@ some_more p q last more (Some f) h = either (last f) (list_any q (kinds_in f)) (
 some_is : (p : Form → Bool) (o : Option Form) → some_and p o ≡ true → is_some o ≡ true
 some_is p None h = absurd (cc)
 some_is p (Some f) h = refl
-
-pub all_from_at : {X : Type 0} (test : ℕ → X → Bool) (n : ℕ) (xs : List X) (i : ℕ) (x : X) → all_from test n xs ≡ true → slice_get xs i ≡ Some x → test (n + i) x ≡ true
-all_from_at test n [] i x h e = absurd (cc)
-all_from_at test n (y ∷ xs) zero x h e =
-    let same : y ≡ x = cc in
-    let here : n ≡ n + 0 = omega arith in
-    subst (λ m. test m x ≡ true) here (ap (test n) (sym same) ∙ (both (test n y) (all_from test (suc n) xs) h).0)
-all_from_at test n (y ∷ xs) (suc i) x h e =
-    let here : suc n + i ≡ n + suc i = omega arith in
-    subst (λ m. test m x ≡ true) here (all_from_at test (suc n) xs i x (both (test n y) (all_from test (suc n) xs) h).1 e)
 
 module _ (types : List TypeDef) where
   at_name : (q : Kind → Bool) (j : ℕ) → q (Named j) ≡ true → (k : Kind) → is_named j k ≡ true → q k ≡ true

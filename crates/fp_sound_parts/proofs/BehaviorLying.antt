@@ -5,6 +5,7 @@ use Rattle.std.specs.List.{cons_option, filter_map, list_all}
 use Rattle.std.proofs.lemmas.Bool.Decides.{nat_tests}
 use Rattle.fp_base.proofs.Bools.{join}
 use Rattle.fp_base.proofs.Options.{mapped_some, same_some, some_of}
+use Rattle.fp_base.proofs.Passing.{all_items}
 use Rattle.fp_tree.specs.declared.name.Name.{Name}
 use Rattle.fp_tree.specs.declared.name.Qual.{Qual}
 use Rattle.fp_tree.specs.declared.machine.ActionUse.{ActionUse}
@@ -36,7 +37,6 @@ use Rattle.fp_sound_parts.proofs.Known.{KnownGuard, KnownIn}
 use Rattle.fp_sound_parts.proofs.Leading.{initial_there}
 use Rattle.fp_sound_parts.proofs.Meant.{IsDeclaredAt, action_is, guard_is, signal_is, vertex_meant_is}
 use Rattle.fp_sound_parts.proofs.Parts.{part_there}
-use Rattle.fp_sound_parts.proofs.Tests.{list_all_each}
 use Rattle.fp_sound_parts.proofs.Vertices.{declared_back, declared_length, number_below, vertex_back}
 
 -- ---- numbers
@@ -175,7 +175,7 @@ module _ (es : List BehaviorElement) (name : List ℕ) (kinds : List (Option Kin
 
   transitions_lie : (p : Option ℕ) → list_all (on_lies m) (transitions_of es p) ≡ true
   transitions_lie p =
-      list_all_each (on_lies m) (transitions_of es p)
+      all_items (on_lies m) (transitions_of es p)
       (λ k x h.
       let t = part_there (λ (e : BehaviorElement). same_place p e.parent) (λ (e : BehaviorElement). on_in es p e.form) es k x h in
       on_form p t.element.form x t.gives)
@@ -224,7 +224,7 @@ module _ (es : List BehaviorElement) (name : List ℕ) (kinds : List (Option Kin
 
     vertices_lie : list_all (vertex_lies m) m.vertices ≡ true
     vertices_lie =
-        list_all_each (vertex_lies m) m.vertices
+        all_items (vertex_lies m) m.vertices
         (λ n x h.
         let b = vertex_back es n x h in
         join (if_some (λ q. nat_lt q (length m.vertices)) x.parent) (node_lies m x.node)
@@ -237,7 +237,7 @@ module _ (es : List BehaviorElement) (name : List ℕ) (kinds : List (Option Kin
     declared_lie : (types : ℕ) → ((at : ℕ) (k : Kind) → kind_at kinds at ≡ Some k → kind_lies types k ≡ true) → (part : ElementForm → Option TypedName) (test : ElementForm → Bool)
         → ((f : ElementForm) → is_some (part f) ≡ test f) → list_all (named_lies types) (declared_from part kinds 0 es) ≡ true
     declared_lie types kinds_lie part test same =
-        list_all_each (named_lies types) (declared_from part kinds 0 es)
+        all_items (named_lies types) (declared_from part kinds 0 es)
         (λ n x h.
         let b = declared_back part test same kinds es n x h in
         sym (ap (named_lies types) b.is) ∙ if_there (kind_lies types) (kind_at kinds b.at) (kinds_lie b.at))

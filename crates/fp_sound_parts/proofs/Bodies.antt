@@ -3,6 +3,7 @@ use Rattle.std.proofs.Common.{◌≡◌, ℕ, ◌+◌, ◌&&◌, Bool, true, Lis
 use Rattle.std.specs.List.{list_all}
 use Rattle.fp_base.specs.declared.place.Place.{Place}
 use Rattle.fp_base.proofs.Bools.{join}
+use Rattle.fp_base.proofs.Passing.{all_items}
 use Rattle.fp_tree.specs.declared.machine.BehaviorElement.{BehaviorElement}
 use Rattle.fp_tables.specs.Lists.{all_from, if_some}
 use Rattle.fp_tables.specs.Machines as machines
@@ -27,7 +28,7 @@ use Rattle.fp_sound_parts.proofs.Rings.{no_ring}
 use Rattle.fp_sound_parts.proofs.Sentences.{Says, says}
 use Rattle.fp_sound_parts.proofs.Signals.{signals_apart}
 use Rattle.fp_sound_parts.proofs.Staying.{initial_at, stays}
-use Rattle.fp_sound_parts.proofs.Tests.{all_from_each, list_all_each}
+use Rattle.fp_sound_parts.proofs.Tests.{all_from_each}
 use Rattle.fp_sound_parts.proofs.Values as values
 
 -- ---- of a choice nothing is asked
@@ -99,7 +100,7 @@ module _ (types : List TypeDef) (place : Place) (es : List BehaviorElement) (kin
 
   signals_differ : list_all machines.signals_differ (vertices es) ≡ true
   signals_differ =
-      list_all_each machines.signals_differ (vertices es)
+      all_items machines.signals_differ (vertices es)
       (by_nodes (λ (_ : ℕ) (x : Vertex). machines.signals_differ x)
       (λ u x s is. ap (λ (n : Node). numbers_differ (map (λ (o : On). o.signal) (machines.transitions_of n))) is ∙ signals_apart es said.signals (Some u))
       (λ n guard first second x is. choice_differs x guard first second is))
@@ -111,7 +112,7 @@ module _ (types : List TypeDef) (place : Place) (es : List BehaviorElement) (kin
 
   vertices_given : list_all (machines.vertex_is_given types (machine_with es name kinds)) (vertices es) ≡ true
   vertices_given =
-      list_all_each (machines.vertex_is_given types (machine_with es name kinds)) (vertices es)
+      all_items (machines.vertex_is_given types (machine_with es name kinds)) (vertices es)
       (by_nodes (λ (_ : ℕ) (x : Vertex). machines.vertex_is_given types (machine_with es name kinds) x)
       (λ u x s is. state_given types (machine_with es name kinds) x (initial_of es (Some u)) (entry_of es (Some u)) (exit_of es (Some u)) (transitions_of es (Some u)) is
       (initial_given (Some u)) (values.entry_fits es types kinds name b.in_order b.kinds_each said.uses (Some u))

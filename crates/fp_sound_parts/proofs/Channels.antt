@@ -1,5 +1,5 @@
 -- A channel that is resolved from one which breaks no rule: its limits are of integers, of colors that differ, and are values of its type.
-use Rattle.std.proofs.Common.{◌≡◌, inl, inr, ℕ, zero, Bool, true, false, not, cond, ◌||◌, ◌==◌, List, [], ◌∷◌, length, map, Option, Some, None, refl, sym, ap, ap₂, ◌∙◌, arith}
+use Rattle.std.proofs.Common.{◌≡◌, inl, inr, ℕ, zero, Bool, true, false, not, cond, ◌||◌, ◌==◌, List, [], ◌∷◌, length, map, Option, Some, None, refl, sym, ap, ap₂, ◌∙◌}
 use Rattle.std.specs.Prelude.{nat_le, nat_lt, slice_get}
 use Rattle.std.specs.List.{filter, list_all}
 use Rattle.fp_base.specs.Least.{IsUnbroken, broken_at}
@@ -7,6 +7,7 @@ use Rattle.fp_base.specs.declared.rule.Rule.TheVariants.{BadLimits}
 use Rattle.fp_base.specs.declared.value.Value.{Value}
 use Rattle.fp_base.proofs.Bools.{or_right}
 use Rattle.fp_base.proofs.Options.{same_some}
+use Rattle.fp_base.proofs.Numbers.{same_number}
 use Rattle.fp_tables.specs.Machines.{target}
 use Rattle.fp_tables.specs.Names.{numbers_differ}
 use Rattle.fp_tables.specs.Types.{has_kind, is_integer}
@@ -17,29 +18,20 @@ use Rattle.fp_tree.specs.declared.dictionary.Color.TheVariants.{Yellow, Orange, 
 use Rattle.fp_written_parts.specs.declared.dictionary.WrittenChannel.{WrittenChannel}
 use Rattle.fp_written_parts.specs.declared.dictionary.WrittenLimit.{WrittenLimit}
 use Rattle.fp_dictdefs.specs.Broken.{BrokenLimits, is_integer_kind, side_of}
-use Rattle.fp_components.specs.Resolved.{AreEach, IsLimit, color_code}
+use Rattle.fp_dictdefs.specs.Tested.{color_number}
+use Rattle.fp_dictdefs.proofs.Sides.{colors_same}
+use Rattle.fp_components.specs.Resolved.{AreEach, IsLimit}
 use Rattle.fp_sound_parts.specs.Ready.{LimitsFit}
 use Rattle.fp_sound_parts.proofs.ComponentEach.{all_beside, apart_beside, beside}
 use Rattle.fp_sound_parts.proofs.Single.{integer_type}
-use Rattle.fp_sound_parts.proofs.Lists.{both_and, both_back, chosen_apart, filtered, same_number}
+use Rattle.fp_sound_parts.proofs.Lists.{both_and, both_back, chosen_apart, filtered}
 
 -- ---- colors
 
-color_within : (c : Color) → nat_lt (color_code c) 3 ≡ true
+color_within : (c : Color) → nat_lt (color_number c) 3 ≡ true
 color_within Yellow = refl
 color_within Orange = refl
 color_within Red = refl
-
-same_color : (c d : Color) → color_code c ≡ color_code d → c ≡ d
-same_color Yellow Yellow h = refl
-same_color Yellow Orange h = absurd (omega arith)
-same_color Yellow Red h = absurd (omega arith)
-same_color Orange Yellow h = absurd (omega arith)
-same_color Orange Orange h = refl
-same_color Orange Red h = absurd (omega arith)
-same_color Red Yellow h = absurd (omega arith)
-same_color Red Orange h = absurd (omega arith)
-same_color Red Red h = refl
 
 -- ---- limits on one side
 
@@ -96,7 +88,7 @@ module _ (types : List TypeDef) (t : WrittenChannel) (limits : List Limit) (each
         (λ j k a b x y low d e i l same.
         let s = both_chosen on x y same in
         let high : a.high ≡ b.high = sym i.high ∙ one x.high y.high s.0 s.1 ∙ l.high in
-        let color : a.color ≡ b.color = same_color a.color b.color (sym i.color ∙ s.2 ∙ l.color) in
+        let color : a.color ≡ b.color = colors_same a.color b.color (sym i.color ∙ s.2 ∙ l.color) in
         let side : side_of a ≡ side_of b = ap₂ (λ (h : Bool) (c : Color). (h, c)) high color in
         unbroken (broken_at BadLimits b.at) (k, b, e, (refl, inr (side_of b, j, low, (a, d, side), (b, e, refl))))))
 

@@ -7,6 +7,7 @@ use Rattle.std.proofs.lemmas.Option.{slice_get_within}
 use Rattle.fp_base.specs.Least.{IsUnbroken}
 use Rattle.fp_base.specs.Names.{is_name}
 use Rattle.fp_base.proofs.Bools.{both, join}
+use Rattle.fp_base.specs.Numbers.{numbers_from}
 use Rattle.fp_tables.specs.Components.{are_one_each, is_later, names_of, same_kind, saved_parameter, set_parameter, takes_its_value}
 use Rattle.fp_tables.specs.Lists.{all_from, some_and}
 use Rattle.fp_tables.specs.Names.{numbers_differ, texts_differ}
@@ -25,13 +26,14 @@ use Rattle.fp_written_parts.specs.declared.dictionary.WrittenParam.{WrittenParam
 use Rattle.fp_dictdefs.specs.Broken.{BrokenMember}
 use Rattle.fp_dictdefs.specs.Listed.{save_name, set_name}
 use Rattle.fp_tables.specs.declared.kind.TypeDef.{TypeDef}
+use Rattle.fp_tables.proofs.OneKind.{kind_itself}
 use Rattle.fp_component_rules.specs.Broken.{is_async, waits_itself}
 use Rattle.fp_components.specs.Resolved.{CommandHere, written, sets, saves, IsCommandHere, IsWay, formals_of, value_formal}
 use Rattle.fp_sound_parts.specs.Ready.{formals_have_names, member_has_names, member_lies}
 use Rattle.fp_sound_parts.proofs.Formals.{formals_apart, formals_lying, formals_named}
-use Rattle.fp_sound_parts.proofs.Single.{below_true, kind_itself, save_is_name, set_is_name}
+use Rattle.fp_sound_parts.proofs.Single.{below_true, save_is_name, set_is_name}
 use Rattle.fp_sound_parts.proofs.ComponentListed.{HereHas, command_listed, part_here, saved_by, set_by}
-use Rattle.fp_sound_parts.proofs.Lists.{numbers_differ_from, numbers_from}
+use Rattle.fp_sound_parts.proofs.Lists.{numbers_differ_from}
 
 -- ---- one command
 

@@ -2,8 +2,9 @@
 use Rattle.std.proofs.Common.{◌≡◌, ℕ, zero, suc, ◌<◌, Bool, true, List, [], ◌∷◌, length, map, Some, refl, ap₂, arith}
 use Rattle.std.specs.Prelude.{slice_get}
 use Rattle.std.specs.List.{list_all}
+use Rattle.fp_base.proofs.Passing.{all_items}
 use Rattle.fp_components.specs.Resolved.{AreEach}
-use Rattle.fp_sound_parts.proofs.Lists.{AreApart, all_items}
+use Rattle.fp_sound_parts.proofs.Lists.{AreApart}
 
 there : {A B : Type 0} (xs : List A) (ys : List B) → length ys ≡ length xs → (k : ℕ) (y : B) → slice_get ys k ≡ Some y → (x : A) × (slice_get xs k ≡ Some x)
 there [] [] same k y e = absurd (cc)

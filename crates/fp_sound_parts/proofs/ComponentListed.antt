@@ -4,7 +4,8 @@ use Rattle.std.specs.List.{AllByRecursion, filter_map}
 use Rattle.std.proofs.lemmas.List.{map-append}
 use Rattle.std.proofs.lemmas.Option.{slice_get-map}
 use Rattle.std.specs.Prelude.{option_map}
-use Rattle.fp_base.proofs.Lists.{each_flat, each_weaker, of_item}
+use Rattle.fp_base.proofs.Lists.{each_flat, each_weaker, of_item, each_item}
+use Rattle.fp_base.specs.Numbers.{numbers_from}
 use Rattle.fp_tables.specs.declared.component.CommandPart.{CommandPart}
 use Rattle.fp_tables.specs.declared.component.CommandPart.TheVariants as part
 use Rattle.fp_written_parts.specs.declared.dictionary.WrittenEvent.{WrittenEvent}
@@ -16,7 +17,6 @@ use Rattle.fp_written_parts.specs.declared.member.WrittenMember.TheVariants.{Por
 use Rattle.fp_dictdefs.specs.declared.listed.Listed.{Listed}
 use Rattle.fp_dictdefs.specs.Listed.{channels_in, commands_in, events_in, params_in, save_name, set_name}
 use Rattle.fp_components.specs.Resolved.{CommandHere, written, sets, saves, channel_in, commands_from, event_in, param_in, running_in}
-use Rattle.fp_sound_parts.proofs.Lists.{each_item, numbers_from}
 
 -- ---- what is listed of each
 

@@ -2,10 +2,11 @@
 use Rattle.std.proofs.Common.{◌≡◌, ℕ, zero, suc, ◌==◌, ◌⊎◌, ◌||◌, Bool, true, false, cond, List, [], ◌∷◌, ◌++◌, length, map, flat_map, filter, slice_get, Option, Some, None, is_some, refl, sym, ap, ◌∙◌, inl, inr, arith}
 use Rattle.std.specs.List.{cons_option, filter_map, list_any}
 use Rattle.std.specs.Option.{option_map}
-use Rattle.std.proofs.lemmas.Bool.Decides.{nat_tests}
-use Rattle.fp_base.proofs.Bools.{or_left, or_right}
 use Rattle.fp_base.proofs.Options.{one_some, same_some}
 use Rattle.fp_base.proofs.Spots.{same_or_other}
+use Rattle.fp_base.proofs.Numbers.{same_number, number_itself}
+use Rattle.fp_base.proofs.Passing.{any_at}
+use Rattle.fp_base.proofs.Bools.{not_both}
 use Rattle.fp_tree.specs.declared.machine.BehaviorElement.{BehaviorElement}
 use Rattle.fp_tree.specs.declared.machine.ElementForm.{ElementForm}
 use Rattle.fp_tree.specs.declared.machine.ElementForm.TheVariants as element
@@ -22,7 +23,6 @@ use Rattle.fp_machine_rules.specs.declared.item.Target.{Target}
 use Rattle.fp_machine_rules.specs.Forms.{IsState, IsVertex, is_vertex}
 use Rattle.fp_machine_rules.specs.Members as members
 use Rattle.fp_machine_rules.specs.Members.{StateCountsWrong, initials, names, name_in, same_place, wanted_beside}
-use Rattle.fp_machine_rules.proofs.Deciding.{true_false}
 use Rattle.fp_machines.specs.Outline.{outline}
 use Rattle.fp_machines.specs.Steps.{laid_form, laid_item}
 use Rattle.fp_machines.specs.Made as made
@@ -144,17 +144,12 @@ module _ (p : Option ℕ) where
     where
       go : (b : Bool) → same_place p x.parent ≡ b → flat_map (λ (y : Item). name_in y.form) (cond b (x ∷ members.members xs p) (members.members xs p)) ≡ [] → (u : ℕ)
           → slice_get (x ∷ xs) u ≡ Some y → (names xs p ≡ [] → (w : ℕ) → slice_get xs w ≡ Some y → ⊥) → ⊥
-      go false is e zero h rest = true_false (same_place p y.parent) s (ap (λ (z : Item). same_place p z.parent) (sym (same_some h)) ∙ is)
+      go false is e zero h rest = not_both s (ap (λ (z : Item). same_place p z.parent) (sym (same_some h)) ∙ is)
       go false is e (suc u) h rest = rest e u h
       go true is e zero h rest = not_empty x.form (names xs p) e (ap (λ (z : Item). is_vertex z.form) (same_some h) ∙ v)
       go true is e (suc u) h rest = rest (rest_empty x.form (names xs p) e) u h
 
 -- ---- what stands in a state of the vertices
-
-any_there : {A : Type 0} (test : A → Bool) (xs : List A) (k : ℕ) (x : A) → slice_get xs k ≡ Some x → test x ≡ true → list_any test xs ≡ true
-any_there test [] k x h t = absurd cc
-any_there test (y ∷ xs) zero x h t = or_left (test y) (list_any test xs) (ap test (same_some h) ∙ t)
-any_there test (y ∷ xs) (suc k) x h t = or_right (test y) (list_any test xs) (any_there test xs k x h t)
 
 any_none : {A : Type 0} (test : A → Bool) (xs : List A) → ((k : ℕ) (x : A) → slice_get xs k ≡ Some x → test x ≡ true → ⊥) → list_any test xs ≡ false
 any_none test [] h = refl
@@ -164,15 +159,9 @@ any_none test (x ∷ xs) h = neither_so (test x) (list_any test xs) (h 0 x refl)
     neither_so true b f e = absurd (f refl)
     neither_so false b f e = e
 
-same_itself : (n : ℕ) → (n == n) ≡ true
-same_itself n = grind (arith, nat_tests)
-
-equal_numbers : (m n : ℕ) → (m == n) ≡ true → m ≡ n
-equal_numbers m n h = grind (arith, nat_tests)
-
 same_placed : (v : ℕ) (q : Option ℕ) → same_place (Some v) q ≡ true → q ≡ Some v
 same_placed v None e = absurd cc
-same_placed v (Some q) e = ap Some (sym (equal_numbers v q e))
+same_placed v (Some q) e = ap Some (sym (same_number v q e))
 
 pub same_parents : (p q : Option ℕ) → same_place p q ≡ true → q ≡ p
 same_parents None None e = refl
@@ -180,7 +169,7 @@ same_parents None (Some q) e = absurd cc
 same_parents (Some v) q e = same_placed v q e
 
 placed_same : (v : ℕ) (q : Option ℕ) → q ≡ Some v → same_place (Some v) q ≡ true
-placed_same v q e = ap (same_place (Some v)) e ∙ same_itself v
+placed_same v q e = ap (same_place (Some v)) e ∙ number_itself v
 
 module _ (es : List BehaviorElement) (order : AreInOrder (outline es)) (v : ℕ) (is : IsState (items es) v) where
   abbrev holds_some : Bool
@@ -193,8 +182,8 @@ module _ (es : List BehaviorElement) (order : AreInOrder (outline es)) (v : ℕ)
       let t = there es i.at a.element a.here a.is in
       let q : a.element.parent ≡ Some v =
       ap (λ (x : Item). x.parent) (one_some (slice_get (items es) i.at) (laid_item es (outline es) a.element) i.item (item_here es i.at a.element a.here) i.here) ∙ same_placed v i.item.parent i.parent in
-      any_there (λ (w : Vertex). some_and (λ p. p == vertex_number es v) w.parent) (vertices es) (vertex_number es i.at) t.vertex t.here
-      (ap (some_and (λ p. p == vertex_number es v)) (t.parent ∙ ap (option_map (vertex_number es)) q) ∙ same_itself (vertex_number es v))
+      any_at (λ (w : Vertex). some_and (λ p. p == vertex_number es v) w.parent) (vertices es) (vertex_number es i.at) t.vertex t.here
+      (ap (some_and (λ p. p == vertex_number es v)) (t.parent ∙ ap (option_map (vertex_number es)) q) ∙ number_itself (vertex_number es v))
 
   one_form : {u : ℕ} (y : Item) (w : IsVertex (items es) u) → slice_get (items es) u ≡ Some y → is_vertex y.form ≡ true
   one_form {u = u} y w h = ap (λ (z : Item). is_vertex z.form) (one_some (slice_get (items es) u) y w.item h w.here) ∙ w.holds
@@ -212,7 +201,7 @@ module _ (es : List BehaviorElement) (order : AreInOrder (outline es)) (v : ℕ)
         where
           go : (u : ℕ) (d : BehaviorElement) → slice_get es u ≡ Some d → made.is_vertex d.form ≡ true → (o : Option ℕ) → d.parent ≡ o
               → some_and (λ p. p == vertex_number es v) (option_map (vertex_number es) d.parent) ≡ true → ⊥
-          go u d h f None q t = true_false (some_and (λ p. p == vertex_number es v) (option_map (vertex_number es) d.parent)) t (ap (λ (o : Option ℕ). some_and (λ p. p == vertex_number es v) (option_map (vertex_number es) o)) q)
+          go u d h f None q t = not_both t (ap (λ (o : Option ℕ). some_and (λ p. p == vertex_number es v) (option_map (vertex_number es) o)) q)
           go u d h f (Some p) q t =
               let vertex = item_of_vertex es u (record { element = d; here = h; is = f }) in
               let at = corresponds es order in
@@ -220,7 +209,7 @@ module _ (es : List BehaviorElement) (order : AreInOrder (outline es)) (v : ℕ)
               let outer = at.parent u p vertex (record { item = laid_item es (outline es) d; here = here; parent = q }) in
               let same : p ≡ v =
               at.same p v (state_is_vertex (items es) p outer.state) (state_is_vertex (items es) v is)
-              (equal_numbers (vertex_number es p) (vertex_number es v) (ap (λ (o : Option ℕ). some_and (λ p. p == vertex_number es v) (option_map (vertex_number es) o)) (sym q) ∙ t)) in
+              (same_number (vertex_number es p) (vertex_number es v) (ap (λ (o : Option ℕ). some_and (λ p. p == vertex_number es v) (option_map (vertex_number es) o)) (sym q) ∙ t)) in
               none_named (Some v) (items es) e u (laid_item es (outline es) d) here (placed_same v d.parent (q ∙ ap Some same))
               (one_form (laid_item es (outline es) d) vertex here)
 

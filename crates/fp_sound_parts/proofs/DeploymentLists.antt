@@ -1,16 +1,8 @@
 -- Tests of lists, from what holds of their items.
-use Rattle.std.proofs.Common.{◌≡◌, ℕ, zero, suc, ◌<◌, Bool, true, false, not, ◌&&◌, ◌||◌, List, [], ◌∷◌, Some, slice_get, refl, arith}
-use Rattle.std.specs.List.{list_all, list_any}
-use Rattle.fp_base.proofs.Bools.{join}
+use Rattle.std.proofs.Common.{◌≡◌, ℕ, zero, suc, ◌<◌, Bool, true, false, not, ◌&&◌, List, [], ◌∷◌, Some, slice_get, refl, arith}
+use Rattle.std.specs.List.{list_any}
+use Rattle.fp_base.proofs.Bools.{join, not_either}
 use Rattle.fp_tables.specs.Lists.{apart}
-
-pub all_items : {A : Type 0} (test : A → Bool) (xs : List A) → ((k : ℕ) (x : A) → slice_get xs k ≡ Some x → test x ≡ true) → list_all test xs ≡ true
-all_items test [] h = refl
-all_items test (x ∷ xs) h = join (test x) (list_all test xs) (h zero x refl) (all_items test xs (λ k y e. h (suc k) y e))
-
-not_either : (a b : Bool) → (a ≡ true → ⊥) → not b ≡ true → not (a || b) ≡ true
-not_either true b h rest = absurd (h refl)
-not_either false b h rest = rest
 
 none_related : {A : Type 0} (test : A → Bool) (xs : List A) → ((k : ℕ) (x : A) → slice_get xs k ≡ Some x → test x ≡ true → ⊥) → not (list_any test xs) ≡ true
 none_related test [] h = refl

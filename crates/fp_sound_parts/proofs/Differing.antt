@@ -4,11 +4,11 @@ use Rattle.std.specs.Prelude.{option_map}
 use Rattle.std.specs.List.{list_any}
 use Rattle.std.specs.Str.{bytes_eq}
 use Rattle.std.proofs.lemmas.Option.{slice_get-map}
-use Rattle.std.proofs.lemmas.Slice.Eq.{bytes_eq-Decides}
-use Rattle.fp_base.proofs.Bools.{both, join, or_cases}
+use Rattle.fp_base.proofs.Bools.{both, join, or_cases, not_so}
 use Rattle.fp_base.proofs.Options.{mapped_some, same_some}
 use Rattle.fp_base.proofs.Sameness.{nat_same, option_same}
 use Rattle.fp_base.proofs.Spots.{before_or_not}
+use Rattle.fp_base.proofs.Bytes.{same_bytes}
 use Rattle.fp_base.specs.Same.{same_option}
 use Rattle.fp_tree.specs.declared.machine.BehaviorElement.{BehaviorElement}
 use Rattle.fp_tree.specs.declared.machine.ElementForm.{ElementForm}
@@ -28,7 +28,6 @@ use Rattle.fp_machines.specs.Steps.{laid_form, laid_item, laid_items}
 use Rattle.fp_machines.specs.Made.{declared_from, is_vertex, number_among, vertex_in, vertex_number, vertices_from}
 use Rattle.fp_machines.specs.Ordered.{AreInOrder}
 use Rattle.fp_sound_parts.proofs.Around.{behind, state_at, state_passes, vertex_parent}
-use Rattle.fp_sound_parts.proofs.Tests.{not_so}
 use Rattle.fp_sound_parts.proofs.Vertices.{declared_back, item_here, number_once, number_rises, vertex_back}
 
 -- ---- lists whose items differ
@@ -47,9 +46,6 @@ apart_each test [] each = refl
 apart_each test (x ∷ xs) each =
     join (not (list_any (test x) xs)) (apart test xs) (not_so (list_any (test x) xs) (none_any (test x) xs (λ k y. each 0 (suc k) x y (omega arith) refl)))
     (apart_each test xs (λ i j y z l. each (suc i) (suc j) y z (omega arith)))
-
-same_bytes : (s t : List ℕ) → bytes_eq s t ≡ true → s ≡ t
-same_bytes s t h = (bytes_eq-Decides s t).0 h
 
 -- ---- what stands a second time
 

@@ -1,6 +1,7 @@
 -- What is known of each part of a source, and of what is written of it, is known of each written member.
-use Rattle.std.proofs.Common.{◌≡◌, ℕ, suc, Bool, true, List, [], ◌∷◌, flat_map, slice_get, Some, refl}
+use Rattle.std.proofs.Common.{◌≡◌, ℕ, Bool, true, List, [], ◌∷◌, flat_map, slice_get, Some}
 use Rattle.std.specs.List.{AllByRecursion, list_all}
+use Rattle.fp_topology_forms.proofs.Places.{second_read}
 use Rattle.fp_base.proofs.Bools.{both}
 use Rattle.fp_base.proofs.Lists.{each_flat, each_of_any, each_weaker, of_item}
 use Rattle.fp_tree.specs.declared.source.Source.{Source}
@@ -35,12 +36,7 @@ use Rattle.fp_written_parts.specs.declared.member.WrittenRunning.{WrittenRunning
 use Rattle.fp_written_parts.specs.declared.member.WrittenMember.TheVariants as member
 use Rattle.fp_component_forms.specs.declared.writing.WrittenSource.{WrittenSource}
 use Rattle.fp_component_forms.specs.Written.{ChannelIs, CommandIs, ComponentIs, EventIs, GeneralIs, ImportIs, InterfaceIs, InternalIs, IsWrittenSource, MatchIs, MemberIs, ParamIs, RunningIs, SpecialIs, Scoped, components, interfaces, member_part, part_of}
-use Rattle.fp_source_parts.proofs.Places.{second_read}
 use Rattle.fp_sound_parts.specs.Ready.{OfEachMember}
-
-pub each_by_place : {A : Type 0} (P : A → Type 0) (xs : List A) → ((k : ℕ) (x : A) → slice_get xs k ≡ Some x → P x) → AllByRecursion P xs
-each_by_place P [] each = tt
-each_by_place P (x ∷ xs) each = (each 0 x refl, each_by_place P xs (λ k. each (suc k)))
 
 pub each_of_all : {A : Type 0} (p : A → Bool) (xs : List A) → list_all p xs ≡ true → AllByRecursion (λ (x : A). p x ≡ true) xs
 each_of_all p [] h = tt

@@ -3,13 +3,14 @@ use Rattle.std.proofs.Common.{◌≡◌, inl, inr, ℕ, pos, true, ◌==◌, Lis
 use Rattle.std.specs.Str.{bytes_eq}
 use Rattle.fp_base.specs.Least.{IsUnbroken, broken_at}
 use Rattle.fp_base.specs.declared.rule.Rule.TheVariants.{IdRepeated, NameRepeated}
+use Rattle.fp_base.proofs.Numbers.{same_number}
+use Rattle.fp_base.proofs.Bytes.{same_bytes}
 use Rattle.fp_tables.specs.Names.{numbers_differ, texts_differ}
+use Rattle.fp_tables.proofs.Indexed.{mapped_apart}
 use Rattle.fp_dictdefs.specs.declared.listed.Listed.{Listed}
 use Rattle.fp_dictdefs.specs.Broken.{BrokenList}
 use Rattle.fp_dictdefs.specs.Ids.{HasId}
 use Rattle.fp_components.specs.Resolved.{AreEach, IsId}
-use Rattle.fp_component_rules.proofs.Named.{same_bytes}
-use Rattle.fp_sound_parts.proofs.Lists.{mapped_apart, same_number}
 use Rattle.fp_sound_parts.proofs.ComponentEach.{apart_beside}
 use Rattle.fp_sound_parts.proofs.ComponentListed.{listed_at}
 

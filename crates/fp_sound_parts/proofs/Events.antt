@@ -6,6 +6,7 @@ use Rattle.fp_base.specs.Formats.{are_whole, spelled}
 use Rattle.fp_base.specs.Least.{IsUnbroken}
 use Rattle.fp_base.specs.Names.{is_name}
 use Rattle.fp_base.proofs.Bools.{both, join}
+use Rattle.fp_base.proofs.Bytes.{bytes_same}
 use Rattle.fp_tables.specs.Components.{agrees_with_formals, names_of, reads_its_format}
 use Rattle.fp_tables.specs.Formats.{agree}
 use Rattle.fp_tables.specs.Names.{texts_differ}
@@ -20,7 +21,6 @@ use Rattle.fp_written_parts.specs.declared.dictionary.WrittenEvent.{WrittenEvent
 use Rattle.fp_dictdefs.specs.Broken.{BrokenEvent}
 use Rattle.fp_dictdefs.specs.declared.listed.Listed.{Listed}
 use Rattle.fp_components.specs.Resolved.{IsEvent, formals_of, severity_code}
-use Rattle.fp_component_rules.proofs.Named.{bytes_same}
 use Rattle.fp_sound_parts.specs.Ready.{FormatAgrees, formals_have_names, formals_lie}
 use Rattle.fp_sound_parts.proofs.Formals.{formals_apart, formals_lying, formals_named}
 

@@ -1,6 +1,7 @@
 -- The limits of channels have the types of their channels, where neither values nor what is written of components break a rule.
 use Rattle.std.proofs.Common.{◌≡◌, ℕ, zero, suc, Bool, true, false, ℤ, List, [], ◌∷◌, ◌++◌, length, slice_get, Option, Some, None, refl, inl, inr, subst}
 use Rattle.std.specs.Prelude.{option_map}
+use Rattle.fp_topology_forms.proofs.Places.{second_read}
 use Rattle.fp_base.specs.declared.value.Value.{Value, Int}
 use Rattle.fp_base.specs.Least.{IsUnbroken}
 use Rattle.fp_tree.specs.declared.source.Source.{Source}
@@ -26,11 +27,12 @@ use Rattle.fp_type_sizes.specs.declared.written.WrittenType.{WrittenType}
 use Rattle.fp_type_sizes.specs.Sizes.{HasForm, IsInteger, at_plain, behind_alias}
 use Rattle.fp_types.specs.Converting.{Converts, IsWithin}
 use Rattle.fp_types.specs.WellWritten.{AllGiven, AreSoundTypes}
+use Rattle.fp_types.proofs.AllGiven.{given_at}
 use Rattle.fp_type_forms.specs.declared.resolving.Resolution.{Resolution}
 use Rattle.fp_type_forms.specs.Written.{KindIs}
 use Rattle.fp_part_values.specs.FormBroken.{PartFormsBroken}
 use Rattle.fp_part_values.specs.FormStanding.{NumbersStand}
-use Rattle.fp_part_values.specs.Broken.{PartValuesBroken}
+use Rattle.fp_part_values.specs.Broken.{PartValuesBroken, IsIntegerType}
 use Rattle.fp_part_values.specs.Standing.{HasLimit, IsPart}
 use Rattle.fp_written_parts.specs.declared.dictionary.WrittenChannel.{WrittenChannel}
 use Rattle.fp_written_parts.specs.declared.dictionary.WrittenLimit.{WrittenLimit}
@@ -44,10 +46,9 @@ use Rattle.fp_component_forms.specs.Written.{ChannelIs, IsWrittenSource, LimitIs
 use Rattle.fp_source_parts.specs.Broken.{BrokenBy}
 use Rattle.fp_source_parts.specs.Valued.{IsValued}
 use Rattle.fp_source_parts.proofs.Members.{interface_member_known, member_known}
-use Rattle.fp_source_parts.proofs.Places.{second_read}
 use Rattle.fp_sound_parts.specs.Ready.{HasFittingLimits, LimitsFit, OfEachMember}
 use Rattle.fp_sound_parts.proofs.Good.{ConvertedHasKind, all_given}
-use Rattle.fp_sound_parts.proofs.Well.{given_at, sound_well}
+use Rattle.fp_sound_parts.proofs.Well.{sound_well}
 
 -- the laws on parts that are cited here
 abbrev pub PartNumbersStand : Type 0
@@ -62,11 +63,7 @@ LimitsConvert =
 
 -- ---- integer types
 
--- an integer type behind its aliases, by its range
-abbrev IsSomeInteger : List WrittenType → Kind → Type 0
-IsSomeInteger ws k = (low high : ℤ) × IsInteger ws k low high
-
-plain_integer : (ws : List WrittenType) (k : Kind) → is_integer_kind k ≡ true → IsSomeInteger ws k
+plain_integer : (ws : List WrittenType) (k : Kind) → is_integer_kind k ≡ true → IsIntegerType ws k
 plain_integer ws kind.U8 e = (_, _, (kind.U8, at_plain tt, refl))
 plain_integer ws kind.U16 e = (_, _, (kind.U16, at_plain tt, refl))
 plain_integer ws kind.U32 e = (_, _, (kind.U32, at_plain tt, refl))
@@ -79,24 +76,24 @@ plain_integer ws kind.Bool e = absurd (cc)
 plain_integer ws (kind.Str size) e = absurd (cc)
 plain_integer ws (kind.Named i) e = absurd (cc)
 
-aliased : (ws : List WrittenType) (i : ℕ) (k : Kind) → HasForm ws i (form.Alias k) → IsSomeInteger ws k → IsSomeInteger ws (kind.Named i)
+aliased : (ws : List WrittenType) (i : ℕ) (k : Kind) → HasForm ws i (form.Alias k) → IsIntegerType ws k → IsIntegerType ws (kind.Named i)
 aliased ws i k h (low, high, (e, ends, is)) = (low, high, (e, behind_alias h ends, is))
 
 module _ (ws : List WrittenType) (types : List TypeDef) (given : AllGiven ws types) where
   -- by the form that is given of a type
-  of_form : (onward : Kind → Kind) → ((k : Kind) → is_integer_kind (onward k) ≡ true → IsSomeInteger ws k) → (i : ℕ) (o : Option TypeDef) → slice_get types i ≡ o
-      → is_integer_kind (follow onward (kind.Named i) (option_map (λ (d : TypeDef). d.form) o)) ≡ true → IsSomeInteger ws (kind.Named i)
+  of_form : (onward : Kind → Kind) → ((k : Kind) → is_integer_kind (onward k) ≡ true → IsIntegerType ws k) → (i : ℕ) (o : Option TypeDef) → slice_get types i ≡ o
+      → is_integer_kind (follow onward (kind.Named i) (option_map (λ (d : TypeDef). d.form) o)) ≡ true → IsIntegerType ws (kind.Named i)
   of_form onward rest i None at e = absurd (cc)
   of_form onward rest i (Some d) at e = go d.form refl e
     where
-      go : (f : Form) → d.form ≡ f → is_integer_kind (follow onward (kind.Named i) (Some f)) ≡ true → IsSomeInteger ws (kind.Named i)
+      go : (f : Form) → d.form ≡ f → is_integer_kind (follow onward (kind.Named i) (Some f)) ≡ true → IsIntegerType ws (kind.Named i)
       go (form.Alias k) is e = aliased ws i k (subst (λ (f : Form). HasForm ws i f) is (given_at ws types given i d at).0) (rest k e)
       go form.Abstract is e = absurd (cc)
       go (form.Array size element format) is e = absurd (cc)
       go (form.Struct fields) is e = absurd (cc)
       go (form.Enum repr constants) is e = absurd (cc)
 
-  integer_by : (n : ℕ) (k : Kind) → is_integer_kind (target_by types n k) ≡ true → IsSomeInteger ws k
+  integer_by : (n : ℕ) (k : Kind) → is_integer_kind (target_by types n k) ≡ true → IsIntegerType ws k
   unfolding target_by
   integer_by zero k e = plain_integer ws k e
   integer_by (suc n) (kind.Named i) e = of_form (target_by types n) (integer_by n) i (slice_get types i) refl e

@@ -5,17 +5,17 @@ use Rattle.std.proofs.lemmas.List.Folds.{list_all-map}
 use Rattle.fp_base.specs.Least.{IsUnbroken, broken_at}
 use Rattle.fp_base.specs.Names.{is_name}
 use Rattle.fp_base.specs.declared.rule.Rule.TheVariants.{ParameterRepeated}
+use Rattle.fp_base.proofs.Bytes.{same_bytes}
 use Rattle.fp_tables.specs.Components.{names_of}
 use Rattle.fp_tables.specs.Names.{texts_differ}
 use Rattle.fp_tables.specs.Positions as positions
 use Rattle.fp_tables.specs.Sound as sound
 use Rattle.fp_tables.specs.declared.kind.Formal.{Formal}
+use Rattle.fp_tables.proofs.Indexed.{mapped_apart}
 use Rattle.fp_written_parts.specs.declared.port.WrittenFormal.{WrittenFormal}
 use Rattle.fp_dictdefs.specs.Broken.{RepeatedFormals}
 use Rattle.fp_components.specs.Resolved.{formal_of, formals_of}
-use Rattle.fp_component_rules.proofs.Named.{same_bytes}
 use Rattle.fp_sound_parts.specs.Ready.{formals_have_names, formals_lie}
-use Rattle.fp_sound_parts.proofs.Lists.{mapped_apart}
 
 names_alike : (fs : List WrittenFormal) → names_of (formals_of fs) ≡ map (λ (f : WrittenFormal). f.name) fs
 names_alike [] = refl

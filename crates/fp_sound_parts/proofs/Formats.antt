@@ -21,12 +21,8 @@ use Rattle.fp_meaning.specs.declared.item.Item.TheVariants as item
 use Rattle.fp_meaning.specs.Layout.{items}
 use Rattle.fp_meaning.specs.Names.{Path}
 use Rattle.fp_meaning.specs.Sites.{Declaration, component, declaration}
-use Rattle.fp_formats.proofs.Pieces.{marks_of, same_pieces}
-use Rattle.fp_formats.proofs.Readings.{one_reading, reads_format}
 use Rattle.fp_formats.specs.Spelling.{IsFormat}
 use Rattle.fp_type_sizes.specs.declared.written.WrittenType.{WrittenType}
-use Rattle.fp_type_sizes.specs.Sizes.{IsOfSize}
-use Rattle.fp_types.specs.Converting.{DefaultIs}
 use Rattle.fp_type_forms.specs.declared.resolving.Resolution.{Resolution}
 use Rattle.fp_type_forms.specs.Written.{AllAt}
 use Rattle.fp_type_formats.specs.Broken.{BrokenByFormats}
@@ -42,15 +38,11 @@ use Rattle.fp_written_parts.specs.declared.member.WrittenMember.TheVariants as m
 use Rattle.fp_component_forms.specs.declared.writing.WrittenSource.{WrittenSource}
 use Rattle.fp_component_forms.specs.Written.{EventIs, FormalIs, IsWrittenSource, MemberIs, part_of}
 use Rattle.fp_components.specs.Resolved.{formals_of}
+use Rattle.fp_components.proofs.Pieces.{one_format}
 use Rattle.fp_source_parts.specs.Valued.{IsValued}
 use Rattle.fp_source_parts.proofs.Members.{interface_member_known, member_known}
 use Rattle.fp_sound_parts.specs.Ready.{HasAgreeingFormat, OfEachMember}
 use Rattle.fp_sound_parts.proofs.FormatsKinds.{integer_kind}
-
--- a text is one list of pieces
-one_format : (text : List ℕ) (ps qs : List FormatPiece) → IsFormat text ps → IsFormat text qs → ps ≡ qs
-one_format text ps qs h k =
-    same_pieces ps qs h.whole k.whole (one_reading text _ _ (marks_of ps) (marks_of qs) (reads_format text ps h) (reads_format text qs k)).0
 
 module _ (source : Source) (types : List TypeDef) (scope : Path)
     (integer : (f : Formal) (g : WrittenFormal) → FormalIs source scope f g → (NamesNoInteger (items source) 256 scope f.of.form → ⊥) → is_integer types g.kind ≡ true) where
@@ -79,11 +71,10 @@ inner_agrees source types scope (interface_part.Import i) (member.Event w) is = 
 inner_agrees source types scope of m is = tt
 
 module _ (source : Source) (values : List (Option Value)) (resolutions : List Resolution) (ws : List WrittenType) (types : List TypeDef) (valued : IsValued source values resolutions ws types)
-    (readable : (k : ℕ) (i : Item) → slice_get (items source) k ≡ Some i → AreReadable (items source) i)
-    (size_of_default : (ws : List WrittenType) (i : ℕ) (v : Value) → DefaultIs ws (kind.Named i) v → IsOfSize ws (kind.Named i)) where
+    (readable : (k : ℕ) (i : Item) → slice_get (items source) k ≡ Some i → AreReadable (items source) i) where
   integer_formal : (scope : Path) (f : Formal) (g : WrittenFormal) → FormalIs source scope f g → (NamesNoInteger (items source) 256 scope f.of.form → ⊥) → is_integer types g.kind ≡ true
   integer_formal scope f g is never =
-      integer_kind source types valued.given size_of_default
+      integer_kind source types valued.given
       (λ r broken. valued.types_unbroken r (record { written = valued.given.written; are = valued.given.are; broken = inl broken })) scope f.of.form g.kind is.kind never
 
   event_part_agrees : (scope : Path) (of : Part) (w : WrittenEvent) → IsPart source scope of → MemberIs source scope of (member.Event w) → HasAgreeingFormat types (member.Event w)
@@ -100,13 +91,12 @@ pub formats_agree : (source : Source) (values : List (Option Value)) (resolution
     → IsValued source values resolutions ws types → IsWrittenSource source w
     → ((is : List Item) → IsUnbroken (BrokenByFormats is) → (k : ℕ) (i : Item) → slice_get is k ≡ Some i → AreReadable is i)
     → ((source : Source) → IsUnbroken (PartFormsBroken source) → (k : ℕ) (d : Declaration) → slice_get (items source) k ≡ Some (item.Declared d) → NumbersStand source d.scope d.definition)
-    → ((ws : List WrittenType) (i : ℕ) (v : Value) → DefaultIs ws (kind.Named i) v → IsOfSize ws (kind.Named i))
     → OfEachMember w.interfaces w.components (HasAgreeingFormat types)
-formats_agree source values resolutions ws types w valued are formats_read numbers_stand size_of_default = record {
+formats_agree source values resolutions ws types w valued are formats_read numbers_stand = record {
   of_interfaces = λ v k f m at there.
       let known = interface_member_known source w are values resolutions valued.resolved valued.valued (numbers_stand source valued.forms_unbroken) v k f m at there in
       inner_agrees source types known.scope known.of m known.is;
   of_components = λ v k c m at there.
       let known = member_known source w are values resolutions valued.resolved valued.valued (numbers_stand source valued.forms_unbroken) v k c m at there in
-      part_agrees source values resolutions ws types valued (formats_read (items source) valued.formats_unbroken) size_of_default known.scope known.of m known.part_of known.is;
+      part_agrees source values resolutions ws types valued (formats_read (items source) valued.formats_unbroken) known.scope known.of m known.part_of known.is;
 }

@@ -1,12 +1,12 @@
 -- A type name that names no other type than one of integers has a kind that is, of the types that are given, one of integers.
-use Rattle.std.proofs.Common.{◌≡◌, ℕ, zero, suc, ◌+◌, ◌-◌, ◌<◌, ◌^◌, ℤ, pos, negsuc, Bool, true, false, ◌||◌, List, [], ◌∷◌, ◌++◌, length, replicate, flat_map, map, take, slice_get, Option, Some, None, refl, sym, ap, subst, ◌∙◌, inl, inr, arith, length-append}
+use Rattle.std.proofs.Common.{◌≡◌, ℕ, zero, suc, ◌+◌, ◌-◌, ◌<◌, ◌^◌, ℤ, pos, negsuc, Bool, true, List, [], ◌∷◌, ◌++◌, length, replicate, flat_map, map, take, slice_get, Some, refl, sym, ap, subst, ◌∙◌, inl, inr, arith, length-append}
 use Rattle.std.specs.Prelude.{option_map}
-use Rattle.std.specs.List.{list_any}
 use Rattle.std.proofs.lemmas.List.{length-map, length-replicate}
-use Rattle.std.proofs.lemmas.Option.{slice_get-map, slice_get_within}
+use Rattle.std.proofs.lemmas.Option.{slice_get_within}
+use Rattle.fp_topology_forms.proofs.Places.{second_read, as_long}
 use Rattle.fp_base.proofs.Options.{same_some}
-use Rattle.fp_base.proofs.Sameness.{nat_same}
 use Rattle.fp_base.proofs.Spots.{item_below}
+use Rattle.fp_base.proofs.Numbers.{suc_is, none_before}
 use Rattle.fp_base.specs.declared.rule.Rule.TheVariants.{ChainTooLong, Cycle}
 use Rattle.fp_base.specs.declared.value.Value.{Value}
 use Rattle.fp_base.specs.Least.{IsUnbroken, broken_at}
@@ -19,9 +19,8 @@ use Rattle.fp_tree.specs.declared.definition.Def.TheVariants as def
 use Rattle.fp_tree.specs.declared.name.Qual.{Qual}
 use Rattle.fp_tree.specs.declared.type_name.TypeForm.{TypeForm}
 use Rattle.fp_tree.specs.declared.type_name.TypeForm.TheVariants as type
-use Rattle.fp_tables.specs.Lists.{some_and}
 use Rattle.fp_tables.specs.Types as shapes
-use Rattle.fp_tables.specs.Types.{Leads, again, is_integer, is_named, is_use, kinds_in, of_form, once, shape}
+use Rattle.fp_tables.specs.Types.{is_integer, of_form, shape}
 use Rattle.fp_tables.specs.declared.kind.Form.{Form}
 use Rattle.fp_tables.specs.declared.kind.Kind.{Kind}
 use Rattle.fp_tables.specs.declared.kind.Kind.TheVariants as kind
@@ -34,28 +33,21 @@ use Rattle.fp_meaning.specs.declared.names.Definition.{Definition}
 use Rattle.fp_meaning.specs.declared.names.Mention.{Mention}
 use Rattle.fp_meaning.specs.Layout.{items, part_items, type_form_items}
 use Rattle.fp_meaning.specs.Meaning.{Means}
-use Rattle.fp_meaning.specs.Names.{Path, defined, definitions, definitions_of, group_of, mention_of, model_group, model_name, name_of, uses_of}
+use Rattle.fp_meaning.specs.Names.{Path, definitions, definitions_of, mention_of, uses_of}
 use Rattle.fp_meaning.specs.Owners.{owner_of, owners_from}
-use Rattle.fp_meaning.specs.Sites.{ModelDef, Site, component, instance, interface, machine, naming, topology}
+use Rattle.fp_meaning.specs.Sites.{Site, naming}
 use Rattle.fp_meaning.specs.Uses.{BrokenByChains, Uses, by_name}
 use Rattle.fp_meaning.specs.Values.{names_of}
-use Rattle.fp_type_sizes.specs.declared.written.WrittenType.{WrittenType}
 use Rattle.fp_type_sizes.specs.Found as found
-use Rattle.fp_type_sizes.specs.Found.{LeadsTo, UsesType}
-use Rattle.fp_type_sizes.specs.Sizes.{HasForm, IsOfSize}
-use Rattle.fp_type_sizes.proofs.NoCycle.{no_cycle}
-use Rattle.fp_types.specs.Converting.{DefaultIs}
-use Rattle.fp_type_forms.specs.Written.{FormIs, IsWritten, KindIs, TypeHere, type_count, type_here, types, types_before, types_in, types_of}
+use Rattle.fp_types.proofs.AllGiven.{given_at, no_self}
+use Rattle.fp_type_forms.specs.Written.{FormIs, IsWritten, KindIs, TypeHere, types, types_before, types_of}
 use Rattle.fp_type_forms.proofs.Following.{items_whole}
 use Rattle.fp_source_types.specs.Typed.{AreTypesOf}
+use Rattle.fp_source_types.proofs.Counting.{no_type, type_of, count_of, nothing_of}
+use Rattle.fp_source_types.proofs.Standing.{before}
 use Rattle.fp_type_formats.specs.Integers.{NamesNoInteger, by_alias, by_definition, by_word, is_other_definition, is_other_word, sites_of}
-use Rattle.fp_source_parts.proofs.Places.{as_long, second_read}
 
 -- ---- the type that a definition is
-
--- how many definitions stand before a place
-abbrev before : List Item → ℕ → ℕ
-before is p = length (flat_map definitions_of (take p is))
 
 -- the definition with the number is a type: where it stands among the items, the sites and the types
 record IsTypeAt (is : List Item) (n : ℕ) : Type 0 where
@@ -88,54 +80,10 @@ further i is n m e long counts t = record {
   of_definition = t.of_definition;
 }
 
-count_of : (scope : Path) (d : Def) → type_count (defined (group_of d) scope (name_of d)) ≡ length (types_in scope d)
-count_of scope (def.Constant d) = refl
-count_of scope (def.Abstract d) = refl
-count_of scope (def.Alias d) = refl
-count_of scope (def.Array d) = refl
-count_of scope (def.Struct d) = refl
-count_of scope (def.Enum d) = refl
-count_of scope (def.Port d) = refl
-
-none_of : (scope : Path) (d : ModelDef) → type_count (defined (model_group d) scope (model_name d)) ≡ 0
-none_of scope (machine d) = refl
-none_of scope (component d) = refl
-none_of scope (interface d) = refl
-none_of scope (instance d) = refl
-none_of scope (topology d) = refl
-
-no_type : (d : ModelDef) → model_group d ≡ group.Kind → ⊥
-no_type (machine d) e = cc
-no_type (component d) e = cc
-no_type (interface d) e = cc
-no_type (instance d) e = cc
-no_type (topology d) e = cc
-
-record IsHere (scope : Path) (d : Def) : Type 0 where
-  of : TypeHere
-  here : types_in scope d ≡ of ∷ []
-  in_scope : of.scope ≡ scope
-  of_definition : of.definition ≡ d
-
-type_of : (scope : Path) (d : Def) → group_of d ≡ group.Kind → IsHere scope d
-type_of scope (def.Constant d) is = absurd (cc)
-type_of scope (def.Port d) is = absurd (cc)
-type_of scope (def.Abstract d) is = record { of = type_here scope d.name (def.Abstract d) None d.note; here = refl; in_scope = refl; of_definition = refl }
-type_of scope (def.Alias d) is = record { of = type_here scope d.name (def.Alias d) None d.note; here = refl; in_scope = refl; of_definition = refl }
-type_of scope (def.Array d) is = record { of = type_here scope d.name (def.Array d) d.default d.note; here = refl; in_scope = refl; of_definition = refl }
-type_of scope (def.Struct d) is = record { of = type_here scope d.name (def.Struct d) d.default d.note; here = refl; in_scope = refl; of_definition = refl }
-type_of scope (def.Enum d) is = record { of = type_here scope d.name (def.Enum d) d.default d.note; here = refl; in_scope = refl; of_definition = refl }
-
-none_more : (n : ℕ) → n ≡ 0 + n
-none_more n = omega arith
-
-one_more : (n : ℕ) → suc n ≡ 1 + n
-one_more n = omega arith
-
 type_at : (is : List Item) (n : ℕ) (d : Definition) → slice_get (flat_map definitions_of is) n ≡ Some d → d.group ≡ group.Kind → IsTypeAt is n
 type_at [] n d e g = absurd (cc)
-type_at (item.Used since x ∷ is) n d e g = further (item.Used since x) is n n (none_more n) refl (none_more _) (type_at is n d e g)
-type_at (item.Written since x ∷ is) n d e g = further (item.Written since x) is n n (none_more n) refl (none_more _) (type_at is n d e g)
+type_at (item.Used since x ∷ is) n d e g = further (item.Used since x) is n n (none_before n) refl (none_before _) (type_at is n d e g)
+type_at (item.Written since x ∷ is) n d e g = further (item.Written since x) is n n (none_before n) refl (none_before _) (type_at is n d e g)
 type_at (item.Defined s ∷ is) zero d e g =
     let t = type_of s.scope s.definition (ap (λ (x : Definition). x.group) (same_some e) ∙ g) in
     record {
@@ -144,18 +92,18 @@ type_at (item.Defined s ∷ is) zero d e g =
       at = 0;
       here = refl;
       number = refl;
-      kind_of = t.of;
+      kind_of = t.type;
       listed = ap (λ (l : List TypeHere). slice_get (l ++ flat_map types_of is) 0) t.here;
       in_scope = t.in_scope;
       of_definition = t.of_definition;
     }
 type_at (item.Defined s ∷ is) (suc n) d e g =
-    further (item.Defined s) is n (suc n) (one_more n) refl (ap (λ (k : ℕ). k + types_before (flat_map definitions_of is) n) (count_of s.scope s.definition)) (type_at is n d e g)
+    further (item.Defined s) is n (suc n) (suc_is n) refl (ap (λ (k : ℕ). k + types_before (flat_map definitions_of is) n) (count_of s.scope s.definition)) (type_at is n d e g)
 type_at (item.Enumerated x ∷ is) zero d e g = let same : group.Value ≡ group.Kind = ap (λ (y : Definition). y.group) (same_some e) ∙ g in absurd (cc)
-type_at (item.Enumerated x ∷ is) (suc n) d e g = further (item.Enumerated x) is n (suc n) (one_more n) refl refl (type_at is n d e g)
+type_at (item.Enumerated x ∷ is) (suc n) d e g = further (item.Enumerated x) is n (suc n) (suc_is n) refl refl (type_at is n d e g)
 type_at (item.Declared x ∷ is) zero d e g = absurd (no_type x.definition (ap (λ (y : Definition). y.group) (same_some e) ∙ g))
 type_at (item.Declared x ∷ is) (suc n) d e g =
-    further (item.Declared x) is n (suc n) (one_more n) refl (ap (λ (k : ℕ). k + types_before (flat_map definitions_of is) n) (none_of x.scope x.definition)) (type_at is n d e g)
+    further (item.Declared x) is n (suc n) (suc_is n) refl (ap (λ (k : ℕ). k + types_before (flat_map definitions_of is) n) (nothing_of x.scope x.definition)) (type_at is n d e g)
 
 -- ---- an alias uses what its target names
 
@@ -219,54 +167,9 @@ alias_uses source p s d q used at is names low means =
     let owner : 0 + before (items source) (suc p) - 1 - 0 ≡ before (items source) p = omega arith in
     by_name o.k m low (o.owner ∙ ap (λ (n : ℕ). Some n) owner) o.mentioned means
 
--- ---- no type that is given uses itself
+-- ---- a type definition has its form among them
 
-named_is : (j : ℕ) (k : Kind) → is_named j k ≡ true → k ≡ kind.Named j
-named_is j (kind.Named i) e = ap (λ (n : ℕ). kind.Named n) (nat_same.equal i j e)
-named_is j _ e = absurd (cc)
-
-any_named : (j : ℕ) (ks : List Kind) → list_any (is_named j) ks ≡ true → (n : ℕ) × (slice_get ks n ≡ Some (kind.Named j))
-any_named j [] e = absurd (cc)
-any_named j (k ∷ ks) e = go (is_named j k) refl e (any_named j ks)
-  where
-    go : (b : Bool) → is_named j k ≡ b → (b || list_any (is_named j) ks) ≡ true → (list_any (is_named j) ks ≡ true → (n : ℕ) × (slice_get ks n ≡ Some (kind.Named j)))
-        → (n : ℕ) × (slice_get (k ∷ ks) n ≡ Some (kind.Named j))
-    go true is h rest = (0, ap (λ (x : Kind). Some x) (named_is j k is))
-    go false is h rest = let p = rest h in (suc p.0, p.1)
-
-module _ (source : Source) (ts : List TypeDef) (given : AreTypesOf source (map (λ (d : TypeDef). Some d) ts))
-    (size_of_default : (ws : List WrittenType) (i : ℕ) (v : Value) → DefaultIs ws (kind.Named i) v → IsOfSize ws (kind.Named i)) where
-  given_at : (i : ℕ) (d : TypeDef) → slice_get ts i ≡ Some d → HasForm given.written i d.form × DefaultIs given.written (kind.Named i) d.default
-  given_at i d at = (given.types.at i (Some d) (slice_get-map (λ (x : TypeDef). Some x) ts i ∙ ap (option_map (λ (x : TypeDef). Some x)) at)).holds d refl
-
-  type_there : (i : ℕ) → i < length given.written → (d : TypeDef) × (slice_get ts i ≡ Some d)
-  type_there i low = item_below ts i (subst (λ (n : ℕ). i < n) (sym given.types.each ∙ length-map ts (λ (x : TypeDef). Some x)) low)
-
-  used_type : (i j : ℕ) → is_use ts i j → UsesType given.written i j
-  used_type i j u = go (slice_get ts i) refl u
-    where
-      go : (o : Option TypeDef) → slice_get ts i ≡ o → some_and (λ f. list_any (is_named j) (kinds_in f)) (option_map (λ (d : TypeDef). d.form) o) ≡ true → UsesType given.written i j
-      go None is e = absurd (cc)
-      go (Some d) is e = let p = any_named j (kinds_in d.form) e in record { shape = d.form; form = (given_at i d is).0; at = p.0; used = p.1 }
-
-  leads_to : (i j : ℕ) → Leads ts i j → LeadsTo given.written i j
-  leads_to i j (once m n u) = found.one (used_type i j u)
-  leads_to i j (again m k n u l) = found.more (used_type i k u) (leads_to k j l)
-
-  first_use : (i j : ℕ) → Leads ts i j → (k : ℕ) × is_use ts i k
-  first_use i j (once m n u) = (j, u)
-  first_use i j (again m k n u l) = (k, u)
-
-  no_self : (i : ℕ) → Leads ts i i → ⊥
-  no_self i l =
-      let u = first_use i i l in
-      let h = (used_type i u.0 u.1).form in
-      let d = type_there i (slice_get_within given.written i h.written h.here) in
-      let s = size_of_default given.written i d.0.default (given_at i d.0 d.1).1 in
-      no_cycle s.2 i refl (leads_to i i l)
-
-  -- ---- a type definition has its form among them
-
+module _ (source : Source) (ts : List TypeDef) (given : AreTypesOf source (map (λ (d : TypeDef). Some d) ts)) where
   record HasGiven (s : Site) (i : ℕ) : Type 0 where
     of : Form
     is : FormIs source s.scope s.definition of
@@ -275,14 +178,14 @@ module _ (source : Source) (ts : List TypeDef) (given : AreTypesOf source (map (
   form_there : (s : Site) (i : ℕ) (t : TypeHere) → slice_get (types source) i ≡ Some t → t.scope ≡ s.scope → t.definition ≡ s.definition → i < length ts → HasGiven s i
   form_there s i t at scope definition low =
       let d = item_below ts i low in
-      let has = (given_at i d.0 d.1).0 in
+      let has = (given_at given.written ts given.types i d.0 d.1).0 in
       let pair = second_read (IsWritten source) 0 (types source) given.written i has.written given.are has.here in
       let same : pair.one ≡ t = same_some (sym pair.here ∙ at) in
       let is : FormIs source t.scope t.definition d.0.form = subst (λ (x : TypeHere). FormIs source x.scope x.definition d.0.form) same (pair.related.form.holds d.0.form has.form) in
       record {
         of = d.0.form;
         is = subst (λ (x : Def). FormIs source s.scope x d.0.form) definition (subst (λ (x : Path). FormIs source x t.definition d.0.form) scope is);
-        ends = shape_of_form ts no_self i d.0.form (ap (option_map (λ (x : TypeDef). x.form)) d.1);
+        ends = shape_of_form ts (no_self given.written ts given.types) i d.0.form (ap (option_map (λ (x : TypeDef). x.form)) d.1);
       }
 
   -- ---- integers

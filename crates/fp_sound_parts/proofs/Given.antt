@@ -1,7 +1,7 @@
 -- The ports that members give: what holds of each member holds of the ports, and two ports of a list clash only where two members give them.
 use Rattle.std.proofs.Common.{◌≡◌, ℕ, zero, suc, List, [], ◌∷◌, ◌++◌, slice_get, Some, subst, arith, refl}
 use Rattle.std.specs.List.{AllByRecursion}
-use Rattle.fp_base.proofs.Lists.{each_append, of_item}
+use Rattle.fp_base.proofs.Lists.{each_append, of_item, each_item}
 use Rattle.fp_base.proofs.Options.{same_some}
 use Rattle.fp_written_parts.specs.declared.port.WrittenPort.{WrittenPort}
 use Rattle.fp_written_parts.specs.declared.member.WrittenInterface.{WrittenInterface}
@@ -10,7 +10,7 @@ use Rattle.fp_written_parts.specs.declared.member.WrittenMember.TheVariants.{Por
 use Rattle.fp_written_parts.specs.Giving.{Gives, own, imported, GiveAll, none, port, import_, cyclic, command, event, channel, param, match, running}
 use Rattle.fp_component_rules.proofs.Listed.{in_given}
 use Rattle.fp_component_rules.specs.Broken.{GivesAgain}
-use Rattle.fp_sound_parts.proofs.Lists.{AreApart, each_item}
+use Rattle.fp_sound_parts.proofs.Lists.{AreApart}
 
 -- ---- what holds of each member of the interfaces
 

@@ -1,19 +1,17 @@
 -- Connections that go from an output to an input of one definition: what patterns join, and what is written.
-use Rattle.std.proofs.Common.{◌≡◌, ◌∙◌, ap, refl, sym, subst, ℕ, Bool, true, false, cond, List, [], ◌∷◌, length, Option, None, Some, slice_get}
+use Rattle.std.proofs.Common.{◌≡◌, ◌∙◌, ap, refl, sym, subst, ℕ, Bool, true, false, cond, List, [], length, Option, None, Some, slice_get}
 use Rattle.std.specs.Prelude.{◌==◌, option_and_then, option_map, position, unwrap_or}
 use Rattle.std.specs.List.{AllByRecursion, filter, list_all}
 use Rattle.std.specs.Str.{bytes_eq}
-use Rattle.std.proofs.lemmas.List.Quantifiers.{position-Some}
-use Rattle.std.proofs.lemmas.Option.{get_or_from_slice_get}
 use Rattle.std.proofs.lemmas.Slice.Eq.{bytes_eq-Decides}
 use Rattle.fp_base.specs.declared.place.Place.{Place}
 use Rattle.fp_base.proofs.Bools.{both}
 use Rattle.fp_base.proofs.Lists.{all_get}
 use Rattle.fp_base.proofs.Options.{then_some}
-use Rattle.fp_base.proofs.Spots.{item_below}
+use Rattle.fp_base.proofs.Passing.{position_passes}
 use Rattle.fp_tree.specs.declared.topology.Pattern.{Pattern}
 use Rattle.fp_tree.specs.declared.topology.Pattern.TheVariants as pattern
-use Rattle.fp_tables.specs.Components.{definition_of, same_special, suits_its_role}
+use Rattle.fp_tables.specs.Components.{definition_of, suits_its_role}
 use Rattle.fp_tables.specs.Lists.{some_and}
 use Rattle.fp_tables.specs.Lookup.{is_input, is_output}
 use Rattle.fp_tables.specs.Positions.{component_of, port_of}
@@ -30,6 +28,8 @@ use Rattle.fp_tables.specs.declared.kind.PortDef.{PortDef}
 use Rattle.fp_tables.specs.declared.model.Model.{Model}
 use Rattle.fp_tables.specs.declared.topology.Instance.{Instance}
 use Rattle.fp_tables.specs.declared.topology.Link.{Link}
+use Rattle.fp_tables.proofs.Optional.{some_and_of}
+use Rattle.fp_tables.proofs.SpecialPorts.{special_is}
 use Rattle.fp_topologies.specs.declared.sorts.Definition.TheVariants.{Of, Ping}
 use Rattle.fp_topologies.specs.declared.sorts.Join.{Join}
 use Rattle.fp_topologies.specs.declared.sorts.Join.TheVariants.{BackFrom, OutTo, PingOut, PingBack}
@@ -49,23 +49,12 @@ pub record Goes (m : Model) (l : Link) : Type 0 where
 
 -- ---- ports that are found
 
-pub position_at : {A : Type 0} (test : A → Bool) (xs : List A) (k : ℕ) → position test xs ≡ Some k → (x : A) × (slice_get xs k ≡ Some x) × (test x ≡ true)
-position_at test [] k e = absurd (cc)
-position_at test (y ∷ ys) k e =
-    let h = position-Some test (y ∷ ys) k y e in
-    let x = item_below (y ∷ ys) k h.0 in
-    (x.0, x.1, ap test (sym (get_or_from_slice_get (y ∷ ys) k x.0 y x.1)) ∙ h.1)
-
 only_at : {A : Type 0} (test : A → Bool) (xs : List A) (k : ℕ) → only_position test xs ≡ Some k → (x : A) × (slice_get xs k ≡ Some x) × (test x ≡ true)
 only_at {A = A} test xs k e = by (length (filter test xs) == 1) e
   where
     by : (b : Bool) → cond b (position test xs) None ≡ Some k → (x : A) × (slice_get xs k ≡ Some x) × (test x ≡ true)
-    by true f = position_at test xs k f
+    by true f = position_passes test xs k f
     by false f = absurd (cc)
-
-some_passes : {A : Type 0} (test : A → Bool) (o : Option A) → some_and test o ≡ true → (x : A) × (o ≡ Some x) × (test x ≡ true)
-some_passes test None h = absurd (cc)
-some_passes test (Some x) h = (x, refl, h)
 
 module _ (m : Model) where
   pub port_there : (i p : ℕ) (q : Port) → slice_get (ports_at m.components m.instances i) p ≡ Some q → port_of m i p ≡ Some q
@@ -93,13 +82,13 @@ record Named (ds : List PortDef) (name : List ℕ) (of : Option ℕ) : Type 0 wh
 
 named_by : (ds : List PortDef) (name : List ℕ) (of : Option ℕ) → some_and (λ (d : PortDef). bytes_eq d.name name) (option_and_then (slice_get ds) of) ≡ true → Named ds name of
 named_by ds name of h =
-    let d = some_passes (λ (e : PortDef). bytes_eq e.name name) (option_and_then (slice_get ds) of) h in
+    let d = some_and_of (λ (e : PortDef). bytes_eq e.name name) (option_and_then (slice_get ds) of) h in
     let k = then_some (slice_get ds) of d.0 d.1 in
     record { at = k.0; definition = d.0; is = k.1; there = k.2; has = (bytes_eq-Decides d.0.name name).0 d.2 }
 
 named_so : (ds : List PortDef) (name : List ℕ) (of : Option ℕ) → some_and (λ (d : PortDef). bytes_eq name d.name) (option_and_then (slice_get ds) of) ≡ true → Named ds name of
 named_so ds name of h =
-    let d = some_passes (λ (e : PortDef). bytes_eq name e.name) (option_and_then (slice_get ds) of) h in
+    let d = some_and_of (λ (e : PortDef). bytes_eq name e.name) (option_and_then (slice_get ds) of) h in
     let k = then_some (slice_get ds) of d.0 d.1 in
     record { at = k.0; definition = d.0; is = k.1; there = k.2; has = sym ((bytes_eq-Decides name d.0.name).0 d.2) }
 
@@ -107,22 +96,6 @@ one_named : (ds : List PortDef) → DefinitionsDiffer ds → (name : List ℕ) (
 one_named ds differ name a b p q = p.is ∙ ap (λ (k : ℕ). Some k) (differ p.at q.at p.definition q.definition p.there q.there (p.has ∙ sym q.has)) ∙ sym q.is
 
 -- ---- roles
-
-special_one : (s r : Special) → same_special s r ≡ true → s ≡ r
-special_one special.CmdRecv special.CmdRecv h = refl
-special_one special.CmdReg special.CmdReg h = refl
-special_one special.CmdResp special.CmdResp h = refl
-special_one special.Event special.Event h = refl
-special_one special.TextEvent special.TextEvent h = refl
-special_one special.Tlm special.Tlm h = refl
-special_one special.Time special.Time h = refl
-special_one special.PrmGet special.PrmGet h = refl
-special_one special.PrmSet special.PrmSet h = refl
-special_one s r h = absurd (cc)
-
-special_is : (s : Special) (r : Role) → is_special s r ≡ true → r ≡ role.Special s
-special_is s (role.Special t) h = ap (λ (x : Special). role.Special x) (sym (special_one s t h))
-special_is s r h = absurd (cc)
 
 general_input : (r : Role) → is_general_input r ≡ true → is_input r ≡ true
 general_input (role.Input way) h = refl

@@ -15,11 +15,12 @@ use Rattle.fp_type_sizes.specs.declared.written.WrittenType.{WrittenType}
 use Rattle.fp_type_sizes.specs.Sizes.{HasForm}
 use Rattle.fp_types.specs.Converting.{Converts, DefaultIs, empty, plainly, untrue, zero}
 use Rattle.fp_types.specs.WellWritten.{AllGiven, AreSoundTypes, AreWellWritten}
+use Rattle.fp_types.proofs.AllGiven.{given_at, type_there}
 use Rattle.fp_type_forms.specs.declared.resolving.Resolution.{Resolution}
 use Rattle.fp_type_forms.proofs.OneForm.{one_list}
 use Rattle.fp_source_parts.specs.Valued.{IsValued}
 use Rattle.fp_sound_parts.specs.Ready.{IsGood}
-use Rattle.fp_sound_parts.proofs.Well.{given_at, sound_well, type_with}
+use Rattle.fp_sound_parts.proofs.Well.{sound_well}
 
 -- the laws on types that are cited here
 abbrev pub ConvertedHasKind : Type 0
@@ -67,7 +68,7 @@ module _ (ws : List WrittenType) (types : List TypeDef) (given : AllGiven ws typ
     named_good : (i : ℕ) (made : Value) → DefaultIs ws (kind.Named i) made → IsGood types (kind.Named i) made
     named_good i made h =
         let f = has_form ws i made h in
-        let d = type_with ws types given i f.0 f.1 in
+        let d = type_there ws types given i f.0 f.1 in
         good_at types (kind.Named i) made d.0.default (one ws (kind.Named i) made d.0.default h (given_at ws types given i d.0 d.1).1) (type_is_good types sound i d.0 d.1)
 
     pub defaults_good : (k : Kind) (made : Value) → DefaultIs ws k made → IsGood types k made

@@ -5,12 +5,13 @@ use Rattle.std.specs.List.{AllByRecursion}
 use Rattle.fp_base.specs.declared.refusal.Refusal.{Refusal}
 use Rattle.fp_base.specs.declared.rule.Rule.TheVariants.{BadInstance}
 use Rattle.fp_base.specs.Least.{IsUnbroken, broken_at}
-use Rattle.fp_base.proofs.Lists.{each_before, each_behind, of_item}
+use Rattle.fp_base.proofs.Lists.{each_before, each_behind, of_item, each_item}
 use Rattle.fp_base.proofs.Options.{same_some}
 use Rattle.fp_tables.specs.Lists.{is_in}
 use Rattle.fp_tables.specs.declared.component.Component.{Component}
 use Rattle.fp_tables.specs.declared.kind.PortDef.{PortDef}
 use Rattle.fp_tables.specs.declared.topology.Instance.{Instance}
+use Rattle.fp_tables.proofs.Indexed.{item_in}
 use Rattle.fp_written_topologies.specs.declared.topology.UsedInstance.{UsedInstance}
 use Rattle.fp_written_topologies.specs.declared.topology.WrittenTopology.{WrittenTopology}
 use Rattle.fp_topologies.specs.MemberBroken.{Holds}
@@ -19,8 +20,6 @@ use Rattle.fp_topologies.specs.Imports.{AreClosures}
 use Rattle.fp_topologies.specs.ImportLaws.{UnbrokenAreClosed}
 use Rattle.fp_topologies.specs.Broken.{Lacks, TopologiesBroken, TopologyBroken, ends_of, uses_in, uses_of}
 use Rattle.fp_topologies.specs.Laws.{AllUsesAreHeld, HaveClosures, UsesAreHeld}
-use Rattle.fp_topologies.proofs.Earlier.{each_item}
-use Rattle.fp_topologies.proofs.Having.{in_item}
 
 flat_at : {A B : Type 0} (P : B → Type 0) (f : A → List B) (xs : List A) (k : ℕ) (x : A) → slice_get xs k ≡ Some x → AllByRecursion P (flat_map f xs) → AllByRecursion P (f x)
 flat_at P f [] k x e h = absurd (cc)
@@ -35,7 +34,7 @@ not_lacked held i h = by (is_in i held) refl
 
     by : (b : Bool) → is_in i held ≡ b → is_in i held ≡ true
     by true e = e
-    by false e = absurd (h (λ there. clash (is_in i held) (in_item held there.0 i there.1) e))
+    by false e = absurd (h (λ there. clash (is_in i held) (item_in held there.0 i there.1) e))
 
 module _ (ds : List PortDef) (cs : List Component) (is : List Instance) (ts : List WrittenTopology) (unbroken : IsUnbroken (TopologiesBroken ds cs is ts)) where
   pub have_closures : UnbrokenAreClosed → HaveClosures ts

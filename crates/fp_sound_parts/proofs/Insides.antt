@@ -1,9 +1,9 @@
 -- What stands inside a state of the items stands inside it among the vertices.
 use Rattle.std.proofs.Common.{◌≡◌, ℕ, zero, suc, ◌<◌, ◌||◌, true, eqb, List, length, slice_get, Option, Some, None, refl, sym, ap, ◌∙◌, arith}
 use Rattle.std.specs.Option.{option_and_then}
-use Rattle.std.proofs.lemmas.Bool.Decides.{nat_tests}
 use Rattle.std.proofs.lemmas.Option.{slice_get_within}
 use Rattle.fp_base.proofs.Bools.{or_left, or_right}
+use Rattle.fp_base.proofs.Numbers.{number_itself}
 use Rattle.fp_tables.specs.Lists.{some_and}
 use Rattle.fp_tables.specs.Positions.{is_inside}
 use Rattle.fp_tables.specs.declared.machine.Vertex.{Vertex}
@@ -11,9 +11,6 @@ use Rattle.fp_machine_rules.specs.declared.item.Item.{Item}
 use Rattle.fp_machine_rules.specs.Forms.{IsVertex, Inside, directly, deeper}
 use Rattle.fp_sound_parts.proofs.Rings.{state_is_vertex}
 use Rattle.fp_sound_parts.proofs.Standing.{Corresponds, HasParent}
-
-itself : (n : ℕ) → eqb n n ≡ true
-itself n = grind (arith, nat_tests)
 
 module _ (items : List Item) (vs : List Vertex) (number : ℕ → ℕ) (at : Corresponds items vs number) where
   -- by the state that it stands in
@@ -24,7 +21,7 @@ module _ (items : List Item) (vs : List Vertex) (number : ℕ → ℕ) (at : Cor
   inside_by : (n p v : ℕ) → number v < n → IsVertex items v → Inside items p v → is_inside vs n (number v) (number p) ≡ true
   inside_by zero p v low is i = absurd (omega arith)
   inside_by (suc n) p v low is (directly s) =
-      by_parent n v p p (at.parent v p is s) (or_left (eqb (number p) (number p)) (is_inside vs n (number p) (number p)) (itself (number p)))
+      by_parent n v p p (at.parent v p is s) (or_left (eqb (number p) (number p)) (is_inside vs n (number p) (number p)) (number_itself (number p)))
   inside_by (suc n) p v low is (deeper {around = q} s i) =
       let h = at.parent v q is s in
       let less : number q < number v = h.rises in

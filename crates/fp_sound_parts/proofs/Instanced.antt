@@ -6,6 +6,7 @@ use Rattle.std.proofs.lemmas.Bool.Decides.{nat_tests}
 use Rattle.std.proofs.lemmas.Option.{slice_get-map, slice_get_within}
 use Rattle.fp_base.specs.Least.{IsUnbroken}
 use Rattle.fp_base.proofs.Spots.{item_below}
+use Rattle.fp_base.proofs.Passing.{all_items}
 use Rattle.fp_tables.specs.Instances as model
 use Rattle.fp_tables.specs.Sound.{HasSoundInstances}
 use Rattle.fp_tables.specs.declared.model.Model.{Model}
@@ -17,7 +18,6 @@ use Rattle.fp_instances.specs.Broken.{InstancesBroken}
 use Rattle.fp_instances.specs.Facts.{all_facts, facts_of, top_at}
 use Rattle.fp_instances.specs.Ranges.{range_of, range_with, ranges}
 use Rattle.fp_instances.specs.Resolved.{AreInstances, IsInstance}
-use Rattle.fp_sound_parts.proofs.DeploymentLists.{all_items}
 use Rattle.fp_sound_parts.proofs.Own.{numbers_fit, queue_suits}
 use Rattle.fp_sound_parts.proofs.Spaced.{AllBeside, Beside, spaced, spaced_there}
 

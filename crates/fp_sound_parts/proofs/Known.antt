@@ -4,7 +4,7 @@ use Rattle.std.specs.List.{AllByRecursion}
 use Rattle.fp_base.specs.declared.place.Place.{Place}
 use Rattle.fp_base.specs.declared.rule.Rule.TheVariants.{UndefinedInMachine}
 use Rattle.fp_base.specs.Least.{IsUnbroken, broken_at}
-use Rattle.fp_base.proofs.Lists.{InOption, each_before, each_behind}
+use Rattle.fp_base.proofs.Lists.{InOption, each_before, each_behind, each_item}
 use Rattle.fp_base.proofs.Options.{same_some}
 use Rattle.fp_tree.specs.declared.name.Name.{Name}
 use Rattle.fp_tree.specs.declared.machine.ActionUse.{ActionUse}
@@ -28,13 +28,9 @@ use Rattle.fp_machines.specs.Scopes.{action_named, guard_named, signal_named, ve
 abbrev MeansSomething : Use → Type 0
 MeansSomething used = used.means ≡ Nothing → ⊥
 
-from_items : {A : Type 0} (P : A → Type 0) (xs : List A) → ((k : ℕ) (x : A) → slice_get xs k ≡ Some x → P x) → AllByRecursion P xs
-from_items P [] h = tt
-from_items P (x ∷ xs) h = (h 0 x refl, from_items P xs (λ k y e. h (suc k) y e))
-
 uses_mean : (m : LaidMachine) → IsUnbroken (MachineBroken m) → AllByRecursion MeansSomething m.uses
 uses_mean m unbroken =
-    from_items MeansSomething m.uses
+    each_item MeansSomething m.uses
     (λ k used here nothing. unbroken (broken_at UndefinedInMachine used.place) (inr (inr (inr (k, used, here, (refl, (used, here, nothing)))))))
 
 taken : (types : List (Option ℕ)) (o : Option ℕ) → (takes types o ≡ Nothing → ⊥) → is_some o ≡ true

@@ -4,6 +4,7 @@ use Rattle.std.specs.Prelude.{◌&&◌}
 use Rattle.std.specs.List.{list_all}
 use Rattle.std.proofs.lemmas.Option.{slice_get_within}
 use Rattle.fp_base.proofs.Spots.{item_below}
+use Rattle.fp_base.proofs.Passing.{all_items}
 use Rattle.fp_tables.specs.Positions.{link_lies, numbers_lie, topology_lies, wire_lies}
 use Rattle.fp_tables.specs.declared.component.Component.{Component}
 use Rattle.fp_tables.specs.declared.kind.PortDef.{PortDef}
@@ -21,7 +22,6 @@ use Rattle.fp_topologies.specs.Joined.{imported_links}
 use Rattle.fp_topologies.specs.Laws.{HaveClosures, TopologiesLie}
 use Rattle.fp_topologies.specs.Ordered.{AreInOrder, link_cmp}
 use Rattle.fp_topologies.specs.Resolved.{AreTopologies, HaveNoWires}
-use Rattle.fp_sound_parts.proofs.DeploymentLists.{all_items}
 
 abbrev pub WiresLie : Type 0
 WiresLie = (m : Model) (o : Topology) → AreNumbered m o.links o.wires → list_all (link_lies m) o.links ≡ true → list_all (wire_lies m) o.wires ≡ true

@@ -5,6 +5,7 @@ use Rattle.std.specs.List.{list_all}
 use Rattle.std.proofs.lemmas.Bool.Decides.{nat_tests}
 use Rattle.fp_base.proofs.Bools.{join}
 use Rattle.fp_base.proofs.Options.{same_some}
+use Rattle.fp_base.proofs.Passing.{all_items}
 use Rattle.fp_tree.specs.declared.machine.BehaviorElement.{BehaviorElement}
 use Rattle.fp_tree.specs.declared.machine.ElementForm.{ElementForm}
 use Rattle.fp_tree.specs.declared.machine.ElementForm.TheVariants as form
@@ -19,7 +20,6 @@ use Rattle.fp_machines.specs.Scopes.{vertex_meant}
 use Rattle.fp_machines.specs.Made.{initial_in, initial_of, step_of, vertex_in, vertex_number, vertices_from}
 use Rattle.fp_sound_parts.proofs.Known.{KnownGoto, KnownIn}
 use Rattle.fp_sound_parts.proofs.Parts.{part_there}
-use Rattle.fp_sound_parts.proofs.Tests.{list_all_each}
 use Rattle.fp_sound_parts.proofs.Vertices.{vertex_back}
 
 pub same_place_is : (p q : Option ℕ) → same_place p q ≡ true → p ≡ q
@@ -94,5 +94,5 @@ module _ (es : List BehaviorElement) (known : (v : ℕ) (e : BehaviorElement) �
 
   pub vertices_lead : list_all leads_somewhere (vertices_from es 0 es) ≡ true
   vertices_lead =
-      list_all_each leads_somewhere (vertices_from es 0 es)
+      all_items leads_somewhere (vertices_from es 0 es)
       (λ n x h. let b = vertex_back es n x h in form_leads b.at b.element.parent b.element.form x (known b.at b.element b.here) b.is)

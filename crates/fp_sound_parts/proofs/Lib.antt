@@ -37,7 +37,7 @@ mod Lists
 mod Lying
 mod Machines
 mod Meant
-mod Named
+pub mod Named
 mod Naming
 mod Nodes
 mod Outlined

@@ -9,9 +9,10 @@ use Rattle.std.proofs.lemmas.List.Sorted.{All-permutation}
 use Rattle.std.proofs.lemmas.Option.{slice_get_within}
 use Rattle.fp_base.specs.Least.{IsUnbroken}
 use Rattle.fp_base.proofs.Bools.{both}
-use Rattle.fp_base.proofs.Lists.{all_get, each_append, each_flat, of_item}
+use Rattle.fp_base.proofs.Lists.{all_get, each_append, each_flat, of_item, each_item}
 use Rattle.fp_base.proofs.Options.{mapped_some, one_some}
 use Rattle.fp_base.proofs.Spots.{item_below}
+use Rattle.fp_base.proofs.Passing.{each_filtered}
 use Rattle.fp_tree.specs.declared.topology.Pattern.{Pattern}
 use Rattle.fp_tables.specs.Lists.{is_in}
 use Rattle.fp_tables.specs.Positions.{port_of}
@@ -29,7 +30,6 @@ use Rattle.fp_topologies.specs.declared.joining.Joined.{Joined}
 use Rattle.fp_topologies.specs.Joined.{imported_links, is_taken, taken_links}
 use Rattle.fp_topologies.specs.Laws.{HaveClosures, joins}
 use Rattle.fp_topologies.specs.Resolved.{AreTopologies}
-use Rattle.fp_topologies.proofs.Earlier.{each_filter, each_item}
 use Rattle.fp_topologies.proofs.Lying.{each_kept, each_new}
 use Rattle.fp_sound_parts.specs.Premises.{HasSuitingPorts}
 use Rattle.fp_sound_parts.proofs.Going.{Fits, Goes, goes_joined, joins_fit, sort_at}
@@ -71,7 +71,7 @@ module _ (m : Model) (ports : HasSuitingPorts m) where
     where
       taken : (t : ℕ) (o : Option Joined) → slice_get js t ≡ o → AllByRecursion (Goes m) (filter (is_taken ts t) (unwrap_or (option_map (λ (j : Joined). j.own) o) []))
       taken t None e = tt
-      taken t (Some j) e = each_filter (Goes m) (is_taken ts t) j.own (each t j e)
+      taken t (Some j) e = each_filtered (Goes m) (is_taken ts t) j.own (each t j e)
 
   moved_go : (us vs : List Link) → IsPermutation us vs → AllByRecursion (Goes m) us → AllByRecursion (Goes m) vs
   moved_go us vs p h = recursion_from_All (Goes m) vs (All-permutation (Goes m) us vs p (All-from_recursion (Goes m) us h))

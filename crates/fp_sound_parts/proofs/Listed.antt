@@ -1,12 +1,12 @@
 -- What a part gives of the elements of a list, one after another, and where each stands that it gives.
 use Rattle.std.proofs.Common.{◌≡◌, ℕ, zero, suc, ◌+◌, ◌<◌, ◌≤◌, ◌⊎◌, Bool, true, false, cond, List, [], ◌∷◌, ◌++◌, length, filter, take, slice_get, Option, Some, None, is_some, refl, sym, ap, subst, ◌∙◌, inl, inr, arith}
+use Rattle.std.specs.Option.{option_to_list}
 use Rattle.fp_base.proofs.Options.{same_some}
-use Rattle.fp_machines.specs.Made.{or_none}
 
 -- those that it gives, from a position on
 abbrev pub listed : {E X : Type 0} → (ℕ → E → Option X) → ℕ → List E → List X
 listed part at [] = []
-listed part at (e ∷ more) = or_none (part at e) ++ listed part (at + 1) more
+listed part at (e ∷ more) = option_to_list (part at e) ++ listed part (at + 1) more
 
 -- how many pass before a position
 abbrev pub count : {E : Type 0} → (E → Bool) → List E → ℕ → ℕ
@@ -103,11 +103,11 @@ module _ {E : Type 0} (test : E → Bool) where
 -- ---- what is given
 
 module _ {E X : Type 0} (part : ℕ → E → Option X) (test : E → Bool) (same : (at : ℕ) (e : E) → is_some (part at e) ≡ test e) where
-  begins : (o : Option X) (x : X) (rest : List X) → o ≡ Some x → slice_get (or_none o ++ rest) 0 ≡ Some x
+  begins : (o : Option X) (x : X) (rest : List X) → o ≡ Some x → slice_get (option_to_list o ++ rest) 0 ≡ Some x
   begins None x rest h = absurd cc
   begins (Some y) x rest h = h
 
-  behind : (o : Option X) (b : Bool) (n : ℕ) (rest : List X) → is_some o ≡ b → slice_get (or_none o ++ rest) (one_if b + n) ≡ slice_get rest n
+  behind : (o : Option X) (b : Bool) (n : ℕ) (rest : List X) → is_some o ≡ b → slice_get (option_to_list o ++ rest) (one_if b + n) ≡ slice_get rest n
   behind None true n rest h = absurd cc
   behind None false n rest h = let e : 0 + n ≡ n = omega arith in ap (λ (k : ℕ). slice_get rest k) e
   behind (Some y) true n rest h = let e : 1 + n ≡ suc n = omega arith in ap (λ (k : ℕ). slice_get (y ∷ rest) k) e
@@ -120,7 +120,7 @@ module _ {E X : Type 0} (part : ℕ → E → Option X) (test : E → Bool) (sam
       begins (part base d) x (listed part (base + 1) es)
       (let q : base ≡ j = omega arith in ap (λ (n : ℕ). part n d) q ∙ (ap (part j) (same_some h) ∙ g))
   given_here (d ∷ es) base (suc at) j e x h p g =
-      ap (λ (n : ℕ). slice_get (or_none (part base d) ++ listed part (base + 1) es) n) (count_next test d es at)
+      ap (λ (n : ℕ). slice_get (option_to_list (part base d) ++ listed part (base + 1) es) n) (count_next test d es at)
       ∙ (behind (part base d) (test d) (count test es at) (listed part (base + 1) es) (same base d)
       ∙ given_here es (base + 1) at j e x h (omega arith) g)
 
@@ -137,7 +137,7 @@ module _ {E X : Type 0} (part : ℕ → E → Option X) (test : E → Bool) (sam
   given_back [] base n x h = absurd cc
   given_back (d ∷ es) base n x h = go (part base d) (test d) refl refl (same base d) n h (λ m. given_back es (base + 1) m x)
     where
-      go : (o : Option X) (b : Bool) → part base d ≡ o → test d ≡ b → is_some (part base d) ≡ test d → (n : ℕ) → slice_get (or_none o ++ listed part (base + 1) es) n ≡ Some x
+      go : (o : Option X) (b : Bool) → part base d ≡ o → test d ≡ b → is_some (part base d) ≡ test d → (n : ℕ) → slice_get (option_to_list o ++ listed part (base + 1) es) n ≡ Some x
           → ((m : ℕ) → slice_get (listed part (base + 1) es) m ≡ Some x → IsGivenAt part test es (base + 1) m x)
           → IsGivenAt part test (d ∷ es) base n x
       go None true is t s n k rest = absurd cc
@@ -154,7 +154,7 @@ module _ {E X : Type 0} (part : ℕ → E → Option X) (test : E → Bool) (sam
       go (Some y) true is t s (suc n) k rest =
           shifted d es base n (suc n) x (rest n k) (let z : one_if (test d) ≡ 1 = ap (λ (b : Bool). one_if b) t in omega (arith, z))
 
-  given_length : (o : Option X) (b : Bool) (rest : List X) → is_some o ≡ b → length (or_none o ++ rest) ≡ one_if b + length rest
+  given_length : (o : Option X) (b : Bool) (rest : List X) → is_some o ≡ b → length (option_to_list o ++ rest) ≡ one_if b + length rest
   given_length None true rest h = absurd cc
   given_length None false rest h = omega arith
   given_length (Some y) true rest h = omega arith

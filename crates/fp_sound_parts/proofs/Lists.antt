@@ -1,56 +1,29 @@
 -- Tests of lists, from what holds of their items.
-use Rattle.std.proofs.Common.{◌≡◌, ℕ, zero, suc, ◌+◌, ◌<◌, Bool, true, false, not, ◌||◌, ◌==◌, cond, List, [], ◌∷◌, length, map, Option, Some, None, refl, ap, ap₂, ◌∙◌, sym, arith}
-use Rattle.std.specs.Prelude.{slice_get, position, nat_lt}
-use Rattle.std.specs.List.{AllByRecursion, cons_option, filter, filter_map, list_all, list_any, position_or_len}
-use Rattle.std.proofs.lemmas.Bool.Decides.{nat_tests}
-use Rattle.fp_base.proofs.Bools.{join}
+use Rattle.std.proofs.Common.{◌≡◌, ℕ, zero, suc, ◌+◌, ◌<◌, Bool, true, false, not, ◌==◌, cond, List, [], ◌∷◌, map, Option, Some, None, refl, ap, ap₂, ◌∙◌, sym, arith}
+use Rattle.std.specs.Prelude.{slice_get}
+use Rattle.std.specs.List.{cons_option, filter, filter_map, list_any}
+use Rattle.fp_base.proofs.Bools.{join, not_either}
 use Rattle.fp_base.proofs.Options.{same_some}
+use Rattle.fp_base.proofs.Numbers.{same_number}
+use Rattle.fp_base.specs.Numbers.{numbers_from}
 use Rattle.fp_tables.specs.Lists.{apart, some_and}
 use Rattle.fp_tables.specs.Names.{numbers_differ}
-
--- ---- each item passes
-
-pub all_items : {A : Type 0} (p : A → Bool) (xs : List A) → ((k : ℕ) (x : A) → slice_get xs k ≡ Some x → p x ≡ true) → list_all p xs ≡ true
-all_items p [] h = refl
-all_items p (x ∷ xs) h = join (p x) (list_all p xs) (h zero x refl) (all_items p xs (λ k y e. h (suc k) y e))
-
-pub each_item : {A : Type 0} (P : A → Type 0) (xs : List A) → ((k : ℕ) (x : A) → slice_get xs k ≡ Some x → P x) → AllByRecursion P xs
-each_item P [] h = tt
-each_item P (x ∷ xs) h = (h zero x refl, each_item P xs (λ k y e. h (suc k) y e))
+use Rattle.fp_tables.proofs.Optional.{some_and_of}
+use Rattle.fp_tables.proofs.Indexed.{mapped_apart}
 
 -- ---- no two are equal
-
-not_either : (a b : Bool) → (a ≡ true → ⊥) → not b ≡ true → not (a || b) ≡ true
-not_either true b h rest = absurd (h refl)
-not_either false b h rest = rest
-
-none_equal : {A B : Type 0} (test : B → Bool) (f : A → B) (xs : List A) → ((k : ℕ) (y : A) → slice_get xs k ≡ Some y → test (f y) ≡ true → ⊥)
-    → not (list_any test (map f xs)) ≡ true
-none_equal test f [] h = refl
-none_equal test f (y ∷ ys) h = not_either (test (f y)) (list_any test (map f ys)) (h zero y refl) (none_equal test f ys (λ k z e. h (suc k) z e))
 
 -- no two at different places are the same
 abbrev pub AreApart : {A : Type 0} → (A → A → Type 0) → List A → Type 0
 AreApart {A = A} Same xs = (j k : ℕ) (x y : A) → j < k → slice_get xs j ≡ Some x → slice_get xs k ≡ Some y → Same x y → ⊥
 
-pub mapped_apart : {A B : Type 0} (test : B → B → Bool) (f : A → B) (xs : List A) → AreApart (λ x y. test (f x) (f y) ≡ true) xs → apart test (map f xs) ≡ true
-mapped_apart test f [] h = refl
-mapped_apart test f (x ∷ xs) h =
-    join (not (list_any (test (f x)) (map f xs))) (apart test (map f xs))
-    (none_equal (test (f x)) f xs (λ k y e same. h zero (suc k) x y (omega arith) refl e same))
-    (mapped_apart test f xs (λ j k y z low d e same. h (suc j) (suc k) y z (omega arith) d e same))
-
 -- both are there and the test holds of them
 abbrev pub both_and : {B : Type 0} → (B → B → Bool) → Option B → Option B → Bool
 both_and test s t = some_and (λ x. some_and (test x) t) s
 
-some_back : {B : Type 0} (test : B → Bool) (o : Option B) → some_and test o ≡ true → (y : B) × (o ≡ Some y) × (test y ≡ true)
-some_back test None h = absurd (cc)
-some_back test (Some y) h = (y, refl, h)
-
 pub both_back : {B : Type 0} (test : B → B → Bool) (s t : Option B) → both_and test s t ≡ true → (x y : B) × (s ≡ Some x) × (t ≡ Some y) × (test x y ≡ true)
 both_back test None t h = absurd (cc)
-both_back test (Some x) t h = let r = some_back (test x) t h in (x, r.0, refl, r.1, r.2)
+both_back test (Some x) t h = let r = some_and_of (test x) t h in (x, r.0, refl, r.1, r.2)
 
 none_there : {B : Type 0} (test : B → Bool) (o : Option B) (bs : List B) → (some_and test o ≡ true → ⊥) → not (list_any test bs) ≡ true
     → not (list_any test (cons_option o bs)) ≡ true
@@ -87,14 +60,6 @@ filtered p f (x ∷ xs) = one_filtered (p x) (f x) f x (filter p xs) (filter_map
 
 -- ---- numbers
 
-pub same_number : (m n : ℕ) → (m == n) ≡ true → m ≡ n
-same_number m n h = grind (arith, nat_tests)
-
--- so many numbers from one on
-abbrev pub numbers_from : ℕ → ℕ → List ℕ
-numbers_from first zero = []
-numbers_from first (suc count) = first ∷ numbers_from (suc first) count
-
 number_at : (first count k n : ℕ) → slice_get (numbers_from first count) k ≡ Some n → n ≡ first + k
 number_at first zero k n e = absurd (cc)
 number_at first (suc count) zero n e = let same : first ≡ n = same_some e in omega arith
@@ -113,11 +78,3 @@ numbers_differ_from first count =
     let b : n ≡ first + k = number_at first count k n e in
     let c : m ≡ n = same_number m n same in
     omega arith)
-
--- the place of the first that passes lies in the list
-pub position_within : {A : Type 0} (p : A → Bool) (xs : List A) (k : ℕ) → position p xs ≡ Some k → k < length xs
-position_within p xs k h = go (nat_lt (position_or_len p xs) (length xs)) refl h
-  where
-    go : (b : Bool) → nat_lt (position_or_len p xs) (length xs) ≡ b → cond b (Some (position_or_len p xs)) None ≡ Some k → k < length xs
-    go true is e = let same : position_or_len p xs ≡ k = same_some e in grind (arith, nat_tests)
-    go false is e = absurd (cc)

@@ -4,6 +4,7 @@ use Rattle.std.specs.Prelude.{nat_lt}
 use Rattle.std.specs.List.{list_all}
 use Rattle.std.proofs.lemmas.Bool.Decides.{nat_tests}
 use Rattle.std.proofs.lemmas.List.{length-map}
+use Rattle.fp_topology_forms.proofs.Places.{as_long}
 use Rattle.fp_base.proofs.Bools.{join}
 use Rattle.fp_base.proofs.Options.{same_some}
 use Rattle.fp_tree.specs.declared.source.Source.{Source}
@@ -26,7 +27,6 @@ use Rattle.fp_written_parts.specs.declared.member.WrittenMember.{WrittenMember}
 use Rattle.fp_component_forms.specs.declared.writing.WrittenSource.{WrittenSource}
 use Rattle.fp_component_forms.specs.Written.{BothOrNeither, FormalIs, IsWrittenSource, PortDefIs, Scoped, TypeNameIs, port_definitions}
 use Rattle.fp_tree.specs.declared.definition.Port.{Port}
-use Rattle.fp_source_parts.proofs.Places.{as_long}
 use Rattle.fp_source_parts.proofs.Positions.{type_lies}
 use Rattle.fp_sound_parts.specs.Ready.{OfEachMember, definition_lies, formals_lie, member_lies}
 use Rattle.fp_sound_parts.proofs.Each.{ByForm, any_component, any_interface, of_each_member}

@@ -1,8 +1,9 @@
 -- The state machines of a source: what a name means lies among them, and what they come to is sound where they break no rule.
-use Rattle.std.proofs.Common.{◌≡◌, ℕ, zero, suc, ◌<◌, true, List, [], ◌∷◌, length, map, slice_get, Option, Some, None, refl, sym, ap, subst, arith}
+use Rattle.std.proofs.Common.{◌≡◌, ℕ, ◌<◌, true, List, [], ◌∷◌, length, map, slice_get, Option, Some, None, refl, sym, ap, subst}
 use Rattle.std.specs.Prelude.{option_and_then}
 use Rattle.std.specs.List.{AllByRecursion}
-use Rattle.fp_base.proofs.Lists.{each_flat, each_weaker, of_item}
+use Rattle.fp_topology_forms.proofs.Places.{second_read, as_long, position_lies}
+use Rattle.fp_base.proofs.Lists.{each_flat, each_weaker, of_item, each_item}
 use Rattle.fp_base.specs.Least.{IsUnbroken}
 use Rattle.fp_base.specs.declared.place.Place.{Place}
 use Rattle.fp_tree.specs.declared.source.Source.{Source}
@@ -35,23 +36,14 @@ use Rattle.fp_machines.specs.Ordered.{AreWellPlaced}
 use Rattle.fp_component_forms.specs.Written.{PositionIs, Scoped, among, qualified}
 use Rattle.fp_source_parts.specs.Machines.{machine_in, machines}
 use Rattle.fp_source_parts.specs.Machines as all
-use Rattle.fp_source_parts.proofs.Places.{as_long, second_read}
-use Rattle.fp_source_parts.proofs.Positions.{position_lies}
 use Rattle.fp_source_parts.specs.MachineBroken.{BrokenBehavior, BrokenItem, BrokenMachine, BrokenModel, MachinesBroken}
 use Rattle.fp_source_parts.specs.MachineBuilt.{AreMachinesOf, IsMachine}
 use Rattle.fp_source_parts.specs.DeclaredElements.{DeclareAll, Declares, FormDeclares, TypeIs}
 use Rattle.fp_source_parts.specs.Ordered.{IsOrdered, IsOrderedModel, MachinesAreOrdered}
 use Rattle.fp_sound_parts.specs.Sound.{HasSoundBody, HasSoundOutline, IsUnbrokenBehavior}
 use Rattle.fp_sound_parts.specs.Machines.{AreSoundMachines, IsSoundMachine}
-use Rattle.fp_sound_parts.proofs.Each.{each_by_place}
 use Rattle.fp_sound_parts.proofs.Lying.{as_many, kind_lying}
 use Rattle.fp_sound_parts.proofs.Named.{HasName, NamesHold, items_named, qualified_name}
-
--- below the length of a list something stands
-pub there : {A : Type 0} (xs : List A) (k : ℕ) → k < length xs → (x : A) × (slice_get xs k ≡ Some x)
-there [] k low = absurd (omega (arith, low))
-there (x ∷ xs) zero low = (x, refl)
-there (x ∷ xs) (suc k) low = there xs k (omega (arith, low))
 
 -- ---- positions
 
@@ -116,7 +108,7 @@ module _ (source : Source) (ts : List TypeDef) where
     machines_kept =
         each_flat MachineKept all.machine_declared (items source)
         (each_weaker ItemKept (λ (i : Item). AllByRecursion MachineKept (all.machine_declared i)) machine_kept (items source)
-        (each_by_place ItemKept (items source)
+        (each_item ItemKept (items source)
         (λ k i at. record {
           names = of_item NamesHold (items source) k i (items_named source definitions parts) at;
           ordered = ordered k i at;

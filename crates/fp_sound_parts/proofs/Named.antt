@@ -1,8 +1,8 @@
 -- Names in what is written of ports and components are names, and qualified ones are names joined by dots.
-use Rattle.std.proofs.Common.{◌≡◌, ℕ, suc, true, ◌&&◌, List, [], ◌∷◌, ◌++◌, flat_map, refl, ap, ◌∙◌}
+use Rattle.std.proofs.Common.{◌≡◌, ℕ, suc, true, ◌&&◌, List, [], ◌∷◌, ◌++◌, refl, ap, ◌∙◌}
 use Rattle.std.specs.List.{AllByRecursion, list_all}
 use Rattle.fp_base.proofs.Bools.{both, join}
-use Rattle.fp_base.proofs.Lists.{each_before, each_behind, each_flat, each_weaker}
+use Rattle.fp_base.proofs.Lists.{each_flat, each_weaker, each_item, each_part}
 use Rattle.fp_base.specs.Names.{is_name}
 use Rattle.fp_tree.specs.declared.source.Source.{Source}
 use Rattle.fp_tree.specs.declared.definition.Def.{Def}
@@ -16,9 +16,8 @@ use Rattle.fp_tree.specs.declared.component.InterfacePart.TheVariants as interfa
 use Rattle.fp_tree.specs.declared.component.Part.{Part}
 use Rattle.fp_meaning.specs.declared.item.Item.{Item}
 use Rattle.fp_meaning.specs.declared.item.Item.TheVariants as item
-use Rattle.fp_meaning.specs.declared.names.Definition.{Definition}
 use Rattle.fp_meaning.specs.Layout.{items}
-use Rattle.fp_meaning.specs.Names.{Path, definitions, definitions_of, model_name, name_of}
+use Rattle.fp_meaning.specs.Names.{Path, definitions, definitions_of, model_name, name_of, IsMadeOfNames}
 use Rattle.fp_meaning.specs.Sites.{ModelDef, component, interface, instance, machine, topology}
 use Rattle.fp_meaning.specs.Values.{dotted}
 use Rattle.fp_names.specs.Named.{PartsAreNamed, PartsOfItemAreNamed, HasNamedFormals, HasNamedParts, formals_are_named, interface_part_is_named, part_is_named}
@@ -31,9 +30,9 @@ use Rattle.fp_written_parts.specs.declared.port.WrittenPortDef.{WrittenPortDef}
 use Rattle.fp_written_parts.specs.declared.member.WrittenComponent.{WrittenComponent}
 use Rattle.fp_written_parts.specs.declared.member.WrittenMember.{WrittenMember}
 use Rattle.fp_component_forms.specs.declared.writing.WrittenSource.{WrittenSource}
-use Rattle.fp_component_forms.specs.Written.{ComponentIs, FormalIs, FormalsAre, IsWrittenSource, PortDefIs, Scoped, component_in, component_of, components, interface_in, interface_of, interfaces, part_of, port_definitions, port_in, port_of, qualified}
+use Rattle.fp_component_forms.specs.Written.{ComponentIs, FormalIs, FormalsAre, IsWrittenSource, PortDefIs, Scoped, component_in, component_declared, components, interface_in, interface_declared, interfaces, part_of, port_definitions, port_in, port_declared, qualified}
 use Rattle.fp_sound_parts.specs.Ready.{OfEachMember, formals_have_names, member_has_names}
-use Rattle.fp_sound_parts.proofs.Each.{ByForm, each_by_place, each_of_all, of_each_member}
+use Rattle.fp_sound_parts.proofs.Each.{ByForm, each_of_all, of_each_member}
 
 -- ---- what is known of each item
 
@@ -41,18 +40,11 @@ use Rattle.fp_sound_parts.proofs.Each.{ByForm, each_by_place, each_of_all, of_ea
 abbrev pub HasName : Path → List ℕ → Type 0
 HasName scope n = list_all is_name (scope ++ n ∷ []) ≡ true
 
-abbrev pub IsNamed : Definition → Type 0
-IsNamed d = list_all is_name d.name ≡ true
-
 pub record NamesHold (i : Item) : Type 0 where
-  pub own : AllByRecursion IsNamed (definitions_of i)
+  pub own : AllByRecursion IsMadeOfNames (definitions_of i)
   pub parts : PartsOfItemAreNamed i
 
-in_each : {A B : Type 0} (P : A → Type 0) (f : B → List A) (xs : List B) → AllByRecursion P (flat_map f xs) → AllByRecursion (λ (x : B). AllByRecursion P (f x)) xs
-in_each P f [] h = tt
-in_each P f (x ∷ xs) h = (each_before P (f x) (flat_map f xs) h, in_each P f xs (each_behind P (f x) (flat_map f xs) h))
-
-both_each : (is : List Item) → AllByRecursion (λ (i : Item). AllByRecursion IsNamed (definitions_of i)) is → AllByRecursion PartsOfItemAreNamed is → AllByRecursion NamesHold is
+both_each : (is : List Item) → AllByRecursion (λ (i : Item). AllByRecursion IsMadeOfNames (definitions_of i)) is → AllByRecursion PartsOfItemAreNamed is → AllByRecursion NamesHold is
 both_each [] h k = tt
 both_each (i ∷ is) h k = (record { own = h.0; parts = k.0 }, both_each is h.1 k.1)
 
@@ -84,7 +76,7 @@ inner_named (interface_part.General p) h = h
 inner_named (interface_part.Special p) h = h
 inner_named (interface_part.Import i) h = refl
 
-port_named : (i : Item) → NamesHold i → AllByRecursion PortNamed (port_of i)
+port_named : (i : Item) → NamesHold i → AllByRecursion PortNamed (port_declared i)
 port_named (item.Defined s) h = of_definition s.scope s.definition h.own.0 h.parts
   where
     of_definition : (scope : Path) (d : Def) → HasName scope (name_of d).text → HasNamedFormals d → AllByRecursion PortNamed (port_in scope d)
@@ -100,7 +92,7 @@ port_named (item.Declared d) h = tt
 port_named (item.Used since n) h = tt
 port_named (item.Written since p) h = tt
 
-component_named : (i : Item) → NamesHold i → AllByRecursion ComponentNamed (component_of i)
+component_named : (i : Item) → NamesHold i → AllByRecursion ComponentNamed (component_declared i)
 component_named (item.Declared d) h = of_model d.scope d.definition h.own.0 h.parts
   where
     of_model : (scope : Path) (m : ModelDef) → HasName scope (model_name m).text → HasNamedParts m → AllByRecursion ComponentNamed (component_in scope m)
@@ -114,7 +106,7 @@ component_named (item.Enumerated e) h = tt
 component_named (item.Used since n) h = tt
 component_named (item.Written since p) h = tt
 
-interface_named : (i : Item) → NamesHold i → AllByRecursion InterfaceNamed (interface_of i)
+interface_named : (i : Item) → NamesHold i → AllByRecursion InterfaceNamed (interface_declared i)
 interface_named (item.Declared d) h = of_model d.scope d.definition h.parts
   where
     of_model : (scope : Path) (m : ModelDef) → HasNamedParts m → AllByRecursion InterfaceNamed (interface_in scope m)
@@ -132,19 +124,19 @@ interface_named (item.Written since p) h = tt
 module _ (source : Source) (named : DefinitionsAreNamed source) (parts : PartsAreNamed source) where
   pub items_named : AllByRecursion NamesHold (items source)
   items_named =
-      both_each (items source) (in_each IsNamed definitions_of (items source) (each_by_place IsNamed (definitions source) named))
-      (each_by_place PartsOfItemAreNamed (items source) parts)
+      both_each (items source) (each_part IsMadeOfNames definitions_of (items source) (each_item IsMadeOfNames (definitions source) named))
+      (each_item PartsOfItemAreNamed (items source) parts)
 
   ports_named : AllByRecursion PortNamed (port_definitions source)
-  ports_named = each_flat PortNamed port_of (items source) (each_weaker NamesHold (λ (i : Item). AllByRecursion PortNamed (port_of i)) port_named (items source) items_named)
+  ports_named = each_flat PortNamed port_declared (items source) (each_weaker NamesHold (λ (i : Item). AllByRecursion PortNamed (port_declared i)) port_named (items source) items_named)
 
   components_named : AllByRecursion ComponentNamed (components source)
   components_named =
-      each_flat ComponentNamed component_of (items source) (each_weaker NamesHold (λ (i : Item). AllByRecursion ComponentNamed (component_of i)) component_named (items source) items_named)
+      each_flat ComponentNamed component_declared (items source) (each_weaker NamesHold (λ (i : Item). AllByRecursion ComponentNamed (component_declared i)) component_named (items source) items_named)
 
   interfaces_named : AllByRecursion InterfaceNamed (interfaces source)
   interfaces_named =
-      each_flat InterfaceNamed interface_of (items source) (each_weaker NamesHold (λ (i : Item). AllByRecursion InterfaceNamed (interface_of i)) interface_named (items source) items_named)
+      each_flat InterfaceNamed interface_declared (items source) (each_weaker NamesHold (λ (i : Item). AllByRecursion InterfaceNamed (interface_declared i)) interface_named (items source) items_named)
 
 -- ---- what is written of them
 

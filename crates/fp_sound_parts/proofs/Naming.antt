@@ -5,6 +5,7 @@ use Rattle.fp_base.specs.Names.{is_name}
 use Rattle.fp_base.proofs.Bools.{join}
 use Rattle.fp_base.proofs.Lists.{all_get}
 use Rattle.fp_base.proofs.Options.{same_some}
+use Rattle.fp_base.proofs.Passing.{all_items}
 use Rattle.fp_tree.specs.declared.machine.BehaviorElement.{BehaviorElement}
 use Rattle.fp_tree.specs.declared.machine.ElementForm.{ElementForm}
 use Rattle.fp_tree.specs.declared.machine.ElementForm.TheVariants as element
@@ -16,7 +17,6 @@ use Rattle.fp_tables.specs.declared.machine.Named.{Named}
 use Rattle.fp_tables.specs.declared.machine.Vertex.{Vertex}
 use Rattle.fp_machines.specs.Made.{action_in, declared_from, guard_in, is_action, is_guard, is_signal, machine_with, signal_in, vertex_in, vertices_from}
 use Rattle.fp_sound_parts.proofs.Declaring.{action_form, action_same, guard_form, guard_same, signal_form, signal_same}
-use Rattle.fp_sound_parts.proofs.Tests.{list_all_each}
 use Rattle.fp_sound_parts.proofs.Vertices.{declared_back, vertex_back}
 
 module _ (es : List BehaviorElement) (are_named : elements_are_named es ≡ true) where
@@ -27,7 +27,7 @@ module _ (es : List BehaviorElement) (are_named : elements_are_named es ≡ true
       → ((f : ElementForm) (t : TypedName) → part f ≡ Some t → form_is_named f ≡ true → is_name t.name.text ≡ true) → (kinds : List (Option Kind))
       → list_all (λ (n : Named). is_name n.name) (declared_from part kinds 0 es) ≡ true
   declared_named part test same names kinds =
-      list_all_each (λ (n : Named). is_name n.name) (declared_from part kinds 0 es)
+      all_items (λ (n : Named). is_name n.name) (declared_from part kinds 0 es)
       (λ k x h.
       let b = declared_back part test same kinds es k x h in
       sym (ap (λ (n : Named). is_name n.name) b.is) ∙ names b.element.form b.of b.has (named_form b.at b.element b.here))
@@ -54,7 +54,7 @@ module _ (es : List BehaviorElement) (are_named : elements_are_named es ≡ true
 
   vertices_named : list_all (λ (v : Vertex). is_name v.name) (vertices_from es 0 es) ≡ true
   vertices_named =
-      list_all_each (λ (v : Vertex). is_name v.name) (vertices_from es 0 es)
+      all_items (λ (v : Vertex). is_name v.name) (vertices_from es 0 es)
       (λ k x h. let b = vertex_back es k x h in vertex_named b.at b.element.parent b.element.form x b.is (named_form b.at b.element b.here))
 
   pub names_are_names : (name : List ℕ) (kinds : List (Option Kind)) → machine_has_names (machine_with es name kinds) ≡ true

@@ -6,6 +6,7 @@ use Rattle.std.proofs.lemmas.Option.{slice_get-map, slice_get_within}
 use Rattle.fp_base.specs.Least.{IsUnbroken, broken_at}
 use Rattle.fp_base.specs.Same.{same_list}
 use Rattle.fp_base.specs.declared.rule.Rule.TheVariants.{AsyncWithReturn, PortSize, SpecialPort}
+use Rattle.fp_base.proofs.Bytes.{bytes_same}
 use Rattle.fp_tables.specs.Components.{definition_of, has_its_formals, internal_is_later, is_from_1_to, is_later, same_formal, special_in, suits_its_role, waits, waits_for_no_result}
 use Rattle.fp_tables.specs.Lists.{if_some, some_and}
 use Rattle.fp_tables.specs.declared.kind.Formal.{Formal}
@@ -25,7 +26,6 @@ use Rattle.fp_written_parts.specs.declared.port.WrittenPortDef.{WrittenPortDef}
 use Rattle.fp_written_parts.specs.declared.port.WrittenRole.{WrittenRole}
 use Rattle.fp_written_parts.specs.declared.port.WrittenRole.TheVariants.{AsyncInput, SyncInput, GuardedInput, Output, Special, Internal}
 use Rattle.fp_component_rules.specs.Firsts.{is_asynchronous}
-use Rattle.fp_component_rules.proofs.Named.{bytes_same}
 use Rattle.fp_component_rules.specs.PortBroken.{BrokenDefinition, BrokenSize, HasResult}
 use Rattle.fp_components.specs.Resolved.{AreDefined, ArePortFormals, IsLater, IsNumber, IsRole, PortIs, formals_of, port_def_of}
 use Rattle.fp_sound_parts.specs.Ready.{DefinitionSuits}

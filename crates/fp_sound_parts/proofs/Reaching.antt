@@ -2,7 +2,8 @@
 use Rattle.std.proofs.Common.{◌≡◌, ℕ, zero, suc, Bool, true, List, length, Option, Some, refl, ap, subst, ◌∙◌}
 use Rattle.std.specs.List.{list_all}
 use Rattle.std.proofs.lemmas.List.Folds.{list_all-append}
-use Rattle.fp_base.proofs.Bools.{join}
+use Rattle.std.proofs.lemmas.Bool.{true_from_ne_false}
+use Rattle.fp_base.proofs.Bools.{join, not_both}
 use Rattle.fp_tables.specs.Machines.{node_at, reached, reached_at}
 use Rattle.fp_tables.specs.Positions.{is_inside}
 use Rattle.fp_tables.specs.declared.machine.Node.{Node}
@@ -12,11 +13,9 @@ use Rattle.fp_machine_rules.specs.declared.item.Target.TheVariants.{Stays, Undef
 use Rattle.fp_machine_rules.specs.declared.item.Item.{Item}
 use Rattle.fp_machine_rules.specs.Forms.{IsState, IsVertex}
 use Rattle.fp_machine_rules.specs.Through.{Branches, met, unmet, Through, here, past, Escapes}
-use Rattle.fp_machine_rules.proofs.Deciding.{true_false}
 use Rattle.fp_sound_parts.proofs.Insides.{inside}
 use Rattle.fp_sound_parts.proofs.Rings.{IsEither, state, choice, either_of, state_is_vertex}
 use Rattle.fp_sound_parts.proofs.Standing.{Corresponds, to_number}
-use Rattle.fp_sound_parts.proofs.Tests.{surely}
 
 pub first_past : (items : List Item) (v w u : ℕ) → Branches items v (To w) → Through items w u → Through items v u
 first_past items v w _ b here = past here b
@@ -67,12 +66,12 @@ module _ (items : List Item) (vs : List Vertex) (number : ℕ → ℕ) (at : Cor
     where
       each : (w s : ℕ) → t ≡ To w → Through items w s → IsState items s → is_inside vs (length vs) (number s) (number p) ≡ true
       each w s e r state_is =
-          surely (is_inside vs (length vs) (number s) (number p))
+          true_from_ne_false (is_inside vs (length vs) (number s) (number p))
           (λ out. never (record {
             vertex = w;
             to = e;
             state = s;
             is = state_is;
             reaches = r;
-            outside = λ i. true_false (is_inside vs (length vs) (number s) (number p)) (inside items vs number at p s (state_is_vertex items s state_is) i) out;
+            outside = λ i. not_both (inside items vs number at p s (state_is_vertex items s state_is) i) out;
           }))

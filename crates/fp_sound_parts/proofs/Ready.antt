@@ -13,9 +13,7 @@ use Rattle.fp_tables.specs.declared.kind.Kind.TheVariants as kind
 use Rattle.fp_tables.specs.declared.kind.PortDef.{PortDef}
 use Rattle.fp_tables.specs.declared.kind.TypeDef.{TypeDef}
 use Rattle.fp_tables.specs.declared.machine.Machine.{Machine}
-use Rattle.fp_type_sizes.specs.Sizes.{IsOfSize}
 use Rattle.fp_type_sizes.specs.declared.written.WrittenType.{WrittenType}
-use Rattle.fp_types.specs.Converting.{DefaultIs}
 use Rattle.fp_types.specs.WellWritten.{AreSoundTypes}
 use Rattle.fp_type_formats.specs.Broken.{BrokenByFormats}
 use Rattle.fp_type_formats.specs.Readable.{AreReadable}
@@ -59,7 +57,6 @@ pub record Laws : Type 0 where
   pub has_kind : ConvertedHasKind
   pub is_of_size : ConvertedIsOfSize
   pub has_form : DefaultHasForm
-  pub has_size : (ws : List WrittenType) (i : ℕ) (v : Value) → DefaultIs ws (kind.Named i) v → IsOfSize ws (kind.Named i)
   pub one_default : OneDefault
 
 module _ (laws : Laws) (source : Source) (values : List (Option Value)) (resolutions : List Resolution) (ws : List WrittenType) (types : List TypeDef) (machines : List Machine) (parts : Parts)
@@ -86,7 +83,7 @@ module _ (laws : Laws) (source : Source) (values : List (Option Value)) (resolut
         running_fit = running_fit source of.written of.are machines built running;
         running_differ = running_differ source of.written of.are running;
         limits_fit = limits_fit source values resolutions ws types of.written valued of.are written_unbroken sound laws.numbers_stand laws.limits_convert laws.has_kind;
-        formats_agree = formats_agree source values resolutions ws types of.written valued of.are laws.formats_read laws.numbers_stand laws.has_size;
+        formats_agree = formats_agree source values resolutions ws types of.written valued of.are laws.formats_read laws.numbers_stand;
         converted_values_are_good = converted_good ws types given sound laws.has_kind laws.is_of_size;
         defaults_are_good = defaults_good ws types given sound laws.one_default laws.has_form;
         components_are_short = short;

@@ -4,7 +4,7 @@ use Rattle.std.specs.List.{AllByRecursion, IsDistinct, list_any}
 use Rattle.std.proofs.lemmas.Bool.Decides.{nat_tests}
 use Rattle.std.proofs.lemmas.Map.Steps.{length-le_from_distinct_below}
 use Rattle.std.proofs.lemmas.Option.{slice_get_within}
-use Rattle.fp_base.proofs.Bools.{or_cases}
+use Rattle.fp_base.proofs.Bools.{or_cases, not_so, not_both}
 use Rattle.fp_tables.specs.Machines.{node_at, begins_choices, either_branch, has_no_ring}
 use Rattle.fp_tables.specs.declared.machine.Node.{Node}
 use Rattle.fp_tables.specs.declared.machine.Vertex.{Vertex}
@@ -15,8 +15,7 @@ use Rattle.fp_machine_rules.specs.declared.item.Form.TheVariants as form
 use Rattle.fp_machine_rules.specs.declared.item.Item.{Item}
 use Rattle.fp_machine_rules.specs.Forms.{Stands, IsState, IsVertex, is_state, is_vertex}
 use Rattle.fp_machine_rules.specs.Through.{Branches, met, unmet, Through, here, past, IsOnRing}
-use Rattle.fp_machine_rules.proofs.Deciding.{true_false}
-use Rattle.fp_sound_parts.proofs.Tests.{all_from_each, not_so}
+use Rattle.fp_sound_parts.proofs.Tests.{all_from_each}
 use Rattle.fp_sound_parts.proofs.Standing.{Corresponds, IsChoiceNode, IsStateNode, to_number}
 
 -- ---- states and choices
@@ -78,11 +77,11 @@ module _ (items : List Item) (vs : List Vertex) (number : ℕ → ℕ) (at : Cor
   chain_on : (k : ℕ) (v : ℕ) (t : Target) → Branches items v t → (o : Option ℕ) → o ≡ to_number number t → begins_choices vs (suc k) o ≡ true → GoesOn (suc k) v
   unfolding begins_choices
   chain_on k v (To w) b o is h = record { next = w; leads = b; chain = ap (begins_choices vs (suc k)) (sym is) ∙ h }
-  chain_on k v Stays b o is h = absurd (true_false _ h (ap (begins_choices vs (suc k)) is))
-  chain_on k v Undefined b o is h = absurd (true_false _ h (ap (begins_choices vs (suc k)) is))
+  chain_on k v Stays b o is h = absurd (not_both h (ap (begins_choices vs (suc k)) is))
+  chain_on k v Undefined b o is h = absurd (not_both h (ap (begins_choices vs (suc k)) is))
 
   of_state : (k : ℕ) (o : Option Node) → IsStateNode o → either_branch (begins_choices vs k) o ≡ true → ⊥
-  of_state k o s h = true_false (either_branch (begins_choices vs k) o) h (ap (either_branch (begins_choices vs k)) s.is)
+  of_state k o s h = not_both h (ap (either_branch (begins_choices vs k)) s.is)
 
   goes_on : (k v : ℕ) → IsVertex items v → begins_choices vs (suc (suc k)) (Some (number v)) ≡ true → GoesOn (suc k) v
   unfolding begins_choices
@@ -104,7 +103,7 @@ module _ (items : List Item) (vs : List Vertex) (number : ℕ → ℕ) (at : Cor
     where
       go : (o : Option Vertex) → slice_get vs (number v) ≡ o → number v < length vs
       go (Some x) e = slice_get_within vs (number v) x e
-      go None e = absurd (true_false (either_branch (begins_choices vs k) (node_at vs (number v))) h (ap (λ (o : Option Vertex). either_branch (begins_choices vs k) (option_map (λ (x : Vertex). x.node) o)) e))
+      go None e = absurd (not_both h (ap (λ (o : Option Vertex). either_branch (begins_choices vs k) (option_map (λ (x : Vertex). x.node) o)) e))
 
   -- ---- no number stands a second time on the way
 

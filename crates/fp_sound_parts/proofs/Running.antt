@@ -1,11 +1,16 @@
 -- Instances of state machines are of machines that have a body, and differ in their names.
-use Rattle.std.proofs.Common.{◌≡◌, inl, inr, ℕ, zero, suc, ◌<◌, Bool, true, false, not, ◌||◌, List, [], ◌∷◌, length, map, flat_map, slice_get, Option, Some, None, refl, sym, ap, ◌∙◌, arith}
+use Rattle.std.proofs.Common.{◌≡◌, inl, inr, ℕ, zero, suc, ◌<◌, Bool, true, not, List, [], ◌∷◌, length, map, flat_map, slice_get, Option, Some, None, refl, sym, ap, ◌∙◌, arith}
 use Rattle.std.specs.Prelude.{is_none, option_map}
 use Rattle.std.specs.List.{AllByRecursion, list_all, list_any}
 use Rattle.std.specs.Str.{bytes_eq}
 use Rattle.std.proofs.lemmas.Option.{slice_get-map}
-use Rattle.fp_base.proofs.Bools.{join}
+use Rattle.std.proofs.lemmas.Bool.{false_from_ne_true}
+use Rattle.fp_topology_forms.proofs.Places.{second_read, as_long}
+use Rattle.fp_base.proofs.Bools.{join, not_either}
 use Rattle.fp_base.proofs.Lists.{each_of_any}
+use Rattle.fp_base.proofs.Passing.{all_items}
+use Rattle.fp_base.proofs.Bytes.{same_bytes}
+use Rattle.fp_base.proofs.Spots.{item_below}
 use Rattle.fp_base.specs.Least.{IsUnbroken, broken_at}
 use Rattle.fp_base.specs.declared.rule.Rule.TheVariants.{ExternalMachine, MachineNameRepeated}
 use Rattle.fp_tree.specs.declared.source.Source.{Source}
@@ -21,30 +26,16 @@ use Rattle.fp_tables.specs.declared.machine.Machine.{Machine}
 use Rattle.fp_written_parts.specs.declared.member.WrittenMember.{WrittenMember}
 use Rattle.fp_written_parts.specs.declared.member.WrittenMember.TheVariants as member
 use Rattle.fp_written_parts.specs.declared.member.WrittenRunning.{WrittenRunning}
-use Rattle.fp_component_rules.proofs.Named.{same_bytes}
 use Rattle.fp_dictdefs.specs.Running.{InstanceBroken}
 use Rattle.fp_machines.specs.Made.{machine_of}
 use Rattle.fp_components.specs.Resolved.{running_in}
 use Rattle.fp_component_forms.specs.declared.writing.WrittenSource.{WrittenSource}
 use Rattle.fp_component_forms.specs.Written.{IsWrittenSource, Scoped, interfaces, part_of}
 use Rattle.fp_source_parts.specs.Machines.{InstancesBroken, externals, is_outside, machines}
-use Rattle.fp_source_parts.proofs.Places.{as_long, second_read}
 use Rattle.fp_source_parts.specs.MachineBuilt.{AreMachinesOf, IsMachine}
 use Rattle.fp_sound_parts.specs.Ready.{OfEachMember, RunsFitting, instances_differ}
 use Rattle.fp_sound_parts.proofs.Each.{ByForm, any_component, any_interface, in_interface, of_each_member}
-use Rattle.fp_sound_parts.proofs.Machines.{machine_lies, there}
-
-not_true : (b : Bool) → (b ≡ true → ⊥) → b ≡ false
-not_true true h = absurd (h refl)
-not_true false h = refl
-
-all_items : {A : Type 0} (p : A → Bool) (xs : List A) → ((k : ℕ) (x : A) → slice_get xs k ≡ Some x → p x ≡ true) → list_all p xs ≡ true
-all_items p [] h = refl
-all_items p (x ∷ xs) h = join (p x) (list_all p xs) (h zero x refl) (all_items p xs (λ k y e. h (suc k) y e))
-
-not_either : (a b : Bool) → (a ≡ true → ⊥) → not b ≡ true → not (a || b) ≡ true
-not_either true b h rest = absurd (h refl)
-not_either false b h rest = rest
+use Rattle.fp_sound_parts.proofs.Machines.{machine_lies}
 
 -- ---- the machine of an instance
 
@@ -61,7 +52,7 @@ module _ (source : Source) (ms : List Machine) (built : AreMachinesOf source ms)
   known_at : (k : ℕ) → k < length (machines source) → (m : Machine) × (slice_get ms k ≡ Some m) × (slice_get (externals source) k ≡ Some m.external)
   known_at k low =
       let long = as_long (IsMachine source) 0 (machines source) ms built in
-      let t = there ms k (omega (arith, low, long)) in
+      let t = item_below ms k (omega (arith, low, long)) in
       let of = second_read (IsMachine source) 0 (machines source) ms k t.0 built t.1 in (
         t.0,
         t.1,
@@ -109,7 +100,7 @@ none_runs source ms = record {
 
 fit : (source : Source) (ms : List Machine) (all : List WrittenMember) (k : ℕ) (m : WrittenMember) → RunsKnown source ms m → IsUnbroken (InstanceBroken (externals source) all k m) → RunsFitting ms m
 fit source ms all k (member.Running r) h u =
-    (h.0, h.1, not_true h.0.external (λ e. u (broken_at ExternalMachine r.at) (inr (refl, h.2 ∙ ap Some e))))
+    (h.0, h.1, false_from_ne_true h.0.external (λ e. u (broken_at ExternalMachine r.at) (inr (refl, h.2 ∙ ap Some e))))
 fit source ms all k (member.Port p) h u = tt
 fit source ms all k (member.Import i) h u = tt
 fit source ms all k (member.Command c) h u = tt

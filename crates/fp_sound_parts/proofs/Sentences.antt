@@ -5,6 +5,7 @@ use Rattle.std.proofs.lemmas.Option.{slice_get-map}
 use Rattle.fp_base.specs.Least.{IsUnbroken, broken_at}
 use Rattle.fp_base.specs.declared.rule.Rule.TheVariants.{InitialCount, InitialLeavesState, SignalTwice, ChoiceCycle, TypedValue, UndefinedInMachine}
 use Rattle.fp_base.proofs.Options.{mapped_some}
+use Rattle.fp_base.proofs.Lists.{each_item}
 use Rattle.fp_machine_rules.specs.declared.item.Item.{Item}
 use Rattle.fp_machine_rules.specs.declared.item.LaidMachine.{LaidMachine}
 use Rattle.fp_machine_rules.specs.declared.item.Target.{Target}
@@ -12,7 +13,6 @@ use Rattle.fp_machine_rules.specs.Broken.{MachineBroken}
 use Rattle.fp_machine_rules.specs.Members.{MachineCountsWrong, StateCountsWrong}
 use Rattle.fp_machine_rules.specs.Repeated.{Repeats, key_by, signal_of}
 use Rattle.fp_machine_rules.specs.Through.{Branches, met, unmet, IsOnRing, LeavesItsState}
-use Rattle.fp_sound_parts.proofs.Tests.{each_of_gets}
 use Rattle.fp_sound_parts.proofs.Uses.{IsGoodUse}
 
 pub record Says (m : LaidMachine) : Type 0 where
@@ -38,7 +38,7 @@ says m unbroken = record {
   signals = λ v again.
       let x = mapped_some (key_by signal_of) (slice_get m.items v) (Some again.same) (sym (slice_get-map (key_by signal_of) m.items v) ∙ again.here) in
       unbroken (broken_at SignalTwice x.0.place) (inr (inl (inr (inl (inl (v, x.0, x.1, (refl, again)))))));
-  uses = each_of_gets (IsGoodUse m.items m.types) m.uses
+  uses = each_item (IsGoodUse m.items m.types) m.uses
       (λ k used here. record {
         given = λ wrong. unbroken (broken_at TypedValue used.place) (inr (inr (inl (k, used, here, (refl, (used, here, wrong))))));
         meant = λ nothing. unbroken (broken_at UndefinedInMachine used.place) (inr (inr (inr (k, used, here, (refl, (used, here, nothing))))));

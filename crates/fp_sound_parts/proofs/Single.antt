@@ -1,27 +1,27 @@
 -- Single things: a type that is an integer type behind its aliases, names of commands that parameters bring, sizes, and tests of what is equal.
-use Rattle.std.proofs.Common.{◌≡◌, ℕ, zero, suc, ◌<◌, ◌⊎◌, inl, inr, ℤ, pos, Bool, true, false, ◌==◌, List, [], ◌∷◌, ◌++◌, length, Option, Some, None, refl, ◌∙◌, arith}
+use Rattle.std.proofs.Common.{◌≡◌, ℕ, zero, suc, ◌<◌, ◌⊎◌, inl, inr, ℤ, pos, Bool, true, false, List, [], ◌∷◌, ◌++◌, length, Option, Some, None, refl, ◌∙◌, arith}
 use Rattle.std.specs.Prelude.{codes, nat_le, nat_lt, ◌<ℤ◌}
 use Rattle.std.specs.List.{list_all}
 use Rattle.std.proofs.lemmas.Bool.Decides.{nat_tests}
 use Rattle.std.proofs.lemmas.Int.{ints}
 use Rattle.std.proofs.lemmas.List.Folds.{list_all-append}
 use Rattle.fp_base.specs.Names.{is_letter, is_name, is_name_byte}
-use Rattle.fp_base.specs.Same.{same_bool, same_list}
+use Rattle.fp_base.specs.Same.{same_list}
 use Rattle.fp_base.proofs.Bools.{both, join}
-use Rattle.fp_tables.specs.Components.{is_from_1_to, same_formal, same_kind, same_special}
+use Rattle.fp_base.proofs.Bytes.{bytes_same}
+use Rattle.fp_base.proofs.Sameness.{bool_itself}
+use Rattle.fp_tables.specs.Components.{is_from_1_to, same_formal}
 use Rattle.fp_tables.specs.Machines.{target, target_by}
 use Rattle.fp_tables.specs.Types.{Shape, integer, truth, words, array, struct, constants, opaque, nothing, form_at, is_integer, shape, shape_by}
-use Rattle.fp_tables.specs.declared.component.Special.{Special}
-use Rattle.fp_tables.specs.declared.component.Special.TheVariants.{CmdRecv, CmdReg, CmdResp, Event as Log, TextEvent, Tlm, Time, PrmGet, PrmSet}
 use Rattle.fp_tables.specs.declared.kind.Form.{Form}
 use Rattle.fp_tables.specs.declared.kind.Form.TheVariants as form
 use Rattle.fp_tables.specs.declared.kind.Formal.{Formal}
 use Rattle.fp_tables.specs.declared.kind.Kind.{Kind}
 use Rattle.fp_tables.specs.declared.kind.Kind.TheVariants as kind
 use Rattle.fp_tables.specs.declared.kind.TypeDef.{TypeDef}
+use Rattle.fp_tables.proofs.OneKind.{kind_itself}
 use Rattle.fp_dictdefs.specs.Broken.{is_integer_kind}
 use Rattle.fp_dictdefs.specs.Listed.{save_name, set_name}
-use Rattle.fp_component_rules.proofs.Named.{bytes_same}
 
 pub below_true : (k n : ℕ) → k < n → nat_lt k n ≡ true
 below_true k n h = grind (arith, nat_tests)
@@ -102,41 +102,9 @@ size_from_1 s h = join (nat_le 1 s) (nat_le s 1024) (low (nat_le 1 s) refl) (hig
 
 -- ---- what is equal
 
-number_itself : (n : ℕ) → (n == n) ≡ true
-number_itself n = grind (arith, nat_tests)
-
-pub kind_itself : (k : Kind) → same_kind k k ≡ true
-kind_itself kind.U8 = refl
-kind_itself kind.U16 = refl
-kind_itself kind.U32 = refl
-kind_itself kind.U64 = refl
-kind_itself kind.I8 = refl
-kind_itself kind.I16 = refl
-kind_itself kind.I32 = refl
-kind_itself kind.I64 = refl
-kind_itself kind.Bool = refl
-kind_itself (kind.Str n) = number_itself n
-kind_itself (kind.Named n) = number_itself n
-
-bool_itself : (b : Bool) → same_bool b b ≡ true
-bool_itself true = refl
-bool_itself false = refl
-
 formal_itself : (f : Formal) → same_formal f f ≡ true
 formal_itself f = rw (bytes_same f.name f.name refl, kind_itself f.kind, bool_itself f.by_ref, bytes_same f.note f.note refl) refl
 
 pub formals_itself : (fs : List Formal) → same_list same_formal fs fs ≡ true
 formals_itself [] = refl
 formals_itself (f ∷ fs) = join (same_formal f f) (same_list same_formal fs fs) (formal_itself f) (formals_itself fs)
-
-pub same_kinds : (s t : Special) → same_special s t ≡ true → s ≡ t
-same_kinds CmdRecv CmdRecv h = refl
-same_kinds CmdReg CmdReg h = refl
-same_kinds CmdResp CmdResp h = refl
-same_kinds Log Log h = refl
-same_kinds TextEvent TextEvent h = refl
-same_kinds Tlm Tlm h = refl
-same_kinds Time Time h = refl
-same_kinds PrmGet PrmGet h = refl
-same_kinds PrmSet PrmSet h = refl
-same_kinds _ _ h = absurd (cc)

@@ -4,6 +4,7 @@ use Rattle.std.specs.Prelude.{filter_map, find, nat_le}
 use Rattle.std.specs.List.{cons_option, list_any}
 use Rattle.std.proofs.lemmas.Bool.Decides.{nat_tests}
 use Rattle.std.proofs.lemmas.Int.{ints}
+use Rattle.std.proofs.Math.Bool.{and_comm}
 use Rattle.fp_base.specs.Least.{IsUnbroken}
 use Rattle.fp_base.proofs.Bools.{both, join}
 use Rattle.fp_tables.specs.Instances as model
@@ -48,17 +49,11 @@ not_before a b = by (nat_le b a) refl
     by true e = (let past : int_lt (pos a) (pos b) ≡ false = grind (arith, ints, nat_tests) in ap not past)
     by false e = (let past : int_lt (pos a) (pos b) ≡ true = grind (arith, ints, nat_tests) in ap not past)
 
-other_way : (a b : Bool) → (a && b) ≡ (b && a)
-other_way true true = refl
-other_way true false = refl
-other_way false true = refl
-other_way false false = refl
-
 same_overlap : (r s : IdRange) (q p : ℕ × ℕ) → Beside (Some r) (Some q) → Beside (Some s) (Some p) → overlap r s ≡ model.overlap (Some q) (Some p)
 same_overlap r s q p h k =
     ap (λ (z : ℤ). not (int_lt z s.base) && not (int_lt (last_of s) r.base)) h.1 ∙ ap (λ (z : ℤ). not (int_lt (pos q.1) z) && not (int_lt (last_of s) r.base)) k.0
     ∙ ap (λ (z : ℤ). not (int_lt (pos q.1) (pos p.0)) && not (int_lt z r.base)) k.1 ∙ ap (λ (z : ℤ). not (int_lt (pos q.1) (pos p.0)) && not (int_lt (pos p.1) z)) h.0
-    ∙ ap (λ (b : Bool). b && not (int_lt (pos p.1) (pos q.0))) (not_before q.1 p.0) ∙ ap (λ (b : Bool). nat_le p.0 q.1 && b) (not_before p.1 q.0) ∙ other_way (nat_le p.0 q.1) (nat_le q.0 p.1)
+    ∙ ap (λ (b : Bool). b && not (int_lt (pos p.1) (pos q.0))) (not_before q.1 p.0) ∙ ap (λ (b : Bool). nat_le p.0 q.1 && b) (not_before p.1 q.0) ∙ and_comm (nat_le p.0 q.1) (nat_le q.0 p.1)
 
 module _ {A B : Type 0} (f : A → Option IdRange) (g : B → Option (ℕ × ℕ)) where
   abbrev pub AllBeside : List A → List B → Type 0

@@ -2,6 +2,7 @@
 use Rattle.std.proofs.Common.{◌≡◌, ℕ, List, slice_get, Option, Some, None, sym, ap, subst, ◌∙◌}
 use Rattle.std.specs.Prelude.{option_map}
 use Rattle.std.proofs.lemmas.Option.{slice_get-map}
+use Rattle.fp_topology_forms.proofs.Places.{second_read}
 use Rattle.fp_base.proofs.Options.{same_some}
 use Rattle.fp_tree.specs.declared.source.Source.{Source}
 use Rattle.fp_tree.specs.declared.definition.Port.{Port}
@@ -15,7 +16,6 @@ use Rattle.fp_written_parts.specs.declared.port.WrittenRole.{WrittenRole}
 use Rattle.fp_written_parts.specs.declared.port.WrittenRole.TheVariants as role
 use Rattle.fp_component_forms.specs.declared.writing.WrittenSource.{WrittenSource}
 use Rattle.fp_component_forms.specs.Written.{IsWrittenSource, PortDefIs, PortDefsAre, Scoped, SpecialTypeIs, port_definitions, port_names, qualified, role_of, special_of}
-use Rattle.fp_source_parts.proofs.Places.{second_read}
 use Rattle.fp_sound_parts.specs.Ready.{DefinitionSuits, HasItsDefinition, OfEachMember}
 use Rattle.fp_sound_parts.proofs.Each.{ByForm, any_component, any_interface, of_each_member}
 

@@ -7,6 +7,7 @@ use Rattle.fp_base.proofs.Bools.{join}
 use Rattle.fp_base.proofs.Lists.{each_before, each_behind}
 use Rattle.fp_base.proofs.Options.{same_some, then_some}
 use Rattle.fp_base.proofs.Spots.{item_below}
+use Rattle.fp_base.proofs.Passing.{all_items}
 use Rattle.fp_tree.specs.declared.machine.BehaviorElement.{BehaviorElement}
 use Rattle.fp_tree.specs.declared.machine.ElementForm.{ElementForm}
 use Rattle.fp_tree.specs.declared.machine.ElementForm.TheVariants as element
@@ -48,7 +49,6 @@ use Rattle.fp_sound_parts.proofs.Reaching.{IsToVertex}
 use Rattle.fp_sound_parts.proofs.Signals.{on_at}
 use Rattle.fp_sound_parts.proofs.Staying.{IsInitialAt, initial_stands}
 use Rattle.fp_sound_parts.proofs.Standing.{to_number}
-use Rattle.fp_sound_parts.proofs.Tests.{list_all_each}
 use Rattle.fp_sound_parts.proofs.Vertices.{item_here}
 
 to_stay : (w : ℕ) → ◌≡◌ {A = Target} Stays (To w) → ⊥
@@ -226,7 +226,7 @@ module _ (es : List BehaviorElement) (types : List TypeDef) (kinds : List (Optio
       (way_fits given p v o k stands gives (each_behind (Good es types kinds name) (signal ++ guards) ways good))
 
   pub transitions_fit : (p : Option ℕ) → list_all (on_is_given types (machine es types kinds name)) (transitions_of es p) ≡ true
-  transitions_fit p = list_all_each (on_is_given types (machine es types kinds name)) (transitions_of es p) one
+  transitions_fit p = all_items (on_is_given types (machine es types kinds name)) (transitions_of es p) one
     where
       one : (k : ℕ) (y : On) → slice_get (transitions_of es p) k ≡ Some y → on_is_given types (machine es types kinds name) y ≡ true
       one k y h =

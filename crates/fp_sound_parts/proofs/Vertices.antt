@@ -2,6 +2,7 @@
 use Rattle.std.proofs.Common.{◌≡◌, ℕ, ◌+◌, ◌<◌, ◌≤◌, Bool, true, false, List, [], ◌∷◌, ◌++◌, length, filter, map, slice_get, Option, Some, None, is_some, refl, sym, ap, ◌∙◌, arith}
 use Rattle.std.specs.Prelude.{option_map}
 use Rattle.std.proofs.lemmas.Option.{slice_get-map}
+use Rattle.std.specs.Option.{option_to_list}
 use Rattle.fp_base.proofs.Options.{mapped_some}
 use Rattle.fp_tree.specs.declared.machine.BehaviorElement.{BehaviorElement}
 use Rattle.fp_tree.specs.declared.machine.ElementForm.{ElementForm}
@@ -13,7 +14,7 @@ use Rattle.fp_tables.specs.declared.machine.Vertex.{Vertex}
 use Rattle.fp_machine_rules.specs.declared.item.Item.{Item}
 use Rattle.fp_machines.specs.Outline.{outline, outline_of}
 use Rattle.fp_machines.specs.Steps.{laid_item, laid_items}
-use Rattle.fp_machines.specs.Made.{is_vertex, kind_at, named, or_none, declared_from, number_among, vertex_in, vertex_number, vertices_from}
+use Rattle.fp_machines.specs.Made.{is_vertex, kind_at, named, declared_from, number_among, vertex_in, vertex_number, vertices_from}
 use Rattle.fp_sound_parts.proofs.Listed.{count_below, count_grows, count_once, count_past, count_rises, count_stays, from_zero, given_back, given_here, listed, listed_length}
 
 -- ---- elements and items
@@ -94,7 +95,7 @@ module _ (es : List BehaviorElement) where
 
   as_listed : (more : List BehaviorElement) (at : ℕ) → vertices_from es at more ≡ listed vertex_part at more
   as_listed [] at = refl
-  as_listed (e ∷ more) at = ap (λ (vs : List Vertex). or_none (vertex_in es at e.parent e.form) ++ vs) (as_listed more (at + 1))
+  as_listed (e ∷ more) at = ap (λ (vs : List Vertex). option_to_list (vertex_in es at e.parent e.form) ++ vs) (as_listed more (at + 1))
 
   pub vertex_here : (v : ℕ) (e : BehaviorElement) (x : Vertex) → slice_get es v ≡ Some e → vertex_in es v e.parent e.form ≡ Some x
       → slice_get (vertices_from es 0 es) (vertex_number es v) ≡ Some x
@@ -136,7 +137,7 @@ module _ (part : ElementForm → Option TypedName) (test : ElementForm → Bool)
 
   declared_listed : (es : List BehaviorElement) (at : ℕ) → declared_from part kinds at es ≡ listed named_part at es
   declared_listed [] at = refl
-  declared_listed (e ∷ more) at = ap (λ (ns : List Named). or_none (option_map (named (kind_at kinds at)) (part e.form)) ++ ns) (declared_listed more (at + 1))
+  declared_listed (e ∷ more) at = ap (λ (ns : List Named). option_to_list (option_map (named (kind_at kinds at)) (part e.form)) ++ ns) (declared_listed more (at + 1))
 
   has_passes : (f : ElementForm) (t : TypedName) → part f ≡ Some t → test f ≡ true
   has_passes f t h = sym (same f) ∙ ap is_some h

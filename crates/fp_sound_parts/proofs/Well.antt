@@ -1,13 +1,9 @@
 -- What is written of types that are given and sound is well written.
-use Rattle.std.proofs.Common.{◌≡◌, ℕ, zero, suc, ◌<◌, true, false, ◌&&◌, ℤ, List, length, slice_get, Option, Some, None, refl, sym, ap, subst, ◌∙◌}
-use Rattle.std.specs.Prelude.{option_map}
+use Rattle.std.proofs.Common.{◌≡◌, ℕ, zero, suc, true, false, ◌&&◌, ℤ, List, length, slice_get, Option, Some, None, refl, sym, ap, subst, ◌∙◌}
 use Rattle.std.specs.Str.{bytes_eq}
-use Rattle.std.proofs.lemmas.List.{length-map}
-use Rattle.std.proofs.lemmas.Option.{slice_get-map, slice_get_within}
 use Rattle.std.proofs.lemmas.Slice.Eq.{bytes_eq-Decides}
 use Rattle.fp_base.proofs.Bools.{both}
 use Rattle.fp_base.proofs.Lists.{all_get}
-use Rattle.fp_base.proofs.Spots.{item_below}
 use Rattle.fp_base.specs.declared.value.Value.{Value, Int, Bool as Truth, Text, Enumerated, Array', Struct', Opaque}
 use Rattle.fp_tables.specs.Sound.{form_differs, form_is_of_size}
 use Rattle.fp_tables.specs.Types.{form_has_values, has, has_kind, is_constant_of, of_form, shape, shape_by, type_has_values}
@@ -19,9 +15,9 @@ use Rattle.fp_tables.specs.declared.kind.Constant.{Constant}
 use Rattle.fp_tables.specs.declared.kind.TypeDef.{TypeDef}
 use Rattle.fp_type_sizes.specs.declared.written.WrittenType.{WrittenType}
 use Rattle.fp_type_sizes.specs.Sizes.{HasForm, IsInteger, at_plain, behind_alias}
-use Rattle.fp_type_sizes.proofs.OneSize.{one_form}
-use Rattle.fp_types.specs.Converting.{DefaultIs, IsWithin}
+use Rattle.fp_types.specs.Converting.{IsWithin}
 use Rattle.fp_types.specs.WellWritten.{AllGiven, AreSoundTypes, AreWellWritten, HasOwnConstants, IsOwnConstant}
+use Rattle.fp_types.proofs.AllGiven.{given_at, named_at, type_there}
 
 -- a type has the number, and is an integer type
 pub record HasNumber (ws : List WrittenType) (k : Kind) (n : ℤ) : Type 0 where
@@ -35,19 +31,6 @@ aliased : (ws : List WrittenType) (i : ℕ) (k : Kind) (n : ℤ) → HasForm ws 
 aliased ws i k n h x = record { low = x.low; high = x.high; integer = (x.integer.0, behind_alias h x.integer.1, x.integer.2); within = x.within }
 
 module _ (ws : List WrittenType) (types : List TypeDef) (given : AllGiven ws types) where
-  pub given_at : (i : ℕ) (d : TypeDef) → slice_get types i ≡ Some d → HasForm ws i d.form × DefaultIs ws (kind.Named i) d.default
-  given_at i d at = (given.at i (Some d) (slice_get-map (λ (x : TypeDef). Some x) types i ∙ ap (option_map (λ (x : TypeDef). Some x)) at)).holds d refl
-
-  named_at : (i : ℕ) (d : TypeDef) (w : WrittenType) → slice_get types i ≡ Some d → slice_get ws i ≡ Some w → d.name ≡ w.name
-  named_at i d w at here = ((given.at i (Some d) (slice_get-map (λ (x : TypeDef). Some x) types i ∙ ap (option_map (λ (x : TypeDef). Some x)) at)).names d w refl here).0
-
-  -- the type of a form that is written
-  pub type_with : (i : ℕ) (f : Form) → HasForm ws i f → (d : TypeDef) × (slice_get types i ≡ Some d) × (d.form ≡ f)
-  type_with i f h =
-      let below : i < length types = subst (λ (n : ℕ). i < n) (sym given.each ∙ length-map types (λ (d : TypeDef). Some d)) (slice_get_within ws i h.written h.here) in
-      let d = item_below types i below in
-      (d.0, d.1, one_form (given_at i d.0 d.1).0 h)
-
   -- ---- integer types, by the numbers that they have
 
   module _ (n : ℕ) (i : ℕ) (x : ℤ) where
@@ -64,7 +47,7 @@ module _ (ws : List WrittenType) (types : List TypeDef) (given : AllGiven ws typ
     number_of rest (Some d) at h = go d.form refl (sym (some_at d at) ∙ h)
       where
         go : (f : Form) → d.form ≡ f → has types (of_form (shape_by types n) f) (Int x) ≡ true → HasNumber ws (kind.Named i) x
-        go (form.Alias k) is e = aliased ws i k x (subst (λ (f : Form). HasForm ws i f) is (given_at i d at).0) (rest k e)
+        go (form.Alias k) is e = aliased ws i k x (subst (λ (f : Form). HasForm ws i f) is (given_at ws types given i d at).0) (rest k e)
         go form.Abstract is e = absurd (cc)
         go (form.Array size element format) is e = absurd (cc)
         go (form.Struct fields) is e = absurd (cc)
@@ -127,16 +110,16 @@ module _ (ws : List WrittenType) (types : List TypeDef) (given : AllGiven ws typ
   module _ (sound : AreSoundTypes types) where
     own : (i : ℕ) (w : WrittenType) (f : Form) → slice_get ws i ≡ Some w → w.form ≡ Some f → HasOwnConstants ws w.name f
     own i w f at formed =
-        let d = type_with i f (record { written = w; here = at; form = formed }) in
+        let d = type_there ws types given i f (record { written = w; here = at; form = formed }) in
         let passes = all_get (type_has_values types) types i d.0 sound.types_have_their_values d.1 in
         let values = both (form_has_values types d.0.name d.0.form) (has types (of_form (shape types) d.0.form) d.0.default) passes in
-        subst (λ (n : List ℕ). HasOwnConstants ws n f) (named_at i d.0 w d.1 at) (subst (λ (x : Form). HasOwnConstants ws d.0.name x) d.2 (constants_of d.0.name d.0.form values.0))
+        subst (λ (n : List ℕ). HasOwnConstants ws n f) (named_at ws types given i d.0 w d.1 at) (subst (λ (x : Form). HasOwnConstants ws d.0.name x) d.2 (constants_of d.0.name d.0.form values.0))
 
     pub sound_well : AreWellWritten ws
     sound_well = record {
       members_differ = λ i f h.
-          let d = type_with i f h in ap form_differs (sym d.2) ∙ all_get (λ (x : TypeDef). form_differs x.form) types i d.0 sound.members_differ d.1;
+          let d = type_there ws types given i f h in ap form_differs (sym d.2) ∙ all_get (λ (x : TypeDef). form_differs x.form) types i d.0 sound.members_differ d.1;
       arrays_are_of_size = λ i f h.
-          let d = type_with i f h in ap form_is_of_size (sym d.2) ∙ all_get (λ (x : TypeDef). form_is_of_size x.form) types i d.0 sound.arrays_are_of_size d.1;
+          let d = type_there ws types given i f h in ap form_is_of_size (sym d.2) ∙ all_get (λ (x : TypeDef). form_is_of_size x.form) types i d.0 sound.arrays_are_of_size d.1;
       constants_are_own = own;
     }

@@ -9,6 +9,9 @@ use Rattle.fp_base.specs.Names.{is_name}
 use Rattle.fp_base.specs.declared.value.Value.{Value}
 use Rattle.fp_base.proofs.Bools.{both, join}
 use Rattle.fp_base.proofs.Lists.{all_get, get_within}
+use Rattle.fp_base.proofs.Passing.{all_items, position_below}
+use Rattle.fp_base.proofs.Bytes.{same_bytes}
+use Rattle.fp_base.specs.Numbers.{numbers_from}
 use Rattle.fp_tables.specs.Components as components
 use Rattle.fp_tables.specs.Names.{is_qualified, numbers_differ, texts_differ}
 use Rattle.fp_tables.specs.Positions as positions
@@ -29,6 +32,8 @@ use Rattle.fp_tables.specs.declared.component.Queueing.{Queueing}
 use Rattle.fp_tables.specs.declared.component.Queueing.TheVariants.{Active, Passive, Queued}
 use Rattle.fp_tables.specs.declared.component.Component.{Component}
 use Rattle.fp_tables.specs.declared.machine.Machine.{Machine}
+use Rattle.fp_tables.proofs.SpecialPorts.{one_special}
+use Rattle.fp_tables.proofs.Indexed.{mapped_apart}
 use Rattle.fp_type_sizes.specs.declared.written.WrittenType.{WrittenType}
 use Rattle.fp_written_parts.specs.declared.port.WrittenPort.{WrittenPort}
 use Rattle.fp_written_parts.specs.declared.port.WrittenPortDef.{WrittenPortDef}
@@ -46,7 +51,6 @@ use Rattle.fp_dictdefs.specs.Broken as parts
 use Rattle.fp_dictdefs.specs.Listed.{channels_in, commands_in, events_in, params_in}
 use Rattle.fp_component_rules.specs.Firsts.{is_named}
 use Rattle.fp_component_rules.proofs.Listed.{in_given}
-use Rattle.fp_component_rules.proofs.Named.{same_bytes}
 use Rattle.fp_component_rules.specs.PortBroken.{BrokenFormals, PortsBroken}
 use Rattle.fp_component_rules.specs.PortBroken as ports
 use Rattle.fp_component_rules.specs.Broken.{AreOfOneKind, ComponentsBroken, HaveOneName, QueueBroken, UseAt, waits_itself}
@@ -60,9 +64,9 @@ use Rattle.fp_sound_parts.proofs.Entries.{ids_apart, names_apart}
 use Rattle.fp_sound_parts.proofs.Events.{event_agrees, event_apart, event_lies, event_names, event_reads}
 use Rattle.fp_sound_parts.proofs.Formals.{formals_apart, formals_lying, formals_named}
 use Rattle.fp_sound_parts.proofs.Given.{given_apart, given_with}
-use Rattle.fp_sound_parts.proofs.Single.{below_true, same_kinds}
+use Rattle.fp_sound_parts.proofs.Single.{below_true}
 use Rattle.fp_sound_parts.proofs.ComponentListed.{ParamHere, channel_listed, channels_alike, channels_have, command_listed, commands_alike, commands_have, event_listed, events_alike, events_have, none_running, param_at, param_listed, params_alike, params_have, part_here, runnings_have, saved_by, saves_in_order, set_by, sets_in_order}
-use Rattle.fp_sound_parts.proofs.Lists.{AreApart, all_items, both_and, both_back, chosen_apart, mapped_apart, numbers_from, position_within}
+use Rattle.fp_sound_parts.proofs.Lists.{AreApart, both_and, both_back, chosen_apart}
 use Rattle.fp_sound_parts.proofs.Ports.{defined, has_formals, later_inside, later_is, of_lies, quiet, size_good, special_back, suits_role, waits_without, with_formals}
 use Rattle.fp_sound_parts.proofs.Rules.{component_queue, component_repeats, definition_rules, interface_repeats, kinds_once, list_rules, member_rules, names_once, no_running, none_waits, port_rules}
 
@@ -174,14 +178,14 @@ module _ (types : List TypeDef) (machines : List Machine) (ws : List WrittenType
         kinds_given j k a b low d e (
           s.0,
           special_back a.role a.queue x.role i.role s.0 s.2,
-          special_back b.role b.queue y.role l.role s.0 (s.3 ∙ ap Some (sym (same_kinds s.0 s.1 s.4))),
+          special_back b.role b.queue y.role l.role s.0 (s.3 ∙ ap Some (sym (one_special s.0 s.1 s.4))),
         )))
 
     matches_lie : list_all (λ (p : ℕ × ℕ). nat_lt p.0 (length c.ports) && nat_lt p.1 (length c.ports)) c.matches ≡ true
     matches_lie =
         all_beside (λ k. IsMatch is.all) (flat_map match_in w.members) c.matches is.matches (λ (p : ℕ × ℕ). nat_lt p.0 (length c.ports) && nat_lt p.1 (length c.ports))
         (λ k m p e i.
-        join (nat_lt p.0 (length c.ports)) (nat_lt p.1 (length c.ports)) (lies p.0 (position_within (is_named m.first) is.all p.0 i.first)) (lies p.1 (position_within (is_named m.second) is.all p.1 i.second)))
+        join (nat_lt p.0 (length c.ports)) (nat_lt p.1 (length c.ports)) (lies p.0 (position_below (is_named m.first) is.all p.0 i.first)) (lies p.1 (position_below (is_named m.second) is.all p.1 i.second)))
       where
         lies : (n : ℕ) → n < length is.all → nat_lt n (length c.ports) ≡ true
         lies n low = below_true n (length c.ports) (omega (arith, is.ports.each))

@@ -8,6 +8,7 @@ use Rattle.fp_base.specs.declared.rule.Rule.TheVariants.{BadDirection, TypesDiff
 use Rattle.fp_base.specs.Least.{IsUnbroken, broken_at}
 use Rattle.fp_base.proofs.Options.{mapped_some, same_some, then_some}
 use Rattle.fp_base.proofs.Spots.{same_or_other}
+use Rattle.fp_base.proofs.Passing.{position_passes}
 use Rattle.fp_tables.specs.Lookup.{is_input, is_output}
 use Rattle.fp_tables.specs.declared.component.Port.{Port}
 use Rattle.fp_tables.specs.declared.component.Role.{Role}
@@ -20,7 +21,7 @@ use Rattle.fp_topologies.specs.ConnectionBroken.{AreOfOne, BrokenByConnections, 
 use Rattle.fp_topologies.specs.declared.facts.JoinedPort.{JoinedPort}
 use Rattle.fp_topologies.specs.Ports.{connection_facts, direct_links, end_facts, joined_port, link_between, link_of, port_used, ports_at}
 use Rattle.fp_topologies.proofs.Lying.{each_kept}
-use Rattle.fp_sound_parts.proofs.Going.{Goes, port_there, position_at}
+use Rattle.fp_sound_parts.proofs.Going.{Goes, port_there}
 
 not_other : (wanted : Role → Bool) (port : Option JoinedPort) (p : JoinedPort) → port ≡ Some p → (IsOther wanted port → ⊥) → wanted p.role ≡ true
 not_other wanted port p at h = by (wanted p.role) refl
@@ -53,8 +54,8 @@ module _ (m : Model) where
   module _ (c : WrittenConnection) (unbroken : IsUnbroken (BrokenConnection (connection_facts m.components m.instances c))) where
     between : (j k : ℕ) → port_used m.components m.instances c.from ≡ Some j → port_used m.components m.instances c.to ≡ Some k → Goes m (link_between c j k)
     between j k e f =
-        let p = position_at (λ (x : Port). bytes_eq x.name c.from.port) (ports_at m.components m.instances c.from.used.instance) j e in
-        let q = position_at (λ (x : Port). bytes_eq x.name c.to.port) (ports_at m.components m.instances c.to.used.instance) k f in
+        let p = position_passes (λ (x : Port). bytes_eq x.name c.from.port) (ports_at m.components m.instances c.from.used.instance) j e in
+        let q = position_passes (λ (x : Port). bytes_eq x.name c.to.port) (ports_at m.components m.instances c.to.used.instance) k f in
         let from = facts_at c.from j p.0 e p.1 in
         let to = facts_at c.to k q.0 f q.1 in
         record {

@@ -3,6 +3,7 @@ use Rattle.std.proofs.Common.{◌≡◌, ℕ, zero, suc, ◌+◌, ◌-◌, ◌�
 use Rattle.std.proofs.lemmas.Bool.Decides.{nat_tests}
 use Rattle.std.proofs.lemmas.List.{length-map}
 use Rattle.std.proofs.lemmas.Option.{slice_get-map}
+use Rattle.std.proofs.Math.Bool.{and_comm}
 use Rattle.std.specs.List.{list_any, slice_get}
 use Rattle.fp_tables.specs.Lists.{all_from, some_and}
 use Rattle.fp_tables.specs.Types.{form_at, kinds_in, uses_constants, is_last, begins_chain}
@@ -58,12 +59,6 @@ length_replicate : {X : Type 0} (n : ℕ) (x : X) → length (replicate n x) ≡
 length_replicate zero x = refl
 length_replicate (suc n) x = ap suc (length_replicate n x)
 
-turned : (a b : Bool) → (a && b) ≡ (b && a)
-turned true true = refl
-turned true false = refl
-turned false true = refl
-turned false false = refl
-
 pub zero_is_last : (n : ℕ) → eqb n 0 ≡ is_last n
 zero_is_last zero = refl
 zero_is_last (suc n) = grind (arith, nat_tests)
@@ -97,7 +92,7 @@ module _ (types : List TypeDef) where
           unwrap_or (option_map (λ (d : TypeDef). uses_marked marks (is_last n) d.form) o) false
           ≡ some_and (λ f. (is_last n && uses_constants f) || list_any (begins_chain types n) (kinds_in f)) (option_map (λ (d : TypeDef). d.form) o)
       go None = refl
-      go (Some d) = ap₂ (λ (a b : Bool). a || b) (turned (uses_constants d.form) (is_last n)) (any_same (is_marked marks) (begins_chain types n) are.same (kinds_in d.form))
+      go (Some d) = ap₂ (λ (a b : Bool). a || b) (and_comm (uses_constants d.form) (is_last n)) (any_same (is_marked marks) (begins_chain types n) are.same (kinds_in d.form))
   users_same n marks are _ = refl
 
   pub next_marks : (n m : ℕ) (marks more : List Bool) → AreMarks n marks → m ≡ n + 1 → more ≡ users marks (is_last n) → AreMarks m more

@@ -6,8 +6,8 @@ use Rattle.fp_base.specs.declared.value.Value.{Value, Row_of-Value, more_of-Valu
 use Rattle.fp_base.specs.declared.value.Value.TheViews.{Array, Struct}
 use Rattle.fp_base.specs.declared.value.Value.TheBlock as block
 use Rattle.fp_base.specs.declared.value.MemberValue.{MemberValue}
+use Rattle.fp_base.proofs.Texts.{items_of, parts_of}
 use Rattle.fp_tables.specs.Types.{leaves, items_leaves, parts_leaves, levels, items_levels, parts_levels}
-use Rattle.fp_tables.proofs.Shaped.{items_of, parts_of}
 
 abbrev in_part : (Value → ℕ) → MemberValue → ℕ
 in_part f p = f p.value

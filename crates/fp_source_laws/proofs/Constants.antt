@@ -18,14 +18,12 @@ use Rattle.fp_meaning.specs.Names.{Path, definitions_of}
 use Rattle.fp_meaning.specs.Origins.{Placed, expressions_of, expressions, one}
 use Rattle.fp_meaning.specs.Sites.{in_optional}
 use Rattle.fp_meaning.specs.Uses.{BrokenByChains}
-use Rattle.fp_places.specs.Places.{places_in_expression, places_of}
-use Rattle.fp_source_laws.proofs.Expressions.{StandIn, broken_placed}
+use Rattle.fp_places.specs.Places.{places_in_expression}
+use Rattle.fp_places.proofs.Definitions.{StandOf}
+use Rattle.fp_places.proofs.Expressions.{StandIn}
+use Rattle.fp_source_laws.proofs.Expressions.{broken_placed}
 
 module _ (G : Place → Type 0) where
-  -- all places of an item
-  abbrev pub StandOf : Item → Type 0
-  StandOf i = Each G (places_of i)
-
   abbrev pub PlacedIn : Placed → Type 0
   PlacedIn p = StandIn G p.expression
 
@@ -34,10 +32,10 @@ module _ (G : Place → Type 0) where
   optional_placed scope (Some e) h = (h, tt)
 
   -- its expressions
-  expressions_placed : (i : Item) → StandOf i → Each PlacedIn (expressions_of i)
+  expressions_placed : (i : Item) → StandOf G i → Each PlacedIn (expressions_of i)
   expressions_placed (item.Defined s) h = of_definition s.definition h
     where
-      of_definition : (d : Def) → StandOf (item.Defined (record { scope = s.scope; definition = d })) → Each PlacedIn (expressions_of (item.Defined (record { scope = s.scope; definition = d })))
+      of_definition : (d : Def) → StandOf G (item.Defined (record { scope = s.scope; definition = d })) → Each PlacedIn (expressions_of (item.Defined (record { scope = s.scope; definition = d })))
       of_definition (def.Constant d) k = (k.1, tt)
       of_definition (def.Abstract d) k = tt
       of_definition (def.Alias d) k = tt
@@ -51,10 +49,10 @@ module _ (G : Place → Type 0) where
   expressions_placed (item.Written since p) h = (h, tt)
 
   -- the name that it defines
-  names_placed : (i : Item) → StandOf i → Each (λ (d : Definition). G d.place) (definitions_of i)
+  names_placed : (i : Item) → StandOf G i → Each (λ (d : Definition). G d.place) (definitions_of i)
   names_placed (item.Defined s) h = of_definition s.definition h
     where
-      of_definition : (d : Def) → StandOf (item.Defined (record { scope = s.scope; definition = d }))
+      of_definition : (d : Def) → StandOf G (item.Defined (record { scope = s.scope; definition = d }))
           → Each (λ (x : Definition). G x.place) (definitions_of (item.Defined (record { scope = s.scope; definition = d })))
       of_definition (def.Constant d) k = (k.0, tt)
       of_definition (def.Abstract d) k = (k.0, tt)
@@ -68,14 +66,14 @@ module _ (G : Place → Type 0) where
   names_placed (item.Used since n) h = tt
   names_placed (item.Written since p) h = tt
 
-  module _ (source : Source) (all : Each StandOf (items source)) where
+  module _ (source : Source) (all : Each (StandOf G) (items source)) where
     pub all_expressions : Each PlacedIn (expressions source)
-    all_expressions = each_flat PlacedIn expressions_of (items source) (each_weaker StandOf (λ i. Each PlacedIn (expressions_of i)) expressions_placed (items source) all)
+    all_expressions = each_flat PlacedIn expressions_of (items source) (each_weaker (StandOf G) (λ i. Each PlacedIn (expressions_of i)) expressions_placed (items source) all)
 
     all_names : Each (λ (d : Definition). G d.place) (flat_map definitions_of (items source))
     all_names =
         each_flat (λ (d : Definition). G d.place) definitions_of (items source)
-        (each_weaker StandOf (λ i. Each (λ (d : Definition). G d.place) (definitions_of i)) names_placed (items source) all)
+        (each_weaker (StandOf G) (λ i. Each (λ (d : Definition). G d.place) (definitions_of i)) names_placed (items source) all)
 
     pub chains_placed : (group : Group) (f : Refusal) → BrokenByChains (items source) group f → G f.place
     chains_placed group f (k, d, there, (same, inl cyclic)) =

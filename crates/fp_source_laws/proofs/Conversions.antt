@@ -22,8 +22,9 @@ use Rattle.fp_type_sizes.specs.declared.written.WrittenType.{WrittenType}
 use Rattle.fp_type_forms.specs.Written.{KindIs}
 use Rattle.fp_part_values.specs.Broken.{BrokenByDeclared, BrokenByItem, BrokenByLimit, BrokenByLimits, BrokenByPart, IsUnfit, PartValuesBroken}
 use Rattle.fp_places.specs.Places.{places_in_limit, places_in_limits, places_in_part, places_in_value, places_of_model}
-use Rattle.fp_source_laws.proofs.Constants.{StandOf}
-use Rattle.fp_source_laws.proofs.Expressions.{StandIn, first_of}
+use Rattle.fp_places.proofs.Expressions.{StandIn}
+use Rattle.fp_places.proofs.Definitions.{StandOf}
+use Rattle.fp_source_laws.proofs.Expressions.{first_of}
 use Rattle.fp_source_laws.proofs.Parted.{PartStands, channel_places, param_places, same_place, split}
 use Rattle.fp_source_laws.proofs.Types.{misfit_placed}
 

@@ -1,7 +1,6 @@
 -- The grammar of definitions gives enumerations with constants.
 use Rattle.std.proofs.Common.{◌≡◌, ℕ, List, [], ◌∷◌, ◌++◌, Option, Some, None}
 use Rattle.fp_base.specs.declared.place.Span.{Span}
-use Rattle.fp_lexer.specs.declared.token.Token.{Token}
 use Rattle.fp_tree.specs.declared.name.Name.{Name}
 use Rattle.fp_tree.specs.declared.name.Str.{Str}
 use Rattle.fp_tree.specs.declared.expression.Expr.{Expr}
@@ -10,20 +9,13 @@ use Rattle.fp_tree.specs.declared.part.Field.{Field}
 use Rattle.fp_tree.specs.declared.part.EnumConst.{EnumConst}
 use Rattle.fp_tree.specs.declared.part.Formal.{Formal}
 use Rattle.fp_tree.specs.declared.definition.Def.{Def}
-use Rattle.fp_grammar.specs.Grammar.{Grammar}
 use Rattle.fp_parse_pieces.specs.Kinds.{kind, k_open_brace}
 use Rattle.fp_parse_pieces.specs.Lists.{ListPiece, annotated, gathered}
 use Rattle.fp_parse_pieces.specs.Lists.ListPiece.{element, separator}
 use Rattle.fp_parse_defs.specs.Definitions.{made_constant, made_type, made_array, made_struct, enum_const, with_enum_const, enum_consts, made_enum, enumeration, made_port, definition, noted_definition}
-use Rattle.fp_places.proofs.Preserving.{Gives, gives_anything, gives_map, gives_seq, gives_alt, gives_after}
+use Rattle.fp_places.proofs.Preserving.{gives_anything, gives_map, gives_seq, gives_alt, gives_after}
+use Rattle.fp_places.proofs.Depths.{Yields}
 use Rattle.fp_source_types.specs.Listed.{HasConstants}
-
--- nothing is asked of tokens
-abbrev pub Any : Token → Type 0
-Any t = Unit {0}
-
-abbrev pub Yields : {X : Type 0} → Grammar Token X → (X → Type 0) → Type 0
-Yields g Q = Gives kind Any g Q
 
 -- ---- lists of constants
 

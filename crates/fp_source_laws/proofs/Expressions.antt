@@ -7,21 +7,17 @@ use Rattle.fp_base.specs.declared.place.Place.{Place}
 use Rattle.fp_base.specs.declared.refusal.Refusal.{Refusal}
 use Rattle.fp_base.proofs.Lists.{each_before, each_behind, of_item}
 use Rattle.fp_tree.specs.declared.source.Source.{Source}
-use Rattle.fp_tree.specs.declared.expression.Expr.{Expr, fold_out-Expr}
-use Rattle.fp_tree.specs.declared.expression.Assignment.{Assignment, fold_out-Assignment}
+use Rattle.fp_tree.specs.declared.expression.Expr.{Expr}
+use Rattle.fp_tree.specs.declared.expression.Assignment.{Assignment}
 use Rattle.fp_tree.specs.declared.expression.Form.{fold-roll-Form, roll-Form, roll-out-Form}
 use Rattle.fp_tree.specs.declared.expression.Form.TheOpen as form
 use Rattle.fp_meaning.specs.ConstantFaults.{BrokenHere, BrokenIn, itself, within, float, negation_outside, result_outside, zero_divisor, minus_kind, left_kind, right_kind, list_too_large, struct_too_large, parts_of}
 use Rattle.fp_meaning.specs.Names.{Path}
 use Rattle.fp_meaning.specs.Values.{Opened, opened, values_in}
 use Rattle.fp_places.specs.Places.{places_of_form, places_of_assignment, places_of_expression, places_in_expression, places_in_form, places_in_assignment}
+use Rattle.fp_places.proofs.Walks.{assigned_places, whole_places}
+use Rattle.fp_places.proofs.Expressions.{StandIn}
 use Rattle.fp_type_forms.specs.Broken.{RepeatsIn, itself as repeated, within as repeated_within}
-
-whole_places : (e : Expr) → places_in_expression e ≡ e.at.first ∷ places_in_form e.form
-whole_places e = fold_out-Expr (List Place) (List Place) (List Place) places_of_form places_of_assignment places_of_expression e
-
-assigned_places : (a : Assignment) → places_in_assignment a ≡ a.name.at.first ∷ places_in_expression a.value
-assigned_places a = fold_out-Assignment (List Place) (List Place) (List Place) places_of_form places_of_assignment places_of_expression a
 
 -- those in an opened expression
 abbrev places_in_opened : Opened → List Place
@@ -52,32 +48,28 @@ opened_places : (e : Expr) → places_in_expression e ≡ e.at.first ∷ places_
 opened_places e = whole_places e ∙ ap (λ (ps : List Place). e.at.first ∷ ps) (ap places_in_form (sym (roll-out-Form e.form)) ∙ rolled_places (opened e))
 
 module _ (G : Place → Type 0) where
-  -- all places in it
-  abbrev pub StandIn : Expr → Type 0
-  StandIn e = Each G (places_in_expression e)
-
-  open_expression : (e : Expr) → StandIn e → G e.at.first × Each G (places_in_opened (opened e))
+  open_expression : (e : Expr) → StandIn G e → G e.at.first × Each G (places_in_opened (opened e))
   open_expression e h = let h' : Each G (e.at.first ∷ places_in_opened (opened e)) = subst (Each G) (opened_places e) h in h'
 
-  pub first_of : (e : Expr) → StandIn e → G e.at.first
+  pub first_of : (e : Expr) → StandIn G e → G e.at.first
   first_of e h = (open_expression e h).0
 
-  items_placed : (es : List Expr) → Each G (flat_map places_in_expression es) → Each StandIn es
+  items_placed : (es : List Expr) → Each G (flat_map places_in_expression es) → Each (StandIn G) es
   items_placed [] h = tt
   items_placed (e ∷ es) h =
       (each_before G (places_in_expression e) (flat_map places_in_expression es) h, items_placed es (each_behind G (places_in_expression e) (flat_map places_in_expression es) h))
 
-  open_assignment : (a : Assignment) → Each G (places_in_assignment a) → G a.name.at.first × StandIn a.value
+  open_assignment : (a : Assignment) → Each G (places_in_assignment a) → G a.name.at.first × StandIn G a.value
   open_assignment a h = let h' : Each G (a.name.at.first ∷ places_in_expression a.value) = subst (Each G) (assigned_places a) h in h'
 
-  members_placed : (ms : List Assignment) → Each G (flat_map places_in_assignment ms) → Each (λ (a : Assignment). G a.name.at.first) ms × Each StandIn (values_in ms)
+  members_placed : (ms : List Assignment) → Each G (flat_map places_in_assignment ms) → Each (λ (a : Assignment). G a.name.at.first) ms × Each (StandIn G) (values_in ms)
   members_placed [] h = (tt, tt)
   members_placed (a ∷ ms) h =
       let here = open_assignment a (each_before G (places_in_assignment a) (flat_map places_in_assignment ms) h) in
       let behind = members_placed ms (each_behind G (places_in_assignment a) (flat_map places_in_assignment ms) h) in
       ((here.0, behind.0), (here.1, behind.1))
 
-  parts_placed : (o : Opened) → Each G (places_in_opened o) → Each StandIn (parts_of o)
+  parts_placed : (o : Opened) → Each G (places_in_opened o) → Each (StandIn G) (parts_of o)
   parts_placed (form.Number n) h = tt
   parts_placed form.Float h = tt
   parts_placed (form.Text t) h = tt
@@ -90,11 +82,11 @@ module _ (G : Place → Type 0) where
   parts_placed (form.Array items) h = items_placed items h
   parts_placed (form.Struct members) h = (members_placed members h).1
 
-  pub part_placed : (e part : Expr) (k : ℕ) → StandIn e → slice_get (parts_of (opened e)) k ≡ Some part → StandIn part
-  part_placed e part k h at = of_item StandIn (parts_of (opened e)) k part (parts_placed (opened e) (open_expression e h).1) at
+  pub part_placed : (e part : Expr) (k : ℕ) → StandIn G e → slice_get (parts_of (opened e)) k ≡ Some part → StandIn G part
+  part_placed e part k h at = of_item (StandIn G) (parts_of (opened e)) k part (parts_placed (opened e) (open_expression e h).1) at
 
   module _ (source : Source) (scope : Path) where
-    here_placed : (place : Place) (o : Opened) (f : Refusal) → G place → Each StandIn (parts_of o) → BrokenHere source scope place o f → G f.place
+    here_placed : (place : Place) (o : Opened) (f : Refusal) → G place → Each (StandIn G) (parts_of o) → BrokenHere source scope place o f → G f.place
     here_placed place (form.Number n) f g h b = elim b [ ]
     here_placed place (form.Text t) f g h b = elim b [ ]
     here_placed place (form.Truth t) f g h b = elim b [ ]
@@ -110,11 +102,11 @@ module _ (G : Place → Type 0) where
     here_placed place (form.Array items) f g h (list_too_large vs size) = g
     here_placed place (form.Struct members) f g h (struct_too_large vs size) = g
 
-    pub broken_placed : (e : Expr) (f : Refusal) → StandIn e → BrokenIn source scope e f → G f.place
+    pub broken_placed : (e : Expr) (f : Refusal) → StandIn G e → BrokenIn source scope e f → G f.place
     broken_placed e f h (itself b) = here_placed e.at.first (opened e) f (first_of e h) (parts_placed (opened e) (open_expression e h).1) b
     broken_placed e f h (within {part = part} k at b) = broken_placed part f (part_placed e part k h at) b
 
-  pub repeats_placed : (e : Expr) (f : Refusal) → StandIn e → RepeatsIn e f → G f.place
+  pub repeats_placed : (e : Expr) (f : Refusal) → StandIn G e → RepeatsIn e f → G f.place
   repeats_placed e f h (repeated {members = members} is (k, x, at, b)) =
       let named = (members_placed members (subst (λ (o : Opened). Each G (places_in_opened o)) is (open_expression e h).1)).0 in
       subst (λ (g : Refusal). G g.place) (sym b.0) (of_item (λ (a : Assignment). G a.name.at.first) members k x named at)

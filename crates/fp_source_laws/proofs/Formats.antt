@@ -20,7 +20,7 @@ use Rattle.fp_meaning.specs.Sites.{ModelDef, component, in_optional, instance, i
 use Rattle.fp_type_formats.specs.Broken.{BrokenByDefinition, BrokenByFields, BrokenByFormat, BrokenByItem, BrokenByModelDef, BrokenByPart, FormatsBroken, PrintsNoInteger}
 use Rattle.fp_type_formats.specs.Integers.{NamesNoInteger}
 use Rattle.fp_places.specs.Places.{places_in_definition, places_in_expression, places_in_field, places_in_format, places_in_part, places_in_type, places_of_model}
-use Rattle.fp_source_laws.proofs.Constants.{StandOf}
+use Rattle.fp_places.proofs.Definitions.{StandOf}
 use Rattle.fp_source_laws.proofs.Parted.{channel_places, split}
 
 module _ (G : Place → Type 0) where

@@ -1,7 +1,6 @@
 -- What is known of the pieces of a file: the enumerations among its items have constants.
 use Rattle.std.proofs.Common.{ℕ, List, [], ◌∷◌}
 use Rattle.std.specs.List.{AllByRecursion as Each}
-use Rattle.fp_tree.specs.declared.name.Name.{Name}
 use Rattle.fp_tree.specs.declared.definition.Def.{Def}
 use Rattle.fp_tree.specs.declared.expression.Expr.{Expr}
 use Rattle.fp_tree.specs.declared.type_name.TypeName.{TypeName}
@@ -11,14 +10,15 @@ use Rattle.fp_meaning.specs.Sites.{Path}
 use Rattle.fp_meaning.specs.Layout.{expression_items, type_items, items_in, part_items}
 use Rattle.fp_meaning.proofs.Since.{AllSince, since_form}
 use Rattle.fp_parse_defs.specs.Definitions.{noted_definition}
-use Rattle.fp_base.proofs.Lists.{each_of_any, each_weaker}
+use Rattle.fp_base.proofs.Lists.{each_weaker}
 use Rattle.fp_places.specs.Parts.{names_in_expression, names_in_type, names_in_definition}
 use Rattle.fp_places.proofs.Preserving.{gives_anything, gives_less}
 use Rattle.fp_places.proofs.Held.{Held}
 use Rattle.fp_places.proofs.Known.{Known}
+use Rattle.fp_places.proofs.Anything.{AnyName, AnyToken, any_names}
 use Rattle.fp_source_types.specs.Listed.{HasConstants, IsListed}
 use Rattle.fp_type_forms.proofs.Following.{IsPart, are_parts}
-use Rattle.fp_source_laws.proofs.EnumConstants.{Any, Noted, definition_yields}
+use Rattle.fp_source_laws.proofs.EnumConstants.{Noted, definition_yields}
 
 -- what stands in a definition is no definition of a type
 part_listed : (i : Item) → IsPart i → IsListed i
@@ -40,13 +40,6 @@ since_listed since (item.Defined s ∷ is) h = absurd h
 since_listed since (item.Enumerated e ∷ is) h = absurd h
 since_listed since (item.Declared d ∷ is) h = absurd h
 
--- nothing is said of names
-abbrev pub AnyName : Name → Type 0
-AnyName n = Unit {0}
-
-pub any_names : (ns : List Name) → Each AnyName ns
-any_names ns = each_of_any AnyName (λ n. tt) ns
-
 pub value_held : (e : Expr) → Unit {0} → Held IsListed AnyName (λ scope. expression_items 0 scope e) (names_in_expression e)
 value_held e h = record { items = λ scope. (tt, tt); names = any_names (names_in_expression e) }
 
@@ -64,7 +57,7 @@ definition_held d has note = record {
 
 unfoldable pub having : (depth : ℕ) → Known depth
 having depth = record {
-  OfToken = Any;
+  OfToken = AnyToken;
   OfItem = IsListed;
   OfName = AnyName;
   Naming = λ n. Unit {0};

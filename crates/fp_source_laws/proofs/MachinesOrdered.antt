@@ -10,24 +10,19 @@ use Rattle.fp_tree.specs.declared.machine.Goto.{Goto}
 use Rattle.fp_tree.specs.declared.machine.Machine.{Machine}
 use Rattle.fp_tree.specs.declared.machine.Transition.{Transition}
 use Rattle.fp_base.proofs.Lists.{InOption, each_of_any}
-use Rattle.fp_grammar.specs.Grammar.{Grammar, Spells}
+use Rattle.fp_grammar.specs.Grammar.{Spells}
 use Rattle.fp_meaning.specs.Sites.{machine as machine_def}
 use Rattle.fp_parse_pieces.specs.Kinds.{kind, k_open_brace}
 use Rattle.fp_parse_states.specs.declared.head.Head.{Head}
 use Rattle.fp_parse_states.specs.Elements.{element, made_choice, made_entry, made_exit, made_initial, made_on, made_state, own, state_head}
 use Rattle.fp_parse_states.specs.Nested.{NestedElements, Lines, SpellsBehind, SpellsElements, SpellsRest, body, elements_of, k_machine, made_machine, machine}
 use Rattle.fp_parse_states.specs.Nested.NestedElements.{none, without_body, with_body}
-use Rattle.fp_places.proofs.Preserving.{Gives, LanguageGives, gives_anything, gives_map, gives_seq, gives_alt, gives_optional, gives_ref, gives_after}
+use Rattle.fp_places.proofs.Preserving.{LanguageGives, gives_anything, gives_map, gives_seq, gives_alt, gives_optional, gives_ref, gives_after}
+use Rattle.fp_places.proofs.Anything.{AnyToken}
+use Rattle.fp_places.proofs.Depths.{Yields}
 use Rattle.fp_machines.specs.Ordered.{AreWellPlaced}
 use Rattle.fp_source_parts.specs.Ordered.{IsOrderedModel}
 use Rattle.fp_source_laws.proofs.Preorder.{AllMayStand, IsStateForm, MayStand, may_stand, well_placed}
-
--- nothing is asked of tokens
-abbrev pub Any : Token → Type 0
-Any t = Unit {0}
-
-abbrev pub Yields : {X : Type 0} → Grammar Token X → (X → Type 0) → Type 0
-Yields g Q = Gives kind Any g Q
 
 abbrev pub HasOrderedElements : Machine → Type 0
 HasOrderedElements m = IsOrderedModel (machine_def m)
@@ -79,7 +74,7 @@ module _ (depth : ℕ) where
   nested_stand : (inside : Bool) (es : NestedElements) (w : List Token) → SpellsElements depth inside es w → AllMayStand inside es
   nested_stand inside none w s = tt
   nested_stand inside (without_body before e behind more) w (u, v, z, split, a, b, c) = (
-    (element_yields inside).given v e b (each_of_any Any (λ t. tt) v),
+    (element_yields inside).given v e b (each_of_any AnyToken (λ t. tt) v),
     behind_stand inside (SpellsElements depth inside more) more behind z (nested_stand inside more) c,
   )
   nested_stand inside (with_body before e inner behind more) w (u, v, y, z, l, r, split, a, b, k, i, j, c) =
@@ -90,7 +85,7 @@ module _ (depth : ℕ) where
   abbrev HasOrder : Behavior → Type 0
   HasOrder b = AreWellPlaced b.elements
 
-  rest_ordered : LanguageGives Any (SpellsRest depth) HasOrder
+  rest_ordered : LanguageGives AnyToken (SpellsRest depth) HasOrder
   rest_ordered w b (u, r, es, e, s, k, f) told =
       let may = nested_stand false es u s in
       subst HasOrder (sym f) (well_placed es may)

@@ -32,8 +32,10 @@ use Rattle.fp_places.proofs.SiteComponents.{parts_given}
 use Rattle.fp_places.proofs.Preserving.{LanguageGives, gives_anything, gives_map, gives_seq, gives_alt, gives_optional, gives_ref, gives_seal, gives_after}
 use Rattle.fp_places.proofs.Lists.{each_or_none, gives_some_of}
 use Rattle.fp_places.proofs.Models.{models_yield}
+use Rattle.fp_places.proofs.Anything.{AnyToken}
+use Rattle.fp_places.proofs.Depths.{Yields}
 use Rattle.fp_source_types.specs.Listed.{HasConstants, IsListed}
-use Rattle.fp_source_laws.proofs.EnumConstants.{Any, Yields, definition_yields}
+use Rattle.fp_source_laws.proofs.EnumConstants.{definition_yields}
 use Rattle.fp_source_laws.proofs.Having.{definition_listed, having}
 
 -- ---- what a member gives
@@ -90,17 +92,17 @@ unfolding having
 model_yields expressions = gives_map HoldsNoted bare.Model (λ m h note. (h note).items) (models_yield (having expressions))
 
 module _ (expressions : ℕ) where
-  member_yields : (inner : Language Token BareMember) → LanguageGives Any inner HoldsNoted → Yields (member_of expressions inner) HoldsNoted
+  member_yields : (inner : Language Token BareMember) → LanguageGives AnyToken inner HoldsNoted → Yields (member_of expressions inner) HoldsNoted
   member_yields inner given =
       gives_alt (gives_ref _ given) (gives_alt include_yields (gives_alt locate_yields (gives_alt (definition_member_yields expressions) (model_yields expressions))))
 
-  members_yield : (inner : Language Token BareMember) → LanguageGives Any inner HoldsNoted → Yields (members_of expressions inner) (Each Holds)
+  members_yield : (inner : Language Token BareMember) → LanguageGives AnyToken inner HoldsNoted → Yields (members_of expressions inner) (Each Holds)
   members_yield inner given =
       gives_map (Each Holds) or_none (each_or_none Holds)
       (gives_optional (gives_some_of HoldsNoted (Each Holds) with_member (λ ms m lines h k. each_push Holds ms (noted_member m (joined lines)) h (k (joined lines))) semicolons [] tt
       (member_yields inner given)))
 
-  modules_yield : (depth : ℕ) → LanguageGives Any (modules expressions depth) HoldsNoted
+  modules_yield : (depth : ℕ) → LanguageGives AnyToken (modules expressions depth) HoldsNoted
   modules_yield zero = λ w m s h. absurd s
   modules_yield (suc depth) =
       (gives_map HoldsNoted made_module opened_holds
@@ -112,12 +114,12 @@ module _ (expressions : ℕ) where
 
 pub all_listed : (tokens : List Token) (ms : List Member) → SpellsUnit tokens ms → (scope : Path) (i : Item) → Contains (in_members scope ms) i → IsListed i
 all_listed tokens ms spelled scope i there =
-    let hold = (all_yield limit limit).given tokens ms spelled (each_of_any Any (λ t. tt) tokens) in
+    let hold = (all_yield limit limit).given tokens ms spelled (each_of_any AnyToken (λ t. tt) tokens) in
     of_contained IsListed (in_members scope ms) i (all_hold ms hold scope) there
 
 parts_hold : (tokens : List Token) (ps : List Part) → SpellsFile component_parts tokens ps → (scope : Path) → Each IsListed (in_parts scope ps)
 unfolding having
-parts_hold tokens ps spelled = ((parts_given (having limit)).given tokens ps spelled (each_of_any Any (λ t. tt) tokens)).items
+parts_hold tokens ps spelled = ((parts_given (having limit)).given tokens ps spelled (each_of_any AnyToken (λ t. tt) tokens)).items
 
 pub parts_listed : (tokens : List Token) (ps : List Part) → SpellsFile component_parts tokens ps → (scope : Path) (i : Item) → Contains (in_parts scope ps) i → IsListed i
 parts_listed tokens ps spelled scope i there = of_contained IsListed (in_parts scope ps) i (parts_hold tokens ps spelled scope) there

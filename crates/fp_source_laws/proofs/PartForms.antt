@@ -1,6 +1,8 @@
 -- What type names and numbers in what belongs to definitions break is broken at places of their source.
 use Rattle.std.proofs.Common.{List, inl, inr}
 use Rattle.std.specs.List.{AllByRecursion as Each}
+use Rattle.fp_places.proofs.Expressions.{StandIn}
+use Rattle.fp_places.proofs.Definitions.{StandOf, StandInType}
 use Rattle.fp_base.specs.declared.place.Place.{Place}
 use Rattle.fp_base.specs.declared.refusal.Refusal.{Refusal}
 use Rattle.fp_base.proofs.Lists.{of_item}
@@ -14,16 +16,15 @@ use Rattle.fp_meaning.specs.Names.{Path}
 use Rattle.fp_part_values.specs.FormBroken.{BrokenAmong, BrokenByDeclaration, PartFormsBroken, scope_inside}
 use Rattle.fp_part_values.specs.Names.{type_names_of}
 use Rattle.fp_part_values.specs.Numbers.{numbers_of}
-use Rattle.fp_source_laws.proofs.Constants.{StandOf}
-use Rattle.fp_source_laws.proofs.Expressions.{StandIn, first_of}
+use Rattle.fp_source_laws.proofs.Expressions.{first_of}
 use Rattle.fp_source_laws.proofs.Parted.{same_place}
-use Rattle.fp_source_laws.proofs.PartNames.{TypeStands, model_named}
+use Rattle.fp_source_laws.proofs.PartNames.{model_named}
 use Rattle.fp_source_laws.proofs.PartNumbers.{NumbersPlaced, all_numbers}
 use Rattle.fp_source_laws.proofs.Types.{name_placed}
 
 module _ (G : Place → Type 0) (source : Source) where
-  among_placed : (scope : Path) (names : List TypeName) (numbers : List Expr) (f : Refusal) → Each (TypeStands G) names → Each (StandIn G) numbers → BrokenAmong source scope names numbers f → G f.place
-  among_placed scope names numbers f h n (inl (k, t, at, b)) = name_placed G source scope t f (of_item (TypeStands G) names k t h at) b
+  among_placed : (scope : Path) (names : List TypeName) (numbers : List Expr) (f : Refusal) → Each (StandInType G) names → Each (StandIn G) numbers → BrokenAmong source scope names numbers f → G f.place
+  among_placed scope names numbers f h n (inl (k, t, at, b)) = name_placed G source scope t f (of_item (StandInType G) names k t h at) b
   among_placed scope names numbers f h n (inr (k, e, at, b)) = same_place G f _ b.0 (first_of G e (of_item (StandIn G) numbers k e n at))
 
   item_placed : (i : Item) (f : Refusal) → StandOf G i → NumbersPlaced G i → BrokenByDeclaration source i f → G f.place

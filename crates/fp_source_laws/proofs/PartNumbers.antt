@@ -1,6 +1,8 @@
 -- The expressions in what belongs to a definition in whose place a number is wanted are items behind it, so that all their places are places of items.
 use Rattle.std.proofs.Common.{ℕ, suc, List, [], ◌∷◌, ◌++◌, flat_map, length, Option, Some, None, refl}
 use Rattle.std.specs.List.{AllByRecursion as Each}
+use Rattle.fp_places.proofs.Expressions.{StandIn}
+use Rattle.fp_places.proofs.Definitions.{StandOf}
 use Rattle.fp_base.specs.declared.place.Place.{Place}
 use Rattle.fp_base.proofs.Lists.{each_append, each_before, each_behind, each_flat, each_weaker}
 use Rattle.fp_tree.specs.declared.source.Source.{Source}
@@ -27,8 +29,6 @@ use Rattle.fp_meaning.proofs.Since.{AllSince, since_both, since_fields, since_fo
 use Rattle.fp_meaning.proofs.Throughout.{all_exactly, since_model}
 use Rattle.fp_part_values.specs.Names.{written}
 use Rattle.fp_part_values.specs.Numbers.{connection_numbers, general_numbers, instance_numbers, interface_part_numbers, numbers_of, part_numbers, topology_member_numbers}
-use Rattle.fp_source_laws.proofs.Constants.{StandOf}
-use Rattle.fp_source_laws.proofs.Expressions.{StandIn}
 
 module _ (G : Place → Type 0) where
   abbrev All : List Item → Type 0

@@ -14,8 +14,9 @@ use Rattle.fp_meaning.specs.Layout.{items}
 use Rattle.fp_meaning.specs.Sites.{ModelDef, component, instance, interface, machine, topology}
 use Rattle.fp_phases.specs.Broken.{BrokenByDefinition, BrokenByItem, BrokenByPhase, HasFloat, PhasesBroken, itself, within}
 use Rattle.fp_places.specs.Places.{places_in_phase, places_of_model}
-use Rattle.fp_source_laws.proofs.Constants.{StandOf}
-use Rattle.fp_source_laws.proofs.Expressions.{StandIn, first_of, part_placed}
+use Rattle.fp_places.proofs.Expressions.{StandIn}
+use Rattle.fp_places.proofs.Definitions.{StandOf}
+use Rattle.fp_source_laws.proofs.Expressions.{first_of, part_placed}
 use Rattle.fp_source_laws.proofs.Parted.{same_place, split}
 
 module _ (G : Place → Type 0) where

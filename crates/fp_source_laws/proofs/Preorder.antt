@@ -3,6 +3,7 @@ use Rattle.std.proofs.Common.{◌≡◌, ◌<◌, ◌⊎◌, inl, inr, ℕ, suc,
 use Rattle.std.specs.List.{AllByRecursion as Each}
 use Rattle.std.proofs.lemmas.List.{length-append}
 use Rattle.fp_base.proofs.Lists.{each_append, of_item}
+use Rattle.fp_base.proofs.Mapped.{map_get}
 use Rattle.fp_tree.specs.declared.machine.BehaviorElement.{BehaviorElement}
 use Rattle.fp_tree.specs.declared.machine.ElementForm.{ElementForm}
 use Rattle.fp_tree.specs.declared.machine.ElementForm.TheVariants as element
@@ -14,7 +15,7 @@ use Rattle.fp_machine_rules.specs.Forms.{Inside, StandsIn, is_state}
 use Rattle.fp_machine_rules.specs.Forms.Inside.{directly, deeper}
 use Rattle.fp_machines.specs.Outline.{outline, outline_of, outlined}
 use Rattle.fp_machines.specs.Ordered.{AreInOrder, AreWellPlaced, StandsBehind, declares}
-use Rattle.fp_source_laws.proofs.Rows.{EachFrom, from_all, from_behind, from_front, from_get, from_joined, get_mapped, map_get}
+use Rattle.fp_source_laws.proofs.Rows.{EachFrom, from_all, from_behind, from_front, from_get, from_joined, get_mapped}
 
 -- ---- what has a body is a state, and nothing is declared in one
 

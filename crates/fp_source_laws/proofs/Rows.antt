@@ -1,6 +1,5 @@
 -- What holds of each item of a list at its position.
-use Rattle.std.proofs.Common.{◌≡◌, ℕ, zero, suc, ◌+◌, List, [], ◌∷◌, ◌++◌, length, map, slice_get, Option, Some, None, option_map, refl, sym, ap, ◌∙◌, subst, arith}
-use Rattle.std.proofs.lemmas.Option.{slice_get-map}
+use Rattle.std.proofs.Common.{◌≡◌, ℕ, zero, suc, ◌+◌, List, [], ◌∷◌, ◌++◌, length, map, slice_get, Option, Some, None, refl, sym, subst, arith}
 use Rattle.fp_base.proofs.Options.{same_some}
 
 -- from this position on
@@ -37,6 +36,3 @@ pub get_mapped : {A B : Type 0} (f : A → B) (xs : List A) (k : ℕ) (y : B) �
 get_mapped f [] k y at = absurd (cc)
 get_mapped f (x ∷ xs) zero y at = (x, refl, sym (same_some at))
 get_mapped f (x ∷ xs) (suc k) y at = get_mapped f xs k y at
-
-pub map_get : {A B : Type 0} (f : A → B) (xs : List A) (k : ℕ) (x : A) → slice_get xs k ≡ Some x → slice_get (map f xs) k ≡ Some (f x)
-map_get f xs k x at = slice_get-map f xs k ∙ ap (λ o. option_map f o) at

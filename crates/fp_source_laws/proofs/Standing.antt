@@ -18,8 +18,9 @@ use Rattle.fp_topologies.specs.Laws.{HaveClosures}
 use Rattle.fp_source_parts.specs.TopologyBroken.{SourceInstancesBroken, SourceNumbersBroken, SourceTopologiesBroken, deployed}
 use Rattle.fp_model.specs.Broken.{StatesBroken, ValuesBroken}
 use Rattle.fp_places.specs.Places.{places_of}
+use Rattle.fp_places.proofs.Definitions.{StandOf}
 use Rattle.fp_source_laws.specs.Standing.{IsPlaceOf}
-use Rattle.fp_source_laws.proofs.Constants.{StandOf, constants_placed}
+use Rattle.fp_source_laws.proofs.Constants.{constants_placed}
 use Rattle.fp_source_laws.proofs.Conversions.{conversions_placed}
 use Rattle.fp_source_laws.proofs.Dictionaries.{dictionary_placed}
 use Rattle.fp_source_laws.proofs.Formats.{formats_placed}

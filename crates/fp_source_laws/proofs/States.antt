@@ -19,7 +19,7 @@ use Rattle.fp_written_parts.specs.declared.member.WrittenMember.TheVariants as m
 use Rattle.fp_dictdefs.specs.Running.{InstanceBroken, RunningBroken}
 use Rattle.fp_source_parts.specs.MachineBroken.{BrokenBehavior, BrokenItem, BrokenModel, MachinesBroken}
 use Rattle.fp_places.specs.Places.{places_in_behavior, places_in_element, places_of_model}
-use Rattle.fp_source_laws.proofs.Constants.{StandOf}
+use Rattle.fp_places.proofs.Definitions.{StandOf}
 use Rattle.fp_source_laws.proofs.Machines.{machine_placed}
 use Rattle.fp_source_laws.proofs.Parted.{same_place, split}
 use Rattle.fp_source_laws.proofs.Written.{MemberStands}

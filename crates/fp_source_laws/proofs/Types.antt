@@ -31,8 +31,10 @@ use Rattle.fp_types.specs.Converting.{Opened, Target}
 use Rattle.fp_source_types.specs.Broken.{TypesBroken, TypesBrokenBy}
 use Rattle.fp_source_types.specs.Places.{behind_default, default_place, name_place}
 use Rattle.fp_places.specs.Places.{places_in_constant, places_in_definition, places_in_expression, places_in_field, places_in_formal, places_in_format, places_in_type, places_in_type_form}
-use Rattle.fp_source_laws.proofs.Constants.{PlacedIn, StandOf, all_expressions, chains_placed}
-use Rattle.fp_source_laws.proofs.Expressions.{StandIn, first_of, repeats_placed}
+use Rattle.fp_places.proofs.Expressions.{StandIn}
+use Rattle.fp_places.proofs.Definitions.{StandOf}
+use Rattle.fp_source_laws.proofs.Constants.{PlacedIn, all_expressions, chains_placed}
+use Rattle.fp_source_laws.proofs.Expressions.{first_of, repeats_placed}
 use Rattle.fp_source_laws.proofs.Parted.{same_place, split}
 
 module _ (G : Place → Type 0) where

@@ -34,8 +34,9 @@ use Rattle.fp_written_topologies.specs.declared.topology.WrittenPortUse.{Written
 use Rattle.fp_written_topologies.specs.declared.topology.WrittenTopology.{WrittenTopology}
 use Rattle.fp_topology_forms.specs.Written.{ConnectionIs, ImportIs, InstanceIs, IsWrittenDeployment, MemberInstanceIs, PatternIs, PortUseIs, TargetIs, TargetsAre, TopologyIs, connections_in, imports_in, instance_in, instance_of, instances, patterns_in, topologies, topology_in, topology_of, uses_in}
 use Rattle.fp_places.specs.Places.{places_in_connection, places_in_targets, places_in_topology_member, places_in_value}
-use Rattle.fp_source_laws.proofs.Constants.{StandOf}
-use Rattle.fp_source_laws.proofs.Expressions.{StandIn, first_of}
+use Rattle.fp_places.proofs.Expressions.{StandIn}
+use Rattle.fp_places.proofs.Definitions.{StandOf}
+use Rattle.fp_source_laws.proofs.Expressions.{first_of}
 use Rattle.fp_source_laws.proofs.PartNumbers.{NumbersPlaced, all_numbers}
 use Rattle.fp_source_laws.proofs.Written.{GivenStands, each_read, given_stands}
 

@@ -21,9 +21,9 @@ use Rattle.fp_written_parts.specs.declared.port.WrittenPortDef.{WrittenPortDef}
 use Rattle.fp_written_parts.specs.declared.member.WrittenComponent.{WrittenComponent}
 use Rattle.fp_written_parts.specs.declared.member.WrittenInterface.{WrittenInterface}
 use Rattle.fp_component_forms.specs.declared.writing.WrittenSource.{WrittenSource}
-use Rattle.fp_component_forms.specs.Written.{ComponentIs, InterfaceIs, IsWrittenSource, MemberIs, PortDefIs, Scoped, component_in, component_of, components, interface_in, interface_of, interfaces, member_part, part_of, port_definitions, port_in, port_of}
+use Rattle.fp_component_forms.specs.Written.{ComponentIs, InterfaceIs, IsWrittenSource, MemberIs, PortDefIs, Scoped, component_in, component_declared, components, interface_in, interface_declared, interfaces, member_part, part_of, port_definitions, port_in, port_declared}
 use Rattle.fp_places.specs.Places.{places_in_definition, places_in_formals, places_in_interface_part, places_in_part, places_in_type, places_of_model}
-use Rattle.fp_source_laws.proofs.Constants.{StandOf}
+use Rattle.fp_places.proofs.Definitions.{StandOf}
 use Rattle.fp_source_laws.proofs.Parted.{PartStands, split}
 use Rattle.fp_source_laws.proofs.Written.{FormalStands, MemberStands, each_read, formals_stand, member_stands}
 
@@ -49,7 +49,7 @@ module _ (G : Place → Type 0) where
   abbrev ComponentPlaced : Scoped Component → Type 0
   ComponentPlaced c = StandOf G (item.Declared (declaration c.scope (component c.node)))
 
-  port_placed : (i : Item) → StandOf G i → Each PortPlaced (port_of i)
+  port_placed : (i : Item) → StandOf G i → Each PortPlaced (port_declared i)
   port_placed (item.Defined s) h = of_definition s.definition h
     where
       of_definition : (d : Def) → Each G (places_in_definition d) → Each PortPlaced (port_in s.scope d)
@@ -57,7 +57,7 @@ module _ (G : Place → Type 0) where
       of_definition d k = tt
   port_placed i h = tt
 
-  interface_placed : (i : Item) → StandOf G i → Each InterfacePlaced (interface_of i)
+  interface_placed : (i : Item) → StandOf G i → Each InterfacePlaced (interface_declared i)
   interface_placed (item.Declared d) h = of_model d.definition h.1
     where
       of_model : (m : ModelDef) → Each G (places_of_model m) → Each InterfacePlaced (interface_in d.scope m)
@@ -68,7 +68,7 @@ module _ (G : Place → Type 0) where
       of_model (topology x) k = tt
   interface_placed i h = tt
 
-  component_placed : (i : Item) → StandOf G i → Each ComponentPlaced (component_of i)
+  component_placed : (i : Item) → StandOf G i → Each ComponentPlaced (component_declared i)
   component_placed (item.Declared d) h = of_model d.definition h
     where
       of_model : (m : ModelDef) → StandOf G (item.Declared (declaration d.scope m)) → Each ComponentPlaced (component_in d.scope m)
@@ -117,14 +117,14 @@ module _ (G : Place → Type 0) where
     pub definitions_stand : Each DefStands w.definitions
     definitions_stand =
         each_read (PortDefIs source) PortPlaced DefStands port_stands 0 (port_definitions source) w.definitions
-        (each_flat PortPlaced port_of (items source) (each_weaker (StandOf G) (λ (i : Item). Each PortPlaced (port_of i)) port_placed (items source) all)) are.definitions
+        (each_flat PortPlaced port_declared (items source) (each_weaker (StandOf G) (λ (i : Item). Each PortPlaced (port_declared i)) port_placed (items source) all)) are.definitions
 
     pub interfaces_stand : Each InterfaceStands w.interfaces
     interfaces_stand =
         each_read (InterfaceIs source) InterfacePlaced InterfaceStands interface_stands 0 (interfaces source) w.interfaces
-        (each_flat InterfacePlaced interface_of (items source) (each_weaker (StandOf G) (λ (i : Item). Each InterfacePlaced (interface_of i)) interface_placed (items source) all)) are.interfaces
+        (each_flat InterfacePlaced interface_declared (items source) (each_weaker (StandOf G) (λ (i : Item). Each InterfacePlaced (interface_declared i)) interface_placed (items source) all)) are.interfaces
 
     pub components_stand : Each ComponentStands w.components
     components_stand =
         each_read (ComponentIs source) ComponentPlaced ComponentStands component_stands 0 (components source) w.components
-        (each_flat ComponentPlaced component_of (items source) (each_weaker (StandOf G) (λ (i : Item). Each ComponentPlaced (component_of i)) component_placed (items source) all)) are.components
+        (each_flat ComponentPlaced component_declared (items source) (each_weaker (StandOf G) (λ (i : Item). Each ComponentPlaced (component_declared i)) component_placed (items source) all)) are.components

@@ -2,9 +2,11 @@
 use Rattle.std.proofs.Common.{◌≡◌, ℕ, zero, suc, ◌<◌, ℤ, List, flat_map, length, map, slice_get, Option, Some, None, subst, inl, inr}
 use Rattle.std.proofs.lemmas.List.{length-map}
 use Rattle.std.proofs.lemmas.Option.{slice_get_within}
+use Rattle.fp_topology_forms.proofs.Places.{as_long}
 use Rattle.fp_base.specs.declared.value.Value.{Value}
 use Rattle.fp_base.specs.declared.format.FormatPiece.{FormatPiece}
 use Rattle.fp_base.specs.Least.{IsUnbroken}
+use Rattle.fp_base.proofs.Options.{same_some}
 use Rattle.fp_formats.specs.Spelling.{IsFormat}
 use Rattle.fp_tree.specs.declared.source.Source.{Source}
 use Rattle.fp_tree.specs.declared.name.Qual.{Qual}
@@ -55,14 +57,13 @@ use Rattle.fp_source_parts.proofs.Ids.{AreGiven, GivenThere, have_ids}
 use Rattle.fp_source_parts.proofs.Sized.{kind_has_default, kind_has_size}
 use Rattle.fp_source_parts.proofs.Members.{comes, interface_member_known, member_known}
 use Rattle.fp_source_parts.proofs.Numbered.{MemberNumbered, interface_member_numbered, member_numbered}
-use Rattle.fp_source_parts.proofs.Places.{as_long, same_some_of}
 use Rattle.fp_source_parts.proofs.Positions.{port_lies}
 use Rattle.fp_source_parts.proofs.Whole.{MemberOk, OfPorts, PortOk, given_whole, member_whole, named_there}
 
 -- ---- what is listed has the ids that are written
 
 there_at : {x y : Listed} → GivenThere x.id → Some x ≡ Some y → GivenThere y.id
-there_at h e = subst (λ (l : Listed). GivenThere l.id) (same_some_of e) h
+there_at h e = subst (λ (l : Listed). GivenThere l.id) (same_some e) h
 
 of_commands : (m : WrittenMember) → MemberNumbered m → (j : ℕ) (x : Listed) → slice_get (commands_in m) j ≡ Some x → GivenThere x.id
 of_commands (member.Command c) h zero x e = there_at h.opcode e

@@ -1,10 +1,10 @@
 -- The machines of a source, one item after another.
 use Rattle.std.proofs.Common.{◌≡◌, ℕ, ◌+◌, ◌≤◌, Bool, true, ◌&&◌, List, [], ◌∷◌, ◌++◌, length, flat_map, take, slice_get, Option, Some, None, refl, sym, ap, subst, ◌∙◌}
 use Rattle.std.specs.List.{list_all}
-use Rattle.std.proofs.lemmas.List.{append-nil, take_all}
-use Rattle.std.proofs.lemmas.Grind.{flat_map-append}
+use Rattle.std.proofs.lemmas.List.{take_all}
+use Rattle.std.specs.Option.{option_to_list}
 use Rattle.fp_base.proofs.Bools.{both, join}
-use Rattle.fp_base.proofs.Lists.{take_next}
+use Rattle.fp_base.proofs.Mapped.{flat_next}
 use Rattle.fp_base.specs.declared.value.Value.{Value}
 use Rattle.fp_tree.specs.declared.machine.Behavior.{Behavior}
 use Rattle.fp_tree.specs.declared.source.Source.{Source}
@@ -19,13 +19,8 @@ use Rattle.fp_type_forms.specs.Resolved.{AreResolved, parts_of_item}
 use Rattle.fp_type_forms.specs.Written.{AllAt}
 use Rattle.fp_type_forms.proofs.Adding.{parts_resolved}
 use Rattle.fp_type_forms.proofs.Only.{all_joined}
-use Rattle.fp_component_forms.specs.Taken.{row_of}
 use Rattle.fp_source_parts.specs.Machines.{machine_in, machine_declared}
 use Rattle.fp_source_parts.specs.MachineBuilt.{AreMachinesOf, IsMachine}
-
-flat_next : {A B : Type 0} (f : A → List B) (xs : List A) (k : ℕ) (x : A) → slice_get xs k ≡ Some x → flat_map f (take (k + 1) xs) ≡ flat_map f (take k xs) ++ f x
-flat_next f xs k x at =
-    ap (flat_map f) (take_next xs k x at) ∙ flat_map-append f (take k xs) (x ∷ []) ∙ ap (λ l. flat_map f (take k xs) ++ l) (append-nil (f x))
 
 all_short : (xs ys : List Machine) → list_all machine_is_short xs ≡ true → list_all machine_is_short ys ≡ true → list_all machine_is_short (xs ++ ys) ≡ true
 all_short [] ys h k = k
@@ -34,13 +29,13 @@ all_short (x ∷ xs) ys h k = let parts = both (machine_is_short x) _ h in join 
 module _ (marks : List (Option Value)) (rs : List Resolution) where
   -- what an item gives, whose parts are read from a place on
   abbrev pub GivesMachine : ℕ → Item → Option Machine → Type 0
-  GivesMachine start i one = (source : Source) → AreResolved source marks rs (parts_of_item i) start → AllAt (λ position. IsMachine source) 0 (machine_declared i) (row_of one)
+  GivesMachine start i one = (source : Source) → AreResolved source marks rs (parts_of_item i) start → AllAt (λ position. IsMachine source) 0 (machine_declared i) (option_to_list one)
 
   pub given_by : (start : ℕ) (i j : Item) (one : Option Machine) → i ≡ j → GivesMachine start j one → GivesMachine start i one
   given_by start i j one is h = subst (λ (x : Item). GivesMachine start x one) (sym is) h
 
   abbrev pub ModelGives : ℕ → Path → ModelDef → Option Machine → Type 0
-  ModelGives start scope d one = (source : Source) → AreResolved source marks rs (model_own_items scope d) start → AllAt (λ position. IsMachine source) 0 (machine_in scope d) (row_of one)
+  ModelGives start scope d one = (source : Source) → AreResolved source marks rs (model_own_items scope d) start → AllAt (λ position. IsMachine source) 0 (machine_in scope d) (option_to_list one)
 
   pub model_gives : (start : ℕ) (scope : Path) (d e : ModelDef) (one : Option Machine) → d ≡ e → ModelGives start scope e one → ModelGives start scope d one
   model_gives start scope d e one is h = subst (λ (x : ModelDef). ModelGives start scope x one) (sym is) h
@@ -60,15 +55,15 @@ module _ (marks : List (Option Value)) (rs : List Resolution) where
       short = ap (list_all machine_is_short) e;
     }
 
-    pub next_given : (k : ℕ) (i : Item) (old new : List Machine) (one : Option Machine) → slice_get is k ≡ Some i → new ≡ old ++ row_of one → AreGiven k old
-        → GivesMachine (k + 1) i one → list_all machine_is_short (row_of one) ≡ true → AreGiven (k + 1) new
+    pub next_given : (k : ℕ) (i : Item) (old new : List Machine) (one : Option Machine) → slice_get is k ≡ Some i → new ≡ old ++ option_to_list one → AreGiven k old
+        → GivesMachine (k + 1) i one → list_all machine_is_short (option_to_list one) ≡ true → AreGiven (k + 1) new
     next_given k i old new one at made before here short = record {
       given = λ source laid h.
           subst (λ l. AllAt (λ position. IsMachine source) 0 l new) (sym (flat_next machine_declared is k i at))
           (subst (λ (l : List Machine). AllAt (λ position. IsMachine source) 0 (flat_map machine_declared (take k is) ++ machine_declared i) l) (sym made)
-          (all_joined (IsMachine source) 0 0 (flat_map machine_declared (take k is)) (machine_declared i) old (row_of one) (before.given source laid h)
+          (all_joined (IsMachine source) 0 0 (flat_map machine_declared (take k is)) (machine_declared i) old (option_to_list one) (before.given source laid h)
           (here source (parts_resolved source marks rs is k i laid at h))));
-      short = ap (list_all machine_is_short) made ∙ all_short old (row_of one) before.short short;
+      short = ap (list_all machine_is_short) made ∙ all_short old (option_to_list one) before.short short;
     }
 
     pub all_given : (k : ℕ) (ms : List Machine) → length is ≤ k → GiveFirst k ms → (source : Source) → is ≡ items source → AreResolved source marks rs is 0 → AreMachinesOf source ms

@@ -1,5 +1,6 @@
 -- Each import that is written is of one of the interfaces.
 use Rattle.std.proofs.Common.{ℕ, ◌<◌, length, flat_map, subst}
+use Rattle.fp_topology_forms.proofs.Places.{second_read, as_long}
 use Rattle.fp_tree.specs.declared.source.Source.{Source}
 use Rattle.fp_tree.specs.declared.component.InterfacePart.{InterfacePart}
 use Rattle.fp_tree.specs.declared.component.Part.{Part}
@@ -12,7 +13,6 @@ use Rattle.fp_component_rules.specs.Gifts.{AreWithin}
 use Rattle.fp_component_rules.specs.Lists.{AreImportsWithin}
 use Rattle.fp_component_forms.specs.declared.writing.WrittenSource.{WrittenSource}
 use Rattle.fp_component_forms.specs.Written.{ComponentIs, InterfaceIs, IsWrittenSource, MemberIs, components, interfaces, member_part, part_of}
-use Rattle.fp_source_parts.proofs.Places.{as_long, second_read}
 use Rattle.fp_source_parts.proofs.Positions.{interface_lies}
 
 module _ (source : Source) (w : WrittenSource) (are : IsWrittenSource source w) where

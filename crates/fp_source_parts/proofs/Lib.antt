@@ -12,7 +12,6 @@ pub mod Members
 mod Names
 pub mod Numbered
 pub mod Once
-pub mod Places
 pub mod Positions
 pub mod Sized
 pub mod Taken

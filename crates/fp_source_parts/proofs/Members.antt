@@ -1,6 +1,7 @@
 -- Each written member is that of a part of the source.
 use Rattle.std.proofs.Common.{◌≡◌, ℕ, zero, suc, List, [], ◌∷◌, ◌++◌, flat_map, slice_get, Option, Some, refl, subst}
-use Rattle.fp_base.proofs.Lists.{of_item}
+use Rattle.fp_topology_forms.proofs.Places.{second_read}
+use Rattle.fp_base.proofs.Lists.{of_item, one_item}
 use Rattle.fp_base.specs.declared.value.Value.{Value}
 use Rattle.fp_tree.specs.declared.source.Source.{Source}
 use Rattle.fp_tree.specs.declared.component.Component.{Component}
@@ -21,8 +22,7 @@ use Rattle.fp_written_parts.specs.declared.member.WrittenComponent.{WrittenCompo
 use Rattle.fp_written_parts.specs.declared.member.WrittenInterface.{WrittenInterface}
 use Rattle.fp_written_parts.specs.declared.member.WrittenMember.{WrittenMember}
 use Rattle.fp_component_forms.specs.declared.writing.WrittenSource.{WrittenSource}
-use Rattle.fp_component_forms.specs.Written.{ComponentIs, InterfaceIs, IsWrittenSource, MemberIs, Scoped, component_in, component_of, components, interface_in, interface_of, interfaces, member_part, part_of}
-use Rattle.fp_source_parts.proofs.Places.{second_read}
+use Rattle.fp_component_forms.specs.Written.{ComponentIs, InterfaceIs, IsWrittenSource, MemberIs, Scoped, component_in, component_declared, components, interface_in, interface_declared, interfaces, member_part, part_of}
 use Rattle.fp_source_parts.proofs.Values.{InnerKnown, PartKnown, component_known, interface_known}
 
 -- ---- what is read off a list, element by element
@@ -52,15 +52,11 @@ pub record StandsAt (source : Source) (outside : Path) (d : ModelDef) : Type 0 w
   pub k : ℕ
   pub at : slice_get (items source) k ≡ Some (item.Declared (declaration outside d))
 
-one_there : {A : Type 0} {x y : A} (j : ℕ) → slice_get (x ∷ []) j ≡ Some y → x ≡ y
-one_there zero e = cc
-one_there (suc j) e = absurd (cc)
-
-in_item : (i : Item) (s : Scoped Component) (j : ℕ) → slice_get (component_of i) j ≡ Some s → i ≡ item.Declared (declaration s.scope (component s.node))
+in_item : (i : Item) (s : Scoped Component) (j : ℕ) → slice_get (component_declared i) j ≡ Some s → i ≡ item.Declared (declaration s.scope (component s.node))
 in_item (item.Declared d) s j e = of_model d.scope d.definition refl e
   where
     of_model : (scope : Path) (m : ModelDef) → d ≡ declaration scope m → slice_get (component_in scope m) j ≡ Some s → item.Declared d ≡ item.Declared (declaration s.scope (component s.node))
-    of_model scope (component c) is e = let same = one_there j e in cc
+    of_model scope (component c) is e = let same = one_item j e in cc
     of_model scope (machine m) is e = absurd (cc)
     of_model scope (interface x) is e = absurd (cc)
     of_model scope (instance x) is e = absurd (cc)
@@ -70,11 +66,11 @@ in_item (item.Enumerated x) s j e = absurd (cc)
 in_item (item.Used since n) s j e = absurd (cc)
 in_item (item.Written since p) s j e = absurd (cc)
 
-interface_item : (i : Item) (s : Scoped Interface) (j : ℕ) → slice_get (interface_of i) j ≡ Some s → i ≡ item.Declared (declaration s.scope (interface s.node))
+interface_item : (i : Item) (s : Scoped Interface) (j : ℕ) → slice_get (interface_declared i) j ≡ Some s → i ≡ item.Declared (declaration s.scope (interface s.node))
 interface_item (item.Declared d) s j e = of_model d.scope d.definition refl e
   where
     of_model : (scope : Path) (m : ModelDef) → d ≡ declaration scope m → slice_get (interface_in scope m) j ≡ Some s → item.Declared d ≡ item.Declared (declaration s.scope (interface s.node))
-    of_model scope (interface x) is e = let same = one_there j e in cc
+    of_model scope (interface x) is e = let same = one_item j e in cc
     of_model scope (component c) is e = absurd (cc)
     of_model scope (machine m) is e = absurd (cc)
     of_model scope (instance x) is e = absurd (cc)
@@ -86,12 +82,12 @@ interface_item (item.Written since p) s j e = absurd (cc)
 
 component_stands : (source : Source) (v : ℕ) (s : Scoped Component) → slice_get (components source) v ≡ Some s → StandsAt source s.scope (component s.node)
 component_stands source v s at =
-    let c = comes component_of (items source) v s at in
+    let c = comes component_declared (items source) v s at in
     record { k = c.k; at = subst (λ (i : Item). slice_get (items source) c.k ≡ Some i) (in_item c.x s c.j c.there) c.here }
 
 interface_stands : (source : Source) (v : ℕ) (s : Scoped Interface) → slice_get (interfaces source) v ≡ Some s → StandsAt source s.scope (interface s.node)
 interface_stands source v s at =
-    let c = comes interface_of (items source) v s at in
+    let c = comes interface_declared (items source) v s at in
     record { k = c.k; at = subst (λ (i : Item). slice_get (items source) c.k ≡ Some i) (interface_item c.x s c.j c.there) c.here }
 
 -- ---- parts
@@ -100,16 +96,16 @@ itself : (x p : Part) (j : ℕ) → slice_get (member_part x) j ≡ Some p → x
 itself (part.Def d) p j e = absurd (cc)
 itself (part.Machine m) p j e = absurd (cc)
 itself (part.Include i) p j e = absurd (cc)
-itself (part.General x) p j e = one_there j e
-itself (part.Special x) p j e = one_there j e
-itself (part.Internal x) p j e = one_there j e
-itself (part.Command x) p j e = one_there j e
-itself (part.Event x) p j e = one_there j e
-itself (part.Channel x) p j e = one_there j e
-itself (part.Param x) p j e = one_there j e
-itself (part.Match x) p j e = one_there j e
-itself (part.Running x) p j e = one_there j e
-itself (part.Import x) p j e = one_there j e
+itself (part.General x) p j e = one_item j e
+itself (part.Special x) p j e = one_item j e
+itself (part.Internal x) p j e = one_item j e
+itself (part.Command x) p j e = one_item j e
+itself (part.Event x) p j e = one_item j e
+itself (part.Channel x) p j e = one_item j e
+itself (part.Param x) p j e = one_item j e
+itself (part.Match x) p j e = one_item j e
+itself (part.Running x) p j e = one_item j e
+itself (part.Import x) p j e = one_item j e
 
 -- what is known of a member of a component, and of one of an interface
 pub record MemberKnown (source : Source) (m : WrittenMember) : Type 0 where

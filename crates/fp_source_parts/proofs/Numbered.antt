@@ -1,6 +1,7 @@
 -- Where expressions have values, and numbers where numbers are wanted, each number that a written member has is there.
 use Rattle.std.proofs.Common.{◌≡◌, ℕ, zero, suc, ℤ, List, [], ◌∷◌, ◌++◌, flat_map, slice_get, Option, Some, None, refl, sym, ap, subst, inl, inr}
 use Rattle.std.specs.List.{AllByRecursion as Each}
+use Rattle.fp_topology_forms.proofs.Places.{second_read}
 use Rattle.fp_base.proofs.Lists.{each_before, each_behind, of_item}
 use Rattle.fp_base.specs.declared.place.Span.{Span}
 use Rattle.fp_base.specs.declared.value.Value.{Value}
@@ -33,11 +34,11 @@ use Rattle.fp_written_parts.specs.declared.dictionary.WrittenChannel.{WrittenCha
 use Rattle.fp_written_parts.specs.declared.dictionary.WrittenParam.{WrittenParam}
 use Rattle.fp_written_parts.specs.declared.member.WrittenMember.{WrittenMember}
 use Rattle.fp_written_parts.specs.declared.member.WrittenMember.TheVariants as member
+use Rattle.fp_written_parts.specs.Numbered.{HasNumber}
 use Rattle.fp_component_forms.specs.Written.{BothOrNeither, ChannelIs, GeneralIs, GivenIs, LimitIs, MemberIs, QueueIs, SideIs, part_of}
-use Rattle.fp_components.specs.Whole.{AreWholeLimits, HasNumber}
+use Rattle.fp_components.specs.Whole.{AreWholeLimits}
 use Rattle.fp_source_parts.proofs.Ids.{GivenThere}
 use Rattle.fp_source_parts.proofs.Members.{InterfaceMemberKnown, MemberKnown}
-use Rattle.fp_source_parts.proofs.Places.{second_read}
 use Rattle.fp_part_values.proofs.Standing.{Stands}
 use Rattle.fp_source_parts.proofs.Values.{InnerKnown, Numbered, PartKnown}
 

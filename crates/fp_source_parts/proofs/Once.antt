@@ -1,10 +1,9 @@
 -- What is written of the ports, interfaces and components of a source is one thing.
 use Rattle.std.proofs.Common.{◌≡◌, ℕ, Bool, true, false, List, ◌++◌, Option, Some, None, flat_map, refl, sym, ap, ◌∙◌}
-use Rattle.std.specs.Prelude.{ℤ}
+use Rattle.fp_topology_forms.proofs.Once.{one_of_both, one_given, one_optional, one_place}
 use Rattle.fp_base.specs.declared.place.Span.{Span}
 use Rattle.fp_base.specs.declared.value.Value.{Value}
 use Rattle.fp_tree.specs.declared.source.Source.{Source}
-use Rattle.fp_tree.specs.declared.name.Qual.{Qual}
 use Rattle.fp_tree.specs.declared.expression.Expr.{Expr}
 use Rattle.fp_tree.specs.declared.type_name.TypeName.{TypeName}
 use Rattle.fp_tree.specs.declared.part.Formal.{Formal}
@@ -29,16 +28,13 @@ use Rattle.fp_tree.specs.declared.dictionary.Limits.{Limits}
 use Rattle.fp_tree.specs.declared.dictionary.ParamDef.{ParamDef}
 use Rattle.fp_tables.specs.declared.component.Special.{Special as Kind}
 use Rattle.fp_tables.specs.declared.kind.Kind.{Kind as Type_}
-use Rattle.fp_meaning.specs.declared.group.Group.{Group}
 use Rattle.fp_meaning.specs.Names.{Path, definitions}
 use Rattle.fp_meaning.specs.Layout.{component_scope}
-use Rattle.fp_meaning.specs.Values.{Val, names_of, opened}
-use Rattle.fp_meaning.proofs.Meanings.{neither_less, one_meaning}
+use Rattle.fp_meaning.specs.Values.{Val, opened}
+use Rattle.fp_meaning.proofs.Meanings.{neither_less}
 use Rattle.fp_meaning.proofs.OneValue.{one_value}
-use Rattle.fp_type_forms.specs.Written.{NumberIs}
-use Rattle.fp_type_forms.proofs.OneForm.{one_kind, one_number, same_answer}
+use Rattle.fp_type_forms.proofs.OneForm.{one_kind, same_answer}
 use Rattle.fp_type_forms.proofs.Only.{all_one}
-use Rattle.fp_written_parts.specs.declared.port.Given.{Given}
 use Rattle.fp_written_parts.specs.declared.port.QueueWords.{QueueWords}
 use Rattle.fp_written_parts.specs.declared.port.WrittenFormal.{WrittenFormal}
 use Rattle.fp_written_parts.specs.declared.port.WrittenPortDef.{WrittenPortDef}
@@ -56,16 +52,7 @@ use Rattle.fp_written_parts.specs.declared.member.WrittenMember.TheVariants as m
 use Rattle.fp_written_parts.specs.declared.member.WrittenInterface.{WrittenInterface}
 use Rattle.fp_written_parts.specs.declared.member.WrittenComponent.{WrittenComponent}
 use Rattle.fp_component_forms.specs.declared.writing.WrittenSource.{WrittenSource}
-use Rattle.fp_component_forms.specs.Written.{BothOrNeither, CommandIs, ComponentIs, DefaultIs, EventIs, ChannelIs, FormalIs, FormalsAre, GeneralIs, GivenIs, ImportIs, InterfaceIs, InternalIs, IsWrittenSource, LimitIs, LimitsAre, MatchIs, MemberIs, ParamIs, PortDefIs, PositionIs, QueueIs, RunningIs, Scoped, SideIs, SpecialIs, SpecialTypeIs, TypeNameIs, before, components, interfaces, limits_in, member_part, part_of, port_definitions, port_names}
-
--- both there and one, or neither there
-one_of_both : {A B : Type 0} (R : A → B → Type 0) → ((x : A) (y z : B) → R x y → R x z → y ≡ z) → (o : Option A) (p q : Option B) → BothOrNeither R o p → BothOrNeither R o q → p ≡ q
-one_of_both R one None None None h g = refl
-one_of_both R one None None (Some z) h g = absurd g
-one_of_both R one None (Some y) q h g = absurd h
-one_of_both R one (Some x) None q h g = absurd h
-one_of_both R one (Some x) (Some y) None h g = absurd g
-one_of_both R one (Some x) (Some y) (Some z) h g = ap (λ w. Some w) (one x y z h g)
+use Rattle.fp_component_forms.specs.Written.{CommandIs, ComponentIs, DefaultIs, EventIs, ChannelIs, FormalIs, FormalsAre, GeneralIs, ImportIs, InterfaceIs, InternalIs, IsWrittenSource, LimitIs, LimitsAre, MatchIs, MemberIs, ParamIs, PortDefIs, PositionIs, QueueIs, RunningIs, Scoped, SideIs, SpecialIs, SpecialTypeIs, TypeNameIs, components, interfaces, limits_in, member_part, part_of, port_definitions, port_names}
 
 -- the first position of a name
 one_position : (names : List (List ℕ)) (special : Kind) (p q : Option ℕ) → SpecialTypeIs names special p → SpecialTypeIs names special q → p ≡ q
@@ -74,21 +61,7 @@ one_position names special None (Some k) h g = absurd (h k g.0)
 one_position names special (Some j) None h g = absurd (g j h.0)
 one_position names special (Some j) (Some k) h g = ap (λ n. Some n) (neither_less j k (λ l. h.1 k l g.0) (λ l. g.1 j l h.0))
 
-same_given : {m n : Option ℤ} {a b : _} → m ≡ n → a ≡ b → ◌≡◌ {A = Given} (record { number = m; at = a }) (record { number = n; at = b })
-same_given e f = cc
-
 module _ (source : Source) (scope : Path) where
-  one_given : (e : Expr) (g h : Given) → GivenIs source scope e g → GivenIs source scope e h → g ≡ h
-  one_given e g h k l =
-      same_given (same_answer (NumberIs source scope e) g.number h.number (one_number source scope e) k.number l.number) (k.at ∙ sym l.at)
-
-  one_optional : (e : Option Expr) (g h : Option Given) → BothOrNeither (GivenIs source scope) e g → BothOrNeither (GivenIs source scope) e h → g ≡ h
-  one_optional e g h k l = one_of_both (GivenIs source scope) one_given e g h k l
-
-  one_place : (g : Group) (q : Qual) (j k : ℕ) → PositionIs source scope g q j → PositionIs source scope g q k → j ≡ k
-  one_place g q j k h l =
-      h.2 ∙ ap (λ (n : ℕ). before g (definitions source) n) (one_meaning (definitions source) scope (names_of q) g h.0 l.0 h.1 l.1) ∙ sym l.2
-
   one_type : (t : TypeName) (k l : Type_) → TypeNameIs source scope t k → TypeNameIs source scope t l → k ≡ l
   one_type t k l h g = one_kind source scope t.form k l h g
 
@@ -97,7 +70,7 @@ module _ (source : Source) (scope : Path) where
   one_default (Some e) u v h g = same_answer (Val source scope (opened e)) u v (λ x y a b. one_value a b) h g
 
   one_queue : (e : Option Expr) (f : Option Full) (s : Option Span) (p q : QueueWords) → QueueIs source scope e f s p → QueueIs source scope e f s q → p ≡ q
-  one_queue e f s p q h g = same (one_optional e p.priority q.priority h.priority g.priority) (h.full ∙ sym g.full) (h.word ∙ sym g.word)
+  one_queue e f s p q h g = same (one_optional source scope e p.priority q.priority h.priority g.priority) (h.full ∙ sym g.full) (h.word ∙ sym g.word)
     where
       same : p.priority ≡ q.priority → p.full ≡ q.full → p.word ≡ q.word → p ≡ q
       same a b c =
@@ -127,8 +100,8 @@ module _ (source : Source) (scope : Path) where
 
   one_general : (p : General) (v w : WrittenPort) → GeneralIs source scope p v → GeneralIs source scope p w → v ≡ w
   one_general p v w h g =
-      same_port v w (h.name ∙ sym g.name) (h.at ∙ sym g.at) (h.begins ∙ sym g.begins) (h.role ∙ sym g.role) (one_optional p.size v.size w.size h.size g.size)
-      (one_of_both (PositionIs source scope _) (one_place _) p.of v.of w.of h.of g.of) (h.formals ∙ sym g.formals) (one_queue p.priority p.full p.queue_word v.queue w.queue h.queue g.queue)
+      same_port v w (h.name ∙ sym g.name) (h.at ∙ sym g.at) (h.begins ∙ sym g.begins) (h.role ∙ sym g.role) (one_optional source scope p.size v.size w.size h.size g.size)
+      (one_of_both (PositionIs source scope _) (one_place source scope _) p.of v.of w.of h.of g.of) (h.formals ∙ sym g.formals) (one_queue p.priority p.full p.queue_word v.queue w.queue h.queue g.queue)
 
   one_special : (p : Special) (v w : WrittenPort) → SpecialIs source scope p v → SpecialIs source scope p w → v ≡ w
   one_special p v w h g =
@@ -141,7 +114,7 @@ module _ (source : Source) (scope : Path) where
       (one_formals p.formals v.formals w.formals h.formals g.formals) (one_queue p.priority p.full p.queue_word v.queue w.queue h.queue g.queue)
 
   one_import : (i : Import) (v w : WrittenImport) → ImportIs source scope i v → ImportIs source scope i w → v ≡ w
-  one_import i v w h g = same (one_place _ i.of v.interface w.interface h.interface g.interface) (h.at ∙ sym g.at)
+  one_import i v w h g = same (one_place source scope _ i.of v.interface w.interface h.interface g.interface) (h.at ∙ sym g.at)
     where
       same : v.interface ≡ w.interface → v.at ≡ w.at → v ≡ w
       same a b =
@@ -154,7 +127,7 @@ module _ (source : Source) (scope : Path) where
   one_command : (c : Command) (v w : WrittenCommand) → CommandIs source scope c v → CommandIs source scope c w → v ≡ w
   one_command c v w h g =
       same (h.name ∙ sym g.name) (h.at ∙ sym g.at) (h.begins ∙ sym g.begins) (h.kind ∙ sym g.kind) (one_formals c.formals v.formals w.formals h.formals g.formals)
-      (one_optional c.opcode v.opcode w.opcode h.opcode g.opcode) (one_queue c.priority c.full c.queue_word v.queue w.queue h.queue g.queue) (h.note ∙ sym g.note)
+      (one_optional source scope c.opcode v.opcode w.opcode h.opcode g.opcode) (one_queue c.priority c.full c.queue_word v.queue w.queue h.queue g.queue) (h.note ∙ sym g.note)
     where
       same : v.name ≡ w.name → v.at ≡ w.at → v.begins ≡ w.begins → v.kind ≡ w.kind → v.formals ≡ w.formals → v.opcode ≡ w.opcode → v.queue ≡ w.queue → v.note ≡ w.note → v ≡ w
       same a b c d e f g h =
@@ -164,8 +137,8 @@ module _ (source : Source) (scope : Path) where
 
   one_event : (e : Event) (v w : WrittenEvent) → EventIs source scope e v → EventIs source scope e w → v ≡ w
   one_event e v w h g =
-      same (h.name ∙ sym g.name) (h.at ∙ sym g.at) (one_formals e.formals v.formals w.formals h.formals g.formals) (h.severity ∙ sym g.severity) (one_optional e.id v.id w.id h.id g.id)
-      (h.format ∙ sym g.format) (h.format_at ∙ sym g.format_at) (one_optional e.throttle v.throttle w.throttle h.throttle g.throttle) (h.note ∙ sym g.note)
+      same (h.name ∙ sym g.name) (h.at ∙ sym g.at) (one_formals e.formals v.formals w.formals h.formals g.formals) (h.severity ∙ sym g.severity) (one_optional source scope e.id v.id w.id h.id g.id)
+      (h.format ∙ sym g.format) (h.format_at ∙ sym g.format_at) (one_optional source scope e.throttle v.throttle w.throttle h.throttle g.throttle) (h.note ∙ sym g.note)
     where
       same : v.name ≡ w.name → v.at ≡ w.at → v.formals ≡ w.formals → v.severity ≡ w.severity → v.id ≡ w.id → v.format ≡ w.format → v.format_at ≡ w.format_at → v.throttle ≡ w.throttle
           → v.note ≡ w.note → v ≡ w
@@ -175,7 +148,7 @@ module _ (source : Source) (scope : Path) where
           cc
 
   one_limit : (high : Bool) (l : Limit) (v w : WrittenLimit) → LimitIs source scope high l v → LimitIs source scope high l w → v ≡ w
-  one_limit high l v w h g = same (h.side ∙ sym g.side) (h.color ∙ sym g.color) (h.at ∙ sym g.at) (one_given l.value v.value w.value h.value g.value)
+  one_limit high l v w h g = same (h.side ∙ sym g.side) (h.color ∙ sym g.color) (h.at ∙ sym g.at) (one_given source scope l.value v.value w.value h.value g.value)
     where
       same : v.high ≡ w.high → v.color ≡ w.color → v.at ≡ w.at → v.value ≡ w.value → v ≡ w
       same a b c d =
@@ -192,7 +165,7 @@ module _ (source : Source) (scope : Path) where
 
   one_channel : (t : Channel) (v w : WrittenChannel) → ChannelIs source scope t v → ChannelIs source scope t w → v ≡ w
   one_channel t v w h g =
-      same (h.name ∙ sym g.name) (h.at ∙ sym g.at) (one_type t.of v.kind w.kind h.kind g.kind) (one_optional t.id v.id w.id h.id g.id) (h.update ∙ sym g.update) (h.format ∙ sym g.format)
+      same (h.name ∙ sym g.name) (h.at ∙ sym g.at) (one_type t.of v.kind w.kind h.kind g.kind) (one_optional source scope t.id v.id w.id h.id g.id) (h.update ∙ sym g.update) (h.format ∙ sym g.format)
       (one_limits t.low t.high v.limits w.limits h.limits g.limits) (h.note ∙ sym g.note)
     where
       same : v.name ≡ w.name → v.at ≡ w.at → v.kind ≡ w.kind → v.id ≡ w.id → v.update ≡ w.update → v.format ≡ w.format → v.limits ≡ w.limits → v.note ≡ w.note → v ≡ w
@@ -204,7 +177,7 @@ module _ (source : Source) (scope : Path) where
   one_param : (p : ParamDef) (v w : WrittenParam) → ParamIs source scope p v → ParamIs source scope p w → v ≡ w
   one_param p v w h g =
       same (h.name ∙ sym g.name) (h.at ∙ sym g.at) (one_type p.of v.kind w.kind h.kind g.kind) (one_default p.default v.default w.default h.default g.default)
-      (one_optional p.id v.id w.id h.id g.id) (one_optional p.set v.set w.set h.set g.set) (one_optional p.save v.save w.save h.save g.save) (h.note ∙ sym g.note)
+      (one_optional source scope p.id v.id w.id h.id g.id) (one_optional source scope p.set v.set w.set h.set g.set) (one_optional source scope p.save v.save w.save h.save g.save) (h.note ∙ sym g.note)
     where
       same : v.name ≡ w.name → v.at ≡ w.at → v.kind ≡ w.kind → v.default ≡ w.default → v.id ≡ w.id → v.set ≡ w.set → v.save ≡ w.save → v.note ≡ w.note → v ≡ w
       same a b c d e f g h =
@@ -225,7 +198,7 @@ module _ (source : Source) (scope : Path) where
 
   one_running : (r : Running) (v w : WrittenRunning) → RunningIs source scope r v → RunningIs source scope r w → v ≡ w
   one_running r v w h g =
-      same (h.name ∙ sym g.name) (h.at ∙ sym g.at) (h.begins ∙ sym g.begins) (one_place _ r.of v.machine w.machine h.machine g.machine)
+      same (h.name ∙ sym g.name) (h.at ∙ sym g.at) (h.begins ∙ sym g.begins) (one_place source scope _ r.of v.machine w.machine h.machine g.machine)
       (one_queue r.priority r.full r.queue_word v.queue w.queue h.queue g.queue)
     where
       same : v.name ≡ w.name → v.at ≡ w.at → v.begins ≡ w.begins → v.machine ≡ w.machine → v.queue ≡ w.queue → v ≡ w

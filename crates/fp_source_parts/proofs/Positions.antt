@@ -1,5 +1,6 @@
 -- A name means one of the definitions of its group: its position among them lies in their list.
-use Rattle.std.proofs.Common.{◌≡◌, ℕ, zero, suc, ◌+◌, ◌<◌, Bool, true, cond, List, [], ◌∷◌, ◌++◌, length, flat_map, take, slice_get, Some, refl, ap, ◌∙◌, arith, length-append}
+use Rattle.std.proofs.Common.{◌≡◌, ℕ, ◌<◌, cond, List, [], ◌∷◌, length, take, refl, arith}
+use Rattle.fp_topology_forms.proofs.Places.{position_lies}
 use Rattle.fp_tree.specs.declared.source.Source.{Source}
 use Rattle.fp_tree.specs.declared.definition.Def.{Def}
 use Rattle.fp_tree.specs.declared.definition.Def.TheVariants as def
@@ -9,62 +10,16 @@ use Rattle.fp_meaning.specs.declared.group.Group.TheVariants as group
 use Rattle.fp_meaning.specs.declared.item.Item.{Item}
 use Rattle.fp_meaning.specs.declared.item.Item.TheVariants as item
 use Rattle.fp_meaning.specs.declared.names.Definition.{Definition}
-use Rattle.fp_meaning.specs.Layout.{items}
 use Rattle.fp_meaning.specs.Meaning.{Means}
 use Rattle.fp_meaning.specs.Names.{Path, definitions, definitions_of, defined, group_of, model_group, model_name, name_of}
 use Rattle.fp_meaning.specs.Values.{names_of}
 use Rattle.fp_meaning.specs.Sites.{ModelDef, machine, component, interface, instance, topology}
 use Rattle.fp_type_forms.specs.Written.{is_kind, types, types_among, types_before, types_in, types_of}
-use Rattle.fp_component_forms.specs.Written.{PositionIs, among, before, interface_in, interface_of, interfaces, port_definitions, port_in, port_of, same_group}
-
-same_some_of : {x y : Definition} → ◌≡◌ {A = _} (Some x) (Some y) → x ≡ y
-same_some_of e = cc
-
-itself : (g : Group) → same_group g g ≡ true
-itself group.Kind = refl
-itself group.Value = refl
-itself group.Port = refl
-itself group.Component = refl
-itself group.Instance = refl
-itself group.Topology = refl
-itself group.Machine = refl
-itself group.Interface = refl
-
--- ---- those of a group, of which as many stand before one as its position says
-
-among_joined : (g : Group) (ds es : List Definition) → among g (ds ++ es) ≡ among g ds + among g es
-among_joined g [] es = omega arith
-among_joined g (d ∷ ds) es = let rest = among_joined g ds es in omega arith
-
-before_lies : (g : Group) (ds : List Definition) (n : ℕ) (d : Definition) → slice_get ds n ≡ Some d → same_group g d.group ≡ true → before g ds n < among g ds
-before_lies g [] n d at same = absurd (cc)
-before_lies g (x ∷ ds) zero d at same =
-    let here : ◌≡◌ {A = ℕ} (cond (same_group g x.group) 1 0) 1 = ap (λ (b : Bool). cond b 1 0) (ap (λ (y : Definition). same_group g y.group) (same_some_of at) ∙ same) in
-    omega (arith, here)
-before_lies g (x ∷ ds) (suc n) d at same = let rest = before_lies g ds n d at same in omega (arith, rest)
-
-module _ {A : Type 0} (g : Group) (f : Item → List A) (each : (i : Item) → among g (definitions_of i) ≡ length (f i)) where
-  among_items : (is : List Item) → among g (flat_map definitions_of is) ≡ length (flat_map f is)
-  among_items [] = refl
-  among_items (i ∷ is) =
-      let long = length-append (f i) (flat_map f is) in
-      let split = among_joined g (definitions_of i) (flat_map definitions_of is) in
-      let here = each i in
-      let rest = among_items is in
-      omega (arith, long, split, here, rest)
-
-  -- the position of what a name means in the list of those
-  pub position_lies : (source : Source) (scope : Path) (q : Qual) (position : ℕ) → PositionIs source scope g q position → position < length (flat_map f (items source))
-  position_lies source scope q position h =
-      let named = h.1.meant.named in
-      let within = before_lies g (definitions source) h.0 named.definition named.here (ap (same_group g) named.of_group ∙ itself g) in
-      let all = among_items (items source) in
-      let same = h.2 in
-      omega (arith, within, all, same)
+use Rattle.fp_component_forms.specs.Written.{PositionIs, among, before, interface_in, interface_declared, interfaces, port_definitions, port_in, port_declared, same_group}
 
 -- ---- interfaces, and definitions of ports
 
-one_interface_of : (i : Item) → among group.Interface (definitions_of i) ≡ length (interface_of i)
+one_interface_of : (i : Item) → among group.Interface (definitions_of i) ≡ length (interface_declared i)
 one_interface_of (item.Defined s) = of_definition s.scope s.definition
   where
     of_definition : (scope : Path) (d : Def) → among group.Interface (defined (group_of d) scope (name_of d) ∷ []) ≡ 0
@@ -88,9 +43,9 @@ one_interface_of (item.Used since n) = refl
 one_interface_of (item.Written since p) = refl
 
 pub interface_lies : (source : Source) (scope : Path) (q : Qual) (position : ℕ) → PositionIs source scope group.Interface q position → position < length (interfaces source)
-interface_lies = position_lies group.Interface interface_of one_interface_of
+interface_lies = position_lies group.Interface interface_declared one_interface_of
 
-one_port_of : (i : Item) → among group.Port (definitions_of i) ≡ length (port_of i)
+one_port_of : (i : Item) → among group.Port (definitions_of i) ≡ length (port_declared i)
 one_port_of (item.Defined s) = of_definition s.scope s.definition
   where
     of_definition : (scope : Path) (d : Def) → among group.Port (defined (group_of d) scope (name_of d) ∷ []) ≡ length (port_in scope d)
@@ -114,7 +69,7 @@ one_port_of (item.Used since n) = refl
 one_port_of (item.Written since p) = refl
 
 pub port_lies : (source : Source) (scope : Path) (q : Qual) (position : ℕ) → PositionIs source scope group.Port q position → position < length (port_definitions source)
-port_lies = position_lies group.Port port_of one_port_of
+port_lies = position_lies group.Port port_declared one_port_of
 
 -- ---- types
 

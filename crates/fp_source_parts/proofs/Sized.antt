@@ -3,6 +3,7 @@ use Rattle.std.proofs.Common.{◌≡◌, ℕ, ◌<◌, ◌≤◌, List, length, 
 use Rattle.std.specs.Prelude.{option_map}
 use Rattle.std.proofs.lemmas.List.{length-map}
 use Rattle.std.proofs.lemmas.Option.{slice_get-map}
+use Rattle.fp_topology_forms.proofs.Places.{as_long}
 use Rattle.fp_base.proofs.Spots.{item_below}
 use Rattle.fp_base.specs.declared.value.Value.{Value}
 use Rattle.fp_tree.specs.declared.source.Source.{Source}
@@ -17,7 +18,6 @@ use Rattle.fp_type_sizes.specs.Sizes.{IsOfSize, plain}
 use Rattle.fp_types.specs.Converting.{DefaultIs, empty, plainly, untrue, zero}
 use Rattle.fp_types.specs.Given.{AreTypesGiven}
 use Rattle.fp_type_forms.specs.Written.{AreWritten, IsWritten, KindIs, types, types_before}
-use Rattle.fp_source_parts.proofs.Places.{as_long}
 use Rattle.fp_source_parts.proofs.Positions.{type_lies}
 
 small : 1 ≤ 65536

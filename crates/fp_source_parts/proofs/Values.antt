@@ -29,11 +29,6 @@ use Rattle.fp_part_values.specs.Numbers.{general_numbers, interface_part_numbers
 use Rattle.fp_part_values.specs.FormStanding.{AreValued, NumbersStand}
 use Rattle.fp_part_values.proofs.Standing.{HasValue as IsPlaced, Stands, all_stand, each_given, owned}
 
--- part by part
-pub each_split : {A B : Type 0} (P : B → Type 0) (f : A → List B) (xs : List A) → Each P (flat_map f xs) → Each (λ x. Each P (f x)) xs
-each_split P f [] h = tt
-each_split P f (x ∷ xs) h = (each_before P (f x) (flat_map f xs) h, each_split P f xs (each_behind P (f x) (flat_map f xs) h))
-
 module _ (source : Source) where
   abbrev pub HasValue : Path → Expr → Type 0
   HasValue scope e = (v : Value) × Val source scope (opened e) v

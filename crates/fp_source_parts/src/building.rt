@@ -1,5 +1,6 @@
 ghost use Rattle.std.specs.Prelude.{◌≡◌, ◌++◌, IfOk, Some, true};
 ghost use Rattle.std.specs.List.{list_all};
+ghost use Rattle.std.specs.Option.{option_to_list};
 ghost use Rattle.fp_meaning.specs.Layout.{behavior_items, items as laid_out, model_own_items};
 ghost use Rattle.fp_meaning.specs.Names.{Path, in_optional};
 ghost use Rattle.fp_meaning.specs.Read.{read};
@@ -7,7 +8,6 @@ ghost use Rattle.fp_tables.specs.Positions.{machine_is_short};
 ghost use Rattle.fp_tree.specs.declared.source.Source.{Source};
 ghost use Rattle.fp_type_forms.specs.Resolved.{AreResolved, parts_of_item};
 ghost use Rattle.fp_type_forms.specs.Written.{AllAt};
-ghost use Rattle.fp_component_forms.specs.Taken.{row_of};
 ghost use Rattle.fp_component_forms.specs.Written.{qualified, scoped};
 ghost use Rattle.fp_source_parts.specs.Machines.{machine_in, machine_declared as those_of};
 ghost use Rattle.fp_source_parts.specs.MachineBuilt.{AreMachinesOf, IsMachine};
@@ -42,7 +42,7 @@ pub fn machines_built(
 
 /// With one more behind them, where it is there.
 fn with_optional(machines: Row<Machine>, one: Option<Machine>) -> Result<Row<Machine>, NoMemory>
-    ensures { IfOk result (λ more. more ≡ machines ++ row_of one) }
+    ensures { IfOk result (λ more. more ≡ machines ++ option_to_list one) }
 {
     match one {
         Some(one) => with_one(machines, one),
@@ -51,7 +51,7 @@ fn with_optional(machines: Row<Machine>, one: Option<Machine>) -> Result<Row<Mac
 }
 
 fn with_one(machines: Row<Machine>, one: Machine) -> Result<Row<Machine>, NoMemory>
-    ensures { IfOk result (λ more. more ≡ machines ++ row_of (Some one)) }
+    ensures { IfOk result (λ more. more ≡ machines ++ option_to_list (Some one)) }
 {
     let mut machines = machines;
     machines.push(one)?;
@@ -66,8 +66,8 @@ fn machine_among(
     marks: &[Option<Value>],
     start: usize,
 ) -> Result<Option<Machine>, NoMemory>
-    ensures made { IfOk result (λ one. (source : Source) → AreResolved source marks.now resolutions.now (parts_of_item item.now) start → AllAt (λ position. IsMachine source) 0 (those_of item.now) (row_of one)) }
-    ensures short { IfOk result (λ one. list_all machine_is_short (row_of one) ≡ true) }
+    ensures made { IfOk result (λ one. (source : Source) → AreResolved source marks.now resolutions.now (parts_of_item item.now) start → AllAt (λ position. IsMachine source) 0 (those_of item.now) (option_to_list one)) }
+    ensures short { IfOk result (λ one. list_all machine_is_short (option_to_list one) ≡ true) }
 {
     match item {
         Item::Defined(_) => Ok(None),
@@ -85,8 +85,8 @@ fn declared_machine(
     marks: &[Option<Value>],
     start: usize,
 ) -> Result<Option<Machine>, NoMemory>
-    ensures made { IfOk result (λ one. (source : Source) → AreResolved source marks.now resolutions.now (model_own_items declared.now.scope declared.now.definition) start → AllAt (λ position. IsMachine source) 0 (machine_in declared.now.scope declared.now.definition) (row_of one)) }
-    ensures short { IfOk result (λ one. list_all machine_is_short (row_of one) ≡ true) }
+    ensures made { IfOk result (λ one. (source : Source) → AreResolved source marks.now resolutions.now (model_own_items declared.now.scope declared.now.definition) start → AllAt (λ position. IsMachine source) 0 (machine_in declared.now.scope declared.now.definition) (option_to_list one)) }
+    ensures short { IfOk result (λ one. list_all machine_is_short (option_to_list one) ≡ true) }
 {
     match declared.definition() {
         ModelDef::Machine(machine) => {

@@ -1,9 +1,8 @@
 ghost use Rattle.std.specs.Prelude.{◌≡◌, ℕ, IfErr, IfOk, OnOk, flat_map, map, true};
 ghost use Rattle.std.specs.List.{list_all};
-ghost use Rattle.fp_base.specs.Least.{InSome, IsLeast, IsUnbroken};
+ghost use Rattle.fp_base.specs.Least.{InSome, IsLeast, IsUnbroken, IsStop};
 ghost use Rattle.fp_components.specs.Resolved.{AreComponents, port_def_of};
 ghost use Rattle.fp_components.specs.Whole.{AreWhole};
-ghost use Rattle.fp_consts.specs.Answered.{IsStop};
 ghost use Rattle.fp_dictdefs.specs.Running.{RunningBroken};
 ghost use Rattle.fp_component_rules.specs.Gifts.{AreWithin};
 ghost use Rattle.fp_component_rules.specs.Lists.{AreImportsWithin};

@@ -1,6 +1,5 @@
 ghost use Rattle.std.specs.Prelude.{IfErr, IfOk, OnOk, length};
-ghost use Rattle.fp_base.specs.Least.{IsUnbroken};
-ghost use Rattle.fp_consts.specs.Answered.{IsStop};
+ghost use Rattle.fp_base.specs.Least.{IsUnbroken, IsStop};
 ghost use Rattle.fp_instances.specs.Resolved.{AreInstances};
 ghost use Rattle.fp_source_parts.specs.TopologyBroken.{SourceTopologiesBroken};
 ghost use Rattle.fp_source_parts.specs.TopologyBuilt.{IsDeployment};

@@ -1,11 +1,16 @@
 -- A chain of uses among the types that are given is one of definitions of the source.
-use Rattle.std.proofs.Common.{◌≡◌, ℕ, zero, suc, ◌+◌, ◌-◌, ◌<◌, ◌⊎◌, inl, inr, Bool, true, false, not, ◌&&◌, ◌||◌, List, [], ◌∷◌, ◌++◌, length, map, flat_map, take, drop, slice_get, Option, Some, None, option_map, refl, sym, ap, ◌∙◌, subst, arith}
+use Rattle.std.proofs.Common.{◌≡◌, ℕ, zero, suc, ◌+◌, ◌-◌, ◌<◌, ◌⊎◌, inl, inr, true, false, not, ◌&&◌, ◌||◌, List, [], ◌∷◌, ◌++◌, length, map, flat_map, take, drop, slice_get, Option, Some, None, option_map, refl, sym, ap, ◌∙◌, subst, arith}
 use Rattle.std.specs.List.{list_any}
 use Rattle.std.proofs.lemmas.Grind.{flat_map-append}
 use Rattle.std.proofs.lemmas.List.{take-append-drop}
 use Rattle.std.proofs.lemmas.Option.{slice_get-map, slice_get_within}
-use Rattle.fp_base.proofs.Bools.{both, join, or_cases}
-use Rattle.fp_base.proofs.Options.{mapped_some, one_some, same_some, some_of}
+use Rattle.std.proofs.Math.Nat.{add-zero}
+use Rattle.fp_uses.proofs.Counts.{as_many_counts}
+use Rattle.fp_type_sizes.proofs.NoCycle.{same_named}
+use Rattle.fp_base.proofs.Bools.{both, or_cases, not_so}
+use Rattle.fp_base.proofs.Options.{mapped_some, one_some, same_some, some_of, no_some}
+use Rattle.fp_base.proofs.Passing.{any_found}
+use Rattle.fp_base.proofs.Lists.{one_item}
 use Rattle.fp_base.specs.declared.rule.Rule.TheVariants.{Cycle, ChainTooLong}
 use Rattle.fp_base.specs.Least.{broken_at, IsUnbroken}
 use Rattle.fp_consts.proofs.Tabled.{flat_at}
@@ -22,7 +27,7 @@ use Rattle.fp_tree.specs.declared.type_name.TypeForm.TheVariants as type
 use Rattle.fp_tree.specs.declared.part.EnumConst.{EnumConst}
 use Rattle.fp_tree.specs.declared.part.Field.{Field as Member}
 use Rattle.fp_tables.specs.Chains.{chains_are_short}
-use Rattle.fp_tables.specs.Lists.{all_from, some_and}
+use Rattle.fp_tables.specs.Lists.{some_and}
 use Rattle.fp_tables.specs.Types.{begins_chain, form_at, is_last, kinds_in, uses_constants}
 use Rattle.fp_tables.specs.declared.kind.Kind.{Kind}
 use Rattle.fp_tables.specs.declared.kind.Kind.TheVariants as kind
@@ -31,6 +36,8 @@ use Rattle.fp_tables.specs.declared.kind.Form.TheVariants as form
 use Rattle.fp_tables.specs.declared.kind.Field.{Field}
 use Rattle.fp_tables.specs.declared.kind.Constant.{Constant}
 use Rattle.fp_tables.specs.declared.kind.TypeDef.{TypeDef}
+use Rattle.fp_tables.proofs.Indexed.{all_from_any}
+use Rattle.fp_tables.proofs.Optional.{some_and_of}
 use Rattle.fp_meaning.specs.declared.group.Group.TheVariants as group
 use Rattle.fp_meaning.specs.declared.item.Item.{Item}
 use Rattle.fp_meaning.specs.declared.item.Item.TheVariants as item
@@ -44,9 +51,7 @@ use Rattle.fp_meaning.specs.Owners.{constants_in, counts_of}
 use Rattle.fp_meaning.specs.Sites.{Site, in_optional}
 use Rattle.fp_meaning.specs.Uses.{Uses, by_constant, BrokenByChains}
 use Rattle.fp_type_forms.specs.Written.{AllAt, EnumeratedIs, FieldIs, FormIs, IsWritten, KindIs, ReprIs, TypeHere, types, types_before, types_of}
-use Rattle.fp_type_forms.proofs.Breaking.{any_holds}
 use Rattle.fp_type_forms.proofs.Following.{items_whole}
-use Rattle.fp_type_sizes.proofs.Places.{no_some}
 use Rattle.fp_source_types.specs.Typed.{AreTypesOf}
 use Rattle.fp_source_types.proofs.Counting.{before_one, no_type, type_of, types_at}
 use Rattle.fp_source_types.proofs.Deep.{IsOf}
@@ -55,13 +60,6 @@ use Rattle.fp_source_types.proofs.Meant.{defines_none}
 use Rattle.fp_source_types.proofs.Named.{behind_repr, sited}
 use Rattle.fp_source_types.proofs.Related.{related_at}
 use Rattle.fp_source_types.proofs.Standing.{AllFrom, IsItem, all_behind, all_drop, all_front, before, from_places, item_of, means_used}
-
-same_named : {m n : ℕ} → kind.Named m ≡ kind.Named n → m ≡ n
-same_named e = cc
-
-only_one : {A : Type 0} (x y : A) (j : ℕ) → slice_get (x ∷ []) j ≡ Some y → x ≡ y
-only_one x y zero e = same_some e
-only_one x y (suc j) e = no_some e
 
 -- ---- what stands in a form is used by the definition that has the form
 
@@ -113,13 +111,13 @@ module _ (source : Source) (scope : Path) (u : ℕ) where
       → UsesType source u m
   form_used (def.Abstract d) f j m h is at = no_some (sym (ap (λ (x : Form). slice_get (kinds_in x) j) is) ∙ at)
   form_used (def.Alias d) f j m h is at =
-      kind_used (u + 1) d.target.form is.0 m refl h is.1 (only_one is.0 (kind.Named m) j (sym (ap (λ (x : Form). slice_get (kinds_in x) j) is.2) ∙ at))
+      kind_used (u + 1) d.target.form is.0 m refl h is.1 (one_item j (sym (ap (λ (x : Form). slice_get (kinds_in x) j) is.2) ∙ at))
   form_used (def.Array d) f j m h is at =
       let sizes = expression_items 0 scope d.size in
       let elements = type_items 0 scope d.element in
       let front = all_front (Used source) (sizes ++ elements) (in_optional (expression_items 0 scope) d.default) (u + 1) h in
       kind_used (u + 1) d.element.form is.1 m refl (all_behind (Used source) sizes elements (u + 1) (u + 1) (none_more (u + 1) _ refl) front) is.3
-      (only_one is.1 (kind.Named m) j (sym (ap (λ (x : Form). slice_get (kinds_in x) j) is.4) ∙ at))
+      (one_item j (sym (ap (λ (x : Form). slice_get (kinds_in x) j) is.4) ∙ at))
   form_used (def.Struct d) f j m h is at =
       fields_used (u + 1) 0 j d.fields is.0 m refl (all_front (Used source) (flat_map (field_items scope) d.fields) (in_optional (expression_items 0 scope) d.default) (u + 1) h) is.1
       (sym (ap (λ (x : Form). slice_get (kinds_in x) j) is.2) ∙ at)
@@ -127,7 +125,7 @@ module _ (source : Source) (scope : Path) (u : ℕ) where
       let reprs = in_optional (type_items 0 scope) d.repr in
       let listed = constant_items scope d 0 d.constants in
       let front = all_front (Used source) (reprs ++ listed) (in_optional (expression_items (length d.constants) scope) d.default) (u + 1) h in
-      repr_used d.repr is.0 m (all_front (Used source) reprs listed (u + 1) front) is.2 (only_one is.0 (kind.Named m) j (sym (ap (λ (x : Form). slice_get (kinds_in x) j) is.4) ∙ at))
+      repr_used d.repr is.0 m (all_front (Used source) reprs listed (u + 1) front) is.2 (one_item j (sym (ap (λ (x : Form). slice_get (kinds_in x) j) is.4) ∙ at))
   form_used (def.Constant d) f j m h is at = absurd is
   form_used (def.Port d) f j m h is at = absurd is
 
@@ -160,17 +158,9 @@ module _ (source : Source) (scope : Path) (u : ℕ) where
 
 -- ---- an enumeration uses its first constant
 
-as_counted : (is : List Item) → length (flat_map counts_of is) ≡ length (flat_map definitions_of is)
-as_counted [] = refl
-as_counted (item.Defined s ∷ is) = ap suc (as_counted is)
-as_counted (item.Enumerated e ∷ is) = ap suc (as_counted is)
-as_counted (item.Declared d ∷ is) = ap suc (as_counted is)
-as_counted (item.Used since n ∷ is) = as_counted is
-as_counted (item.Written since w ∷ is) = as_counted is
-
 count_there : (is : List Item) (p : ℕ) (s : Site) → slice_get is p ≡ Some (item.Defined s) → slice_get (flat_map counts_of is) (before is p) ≡ Some (constants_in s.definition)
 count_there is p s at =
-    let many = as_counted (take p is) in
+    let many = as_many_counts (take p is) in
     let index : length (flat_map counts_of (take p is)) + 0 ≡ before is p = omega arith in
     subst (λ (k : ℕ). slice_get (flat_map counts_of is) k ≡ Some (constants_in s.definition)) index (flat_at counts_of is p (item.Defined s) 0 (constants_in s.definition) at refl)
 
@@ -210,27 +200,12 @@ module _ (source : Source) (p : ℕ) (s : Site) (at : slice_get (items source) p
 
 -- ---- chains
 
-some_there : {A : Type 0} (test : A → Bool) (o : Option A) → some_and test o ≡ true → (x : A) × (o ≡ Some x) × (test x ≡ true)
-some_there test None h = absurd (cc)
-some_there test (Some x) h = (x, refl, h)
-
 last_zero : (n : ℕ) → is_last n ≡ true → 0 ≡ n
 last_zero zero h = refl
 last_zero (suc n) h = absurd (cc)
 
-not_of : (b : Bool) → (b ≡ true → ⊥) → not b ≡ true
-not_of true never = absurd (never refl)
-not_of false never = refl
-
-all_of_any : {A : Type 0} (test : ℕ → A → Bool) (n : ℕ) (xs : List A) → ((i : ℕ) (x : A) → test i x ≡ true) → all_from test n xs ≡ true
-all_of_any test n [] each = refl
-all_of_any test n (x ∷ xs) each = join (test n x) (all_from test (suc n) xs) (each n x) (all_of_any test (suc n) xs each)
-
 not_value : group.Value ≡ group.Kind → ⊥
 not_value e = cc
-
-plus_none : (n : ℕ) → n + 0 ≡ n
-plus_none n = omega arith
 
 module _ (ts : List TypeDef) where
   named_begins : (n : ℕ) (k : Kind) → begins_chain ts n k ≡ true → (m : ℕ) × (k ≡ kind.Named m)
@@ -243,7 +218,7 @@ module _ (ts : List TypeDef) where
   unfolding begins_chain
   begins_form zero i e = some_of (form_at ts i) e
   begins_form (suc n) i e =
-      let t = some_there (λ f. (is_last n && uses_constants f) || list_any (begins_chain ts n) (kinds_in f)) (form_at ts i) e in (t.0, t.1)
+      let t = some_and_of (λ f. (is_last n && uses_constants f) || list_any (begins_chain ts n) (kinds_in f)) (form_at ts i) e in (t.0, t.1)
 
 module _ (source : Source) (ts : List TypeDef) (of : AreTypesOf source (map (λ (d : TypeDef). Some d) ts)) where
   -- the type that is given there
@@ -279,7 +254,7 @@ module _ (source : Source) (ts : List TypeDef) (constants : IsUnbroken (Constant
         let t = type_of s.scope s.definition is in
         let here : slice_get (types source) (length (flat_map types_of (take p (items source))) + 0) ≡ Some t.type =
         flat_at types_of (items source) p (item.Defined s) 0 t.type at (ap (λ (l : List TypeHere). slice_get l 0) t.here) in
-        let index : length (flat_map types_of (take p (items source))) + 0 ≡ i = plus_none _ ∙ sym (types_at (items source) p) in
+        let index : length (flat_map types_of (take p (items source))) + 0 ≡ i = add-zero _ ∙ sym (types_at (items source) p) in
         let same : g.0 ≡ t.type = one_some (slice_get (types source) i) g.0 t.type g.1 (subst (λ (k : ℕ). slice_get (types source) k ≡ Some t.type) index here) in
         subst (λ (x : Def). FormIs source s.scope x f) t.of_definition
         (subst (λ (x : Path). FormIs source x t.type.definition f) t.in_scope (subst (λ (x : TypeHere). FormIs source x.scope x.definition f) same g.2))
@@ -297,7 +272,7 @@ module _ (source : Source) (ts : List TypeDef) (constants : IsUnbroken (Constant
         → some_and (λ f. (is_last n && uses_constants f) || list_any (begins_chain ts n) (kinds_in f)) (form_at ts (types_before (definitions source) (before (items source) p))) ≡ true
         → Chained (suc n) (before (items source) p)
     site_chain n off rest e =
-        let t = some_there (λ f. (is_last n && uses_constants f) || list_any (begins_chain ts n) (kinds_in f)) (form_at ts (types_before (definitions source) (before (items source) p))) e in
+        let t = some_and_of (λ f. (is_last n && uses_constants f) || list_any (begins_chain ts n) (kinds_in f)) (form_at ts (types_before (definitions source) (before (items source) p))) e in
         go t.0 (form_here t.0 t.1) (or_cases (is_last n && uses_constants t.0) (list_any (begins_chain ts n) (kinds_in t.0)) t.2)
       where
         go : (f : Form) → FormIs source s.scope s.definition f → ((is_last n && uses_constants f) ≡ true) ⊎ (list_any (begins_chain ts n) (kinds_in f) ≡ true)
@@ -309,7 +284,7 @@ module _ (source : Source) (ts : List TypeDef) (constants : IsUnbroken (Constant
             longer off (constant_used source p s at c.enumeration c.first c.others c.definition c.constants)
             (subst (λ (k : ℕ). Chained k (before (items source) p + 1)) (last_zero n b.0) (constant_alone (before (items source) p + 1) _ there refl))
         go f has (inr h) =
-            let a = any_holds (begins_chain ts n) (kinds_in f) h in
+            let a = any_found (begins_chain ts n) (kinds_in f) h in
             let m = named_begins ts n a.1 a.3 in
             let u = form_used source s.scope (before (items source) p) s.definition f a.0 m.0 parts_used has (a.2 ∙ ap (λ (k : Kind). Some k) m.1) in
             let named : a.1 ≡ kind.Named (types_before (definitions source) u.0) = m.1 ∙ ap (λ (k : ℕ). kind.Named k) u.3 in
@@ -345,7 +320,7 @@ module _ (source : Source) (ts : List TypeDef) (constants : IsUnbroken (Constant
       let m = before (items source) s.at in
       let d = defined (group_of s.site.definition) s.site.scope (name_of s.site.definition) in
       let there : slice_get (definitions source) (m + 0) ≡ Some d = flat_at definitions_of (items source) s.at (item.Defined s.site) 0 d s.here refl in
-      let is : IsOf (items source) group.Kind m = (d, subst (λ (k : ℕ). slice_get (definitions source) k ≡ Some d) (plus_none m) there, s.group) in
+      let is : IsOf (items source) group.Kind m = (d, subst (λ (k : ℕ). slice_get (definitions source) k ≡ Some d) (add-zero m) there, s.group) in
       let number : i ≡ types_before (definitions source) m = s.number ∙ sym (types_at (items source) s.at) in
       (m, is, chain_of n m is (subst (λ (k : ℕ). begins_chain ts n (kind.Named k) ≡ true) number e))
 
@@ -353,4 +328,4 @@ module _ (source : Source) (ts : List TypeDef) (constants : IsUnbroken (Constant
   short i e = let t = definition_chain 256 i e in unbroken (broken_at ChainTooLong t.1.0.place) (t.0, t.1.0, t.1.1, (t.1.2, inr (refl, t.2)))
 
   pub chains_short : chains_are_short ts ≡ true
-  chains_short = all_of_any (λ i (_ : TypeDef). not (begins_chain ts 256 (kind.Named i))) 0 ts (λ i x. not_of (begins_chain ts 256 (kind.Named i)) (short i))
+  chains_short = all_from_any (λ i (_ : TypeDef). not (begins_chain ts 256 (kind.Named i))) 0 ts (λ i x. not_so (begins_chain ts 256 (kind.Named i)) (short i))

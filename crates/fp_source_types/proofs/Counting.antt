@@ -2,6 +2,7 @@
 use Rattle.std.proofs.Common.{◌≡◌, ℕ, suc, ◌+◌, List, [], ◌∷◌, ◌++◌, length, drop, flat_map, take, slice_get, None, Some, refl, sym, ap, ◌∙◌, arith, length-append}
 use Rattle.std.proofs.lemmas.Grind.{flat_map-append}
 use Rattle.std.proofs.lemmas.List.{append-nil, take-append-drop}
+use Rattle.std.proofs.Math.Nat.{zero-add}
 use Rattle.fp_base.proofs.Lists.{take_next}
 use Rattle.fp_tree.specs.declared.definition.Def.{Def}
 use Rattle.fp_tree.specs.declared.definition.Def.TheVariants as def
@@ -20,10 +21,7 @@ take_front : {A : Type 0} (xs ys : List A) → take (length xs) (xs ++ ys) ≡ x
 take_front [] ys = refl
 take_front (x ∷ xs) ys = ap (λ l. x ∷ l) (take_front xs ys)
 
-none_more : (n : ℕ) → 0 + n ≡ n
-none_more n = omega arith
-
-count_of : (scope : Path) (d : Def) → type_count (defined (group_of d) scope (name_of d)) ≡ length (types_in scope d)
+pub count_of : (scope : Path) (d : Def) → type_count (defined (group_of d) scope (name_of d)) ≡ length (types_in scope d)
 count_of scope (def.Constant d) = refl
 count_of scope (def.Abstract d) = refl
 count_of scope (def.Alias d) = refl
@@ -40,7 +38,7 @@ no_type (interface d) e = cc
 no_type (instance d) e = cc
 no_type (topology d) e = cc
 
-nothing_of : (scope : Path) (d : ModelDef) → type_count (defined (model_group d) scope (model_name d)) ≡ 0
+pub nothing_of : (scope : Path) (d : ModelDef) → type_count (defined (model_group d) scope (model_name d)) ≡ 0
 nothing_of scope (machine d) = refl
 nothing_of scope (component d) = refl
 nothing_of scope (interface d) = refl
@@ -52,9 +50,9 @@ types_counted [] = refl
 types_counted (item.Defined s ∷ is) =
     ap (λ (n : ℕ). n + types_among (flat_map definitions_of is)) (count_of s.scope s.definition)
     ∙ ap (λ (n : ℕ). length (types_in s.scope s.definition) + n) (types_counted is) ∙ sym (length-append (types_in s.scope s.definition) (flat_map types_of is))
-types_counted (item.Enumerated e ∷ is) = none_more _ ∙ types_counted is
+types_counted (item.Enumerated e ∷ is) = zero-add _ ∙ types_counted is
 types_counted (item.Declared d ∷ is) =
-    ap (λ (n : ℕ). n + types_among (flat_map definitions_of is)) (nothing_of d.scope d.definition) ∙ none_more _ ∙ types_counted is
+    ap (λ (n : ℕ). n + types_among (flat_map definitions_of is)) (nothing_of d.scope d.definition) ∙ zero-add _ ∙ types_counted is
 types_counted (item.Used since n ∷ is) = types_counted is
 types_counted (item.Written since w ∷ is) = types_counted is
 

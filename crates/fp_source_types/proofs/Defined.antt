@@ -1,7 +1,7 @@
 -- Where what is written of a type definition breaks no rule, its form exists, and has a size where the types that it uses have sizes.
 use Rattle.std.proofs.Common.{◌≡◌, ℕ, suc, ◌+◌, ◌*◌, ◌⊎◌, inl, inr, List, [], ◌∷◌, ◌++◌, length, flat_map, slice_get, Option, Some, None, refl, sym, ap, subst, ◌∙◌}
 use Rattle.std.specs.Prelude.{ℤ, pos, max}
-use Rattle.fp_base.proofs.Options.{same_some}
+use Rattle.fp_base.proofs.Options.{same_some, no_some}
 use Rattle.fp_base.specs.declared.refusal.Refusal.{Refusal}
 use Rattle.fp_base.specs.declared.rule.Rule.TheVariants.{ArraySize, BadConversion}
 use Rattle.fp_base.specs.declared.value.Value.{Value}
@@ -32,7 +32,6 @@ use Rattle.fp_type_sizes.proofs.Counted.{one_end}
 use Rattle.fp_type_sizes.proofs.Limits.{HasSize}
 use Rattle.fp_type_forms.specs.Broken.{BrokenByEnum, BrokenByName, BrokenByNumber, BrokenByParts, ByOptional, IsBadRepr, IsNoNumber}
 use Rattle.fp_type_forms.specs.Written.{AllAt, ConstantIs, EnumeratedIs, FormIs, ReprIs, text_in, types_before}
-use Rattle.fp_type_sizes.proofs.Places.{no_some}
 use Rattle.fp_source_types.proofs.Deep.{IsOf}
 use Rattle.fp_source_types.proofs.Expressed.{Valued}
 use Rattle.fp_source_types.proofs.Formed.{AllStand, fields_of, form_defines_none, integer_or_not, kind_of, none_more, size_of, some_end, written_valued}

@@ -4,6 +4,7 @@ use Rattle.std.specs.Prelude.{◌==◌}
 use Rattle.std.specs.List.{list_all}
 use Rattle.std.proofs.lemmas.Bool.Decides.{nat_tests}
 use Rattle.fp_base.proofs.Bools.{both, or_left}
+use Rattle.fp_base.proofs.Bytes.{name_bytes}
 use Rattle.fp_base.specs.Names.{is_digit, is_letter, is_name, is_name_byte}
 use Rattle.fp_tables.specs.Names.{goes_on, is_qualified}
 use Rattle.fp_meaning.specs.Names.{Path}
@@ -84,11 +85,6 @@ one_name (x ∷ a) [] ns ms h k e = not_rest x (a ++ rest_of ns) ms (both (is_na
 one_name (x ∷ a) (y ∷ b) ns ms h k e =
     let t = one_name a b ns ms (both (is_name_byte x) (list_all is_name_byte a) h).1 (both (is_name_byte y) (list_all is_name_byte b) k).1 (tail_same e) in
     (joined_same (head_same e) t.0, t.1)
-
--- the bytes of a name are such bytes
-name_bytes : (n : List ℕ) → is_name n ≡ true → list_all is_name_byte n ≡ true
-name_bytes [] h = refl
-name_bytes (b ∷ bs) h = let t = both (is_letter b) (list_all is_name_byte bs) h in both_then (is_name_byte b) (list_all is_name_byte bs) true (or_left (is_letter b) (is_digit b) t.0) t.1
 
 same_rests : (ns ms : Path) → list_all is_name ns ≡ true → list_all is_name ms ≡ true → rest_of ns ≡ rest_of ms → ns ≡ ms
 same_rests [] [] h k e = refl

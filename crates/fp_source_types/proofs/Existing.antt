@@ -2,6 +2,7 @@
 use Rattle.std.proofs.Common.{◌≡◌, ℕ, ◌+◌, ◌⊎◌, inl, inr, List, [], ◌∷◌, length, flat_map, slice_get, Option, Some}
 use Rattle.fp_base.specs.Least.{IsUnbroken}
 use Rattle.fp_base.specs.declared.value.Value.{Value}
+use Rattle.fp_base.proofs.Options.{no_some}
 use Rattle.fp_graph.proofs.Places.{get_joined}
 use Rattle.fp_tree.specs.declared.source.Source.{Source}
 use Rattle.fp_meaning.specs.declared.item.Item.{Item}
@@ -12,7 +13,6 @@ use Rattle.fp_meaning.specs.Names.{definitions, definitions_of, mentions}
 use Rattle.fp_meaning.specs.Origins.{Placed, expressions, expressions_of}
 use Rattle.fp_meaning.specs.Values.{opened, Val}
 use Rattle.fp_tables.specs.declared.kind.TypeDef.{TypeDef}
-use Rattle.fp_type_sizes.proofs.Places.{no_some}
 use Rattle.fp_source_types.specs.Broken.{TypesBroken}
 use Rattle.fp_source_types.specs.Typed.{AreTypesOf}
 use Rattle.fp_source_types.proofs.Expressed.{Valued}

@@ -1,9 +1,7 @@
 -- Where what is written of a type breaks no rule, its form exists, and has a size where the types that it uses have sizes.
-use Rattle.std.proofs.Common.{◌≡◌, ℕ, suc, ◌+◌, ◌*◌, ◌-◌, ◌≤◌, ◌⊎◌, inl, inr, Bool, true, false, List, [], ◌∷◌, ◌++◌, length, flat_map, slice_get, Option, Some, None, refl, ap, subst, ◌∙◌, arith, length-append}
-use Rattle.std.specs.Prelude.{ℤ, pos, negsuc, int_le, max}
+use Rattle.std.proofs.Common.{◌≡◌, ℕ, suc, ◌+◌, ◌*◌, ◌-◌, ◌⊎◌, inl, inr, Bool, true, false, List, [], ◌∷◌, ◌++◌, length, flat_map, slice_get, Option, Some, None, refl, ap, subst, ◌∙◌, arith, length-append}
+use Rattle.std.specs.Prelude.{ℤ, max}
 use Rattle.std.proofs.lemmas.Grind.{flat_map-append}
-use Rattle.std.proofs.lemmas.Bool.Decides.{nat_tests}
-use Rattle.fp_base.proofs.Bools.{both}
 use Rattle.fp_base.specs.declared.place.Place.{Place}
 use Rattle.fp_base.specs.declared.refusal.Refusal.{Refusal}
 use Rattle.fp_base.specs.declared.rule.Rule.{Rule}
@@ -31,19 +29,11 @@ use Rattle.fp_type_sizes.specs.Sizes.{IsPlain, HasForm, EndsAs, at_plain, at_for
 use Rattle.fp_type_sizes.proofs.Limits.{HasSize}
 use Rattle.fp_type_forms.specs.Broken.{BrokenByForm, BrokenByMember, BrokenBySize, ByOptional, is_size}
 use Rattle.fp_type_forms.specs.Written.{AllAt, FieldIs, IsSizeTo, KindIs, SizeIs, field_with, types_before}
+use Rattle.fp_type_forms.proofs.Sized.{size_number}
 use Rattle.fp_source_types.proofs.Deep.{IsOf}
 use Rattle.fp_source_types.proofs.Expressed.{Valued}
 use Rattle.fp_source_types.proofs.Meant.{Stands}
 use Rattle.fp_source_types.proofs.Standing.{AllFrom, all_behind, all_front}
-
--- ---- sizes that are written
-
-size_number : (most : ℕ) (z : ℤ) → is_size most z ≡ true → (n : ℕ) × (z ≡ pos n) × (1 ≤ n) × (n ≤ most)
-size_number most z h = let t = both (int_le (pos 1) z) (int_le z (pos most)) h in go z t.0 t.1
-  where
-    go : (z : ℤ) → int_le (pos 1) z ≡ true → int_le z (pos most) ≡ true → (n : ℕ) × (z ≡ pos n) × (1 ≤ n) × (n ≤ most)
-    go (pos n) low high = (n, refl, grind (arith, nat_tests), grind (arith, nat_tests))
-    go (negsuc n) low high = absurd (cc)
 
 -- ---- integer types
 

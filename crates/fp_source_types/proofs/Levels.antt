@@ -4,8 +4,9 @@ use Rattle.std.specs.Prelude.{max, nat_le, sum}
 use Rattle.std.specs.List.{AllByRecursion}
 use Rattle.std.proofs.lemmas.Bool.Decides.{nat_tests}
 use Rattle.std.proofs.lemmas.List.Sums.{sum_by-cons}
-use mathlib.Core.Former.{Count}
 use Rattle.fp_base.proofs.Bools.{join}
+use Rattle.fp_base.proofs.Numbers.{suc_is}
+use Rattle.fp_base.proofs.Texts.{items_of, parts_of}
 use Rattle.fp_base.specs.declared.value.Value.{Value, Int, Bool as Truth, Text, Enumerated, Array', Struct', Opaque, Row_of-Value, more_of-Value, end_of-Value, items-the_row-Value, items_hidden-the_row-Value-0}
 use Rattle.fp_base.specs.declared.value.Value.TheViews.{Array, Struct}
 use Rattle.fp_base.specs.declared.value.Value.TheBlock as block
@@ -41,14 +42,6 @@ among_total [] h = refl
 among_total (n ∷ ns) h = sum_total (n ∷ ns) ∙ some_more n (total ns) h.0
 
 -- ---- of arrays and structs
-
-abbrev items_of : Value → (n : Count) × Row_of-Value n
-items_of (Array' _ row) = (_, row)
-items_of _ = (_, end_of-Value)
-
-abbrev parts_of : Value → (n : Count) × block.Row_of-MemberValue n
-parts_of (Struct' _ row) = (_, row)
-parts_of _ = (_, block.end_of-MemberValue)
 
 items_total : (n : _) (row : Row_of-Value n) → items_leaves row ≡ total (map leaves (items-the_row-Value n row))
 items_total n end_of-Value = refl
@@ -135,14 +128,11 @@ counted_as : (v : Value) → leaves v ≡ meaning.leaves v → levels v ≡ mean
 counted_as v a b size =
     record { same_leaves = a; same_levels = b; few = at_most (leaves v) (meaning.leaves v) 65536 a size.of_leaves; low = at_most (levels v) (meaning.levels v) 64 b size.of_levels }
 
-one_above : (n : ℕ) → suc n ≡ 1 + n
-one_above n = omega arith
-
 list_counted : (vs : List Value) → AreCounted vs → IsWithinSize (Array vs) → IsCounted (Array vs)
 list_counted vs all size =
     counted_as (Array vs)
     (list_leaves vs ∙ sym (among_total (map leaves vs) (have_leaves vs)) ∙ ap leaves_among all.all_leaves ∙ sym (array_leaves vs))
-    (list_levels vs ∙ one_above (deepest (map levels vs)) ∙ ap (λ (ns : List ℕ). 1 + deepest ns) all.all_levels ∙ sym (array_levels vs)) size
+    (list_levels vs ∙ suc_is (deepest (map levels vs)) ∙ ap (λ (ns : List ℕ). 1 + deepest ns) all.all_levels ∙ sym (array_levels vs)) size
 
 record_counted : {source : Source} {scope : Path} (ms : List Assignment) (vs : List Value) → Vals source scope (values_in ms) vs → AreCounted vs → IsWithinSize (Struct (parts_with ms vs))
     → IsCounted (Struct (parts_with ms vs))
@@ -150,7 +140,7 @@ record_counted ms vs h all size =
     counted_as (Struct (parts_with ms vs))
     (record_leaves (parts_with ms vs) ∙ ap (λ (ns : List ℕ). max 1 (total ns)) (members_mapped leaves ms vs h) ∙ sym (among_total (map leaves vs) (have_leaves vs))
     ∙ ap leaves_among all.all_leaves ∙ sym (struct_leaves ms vs h))
-    (record_levels (parts_with ms vs) ∙ ap (λ (ns : List ℕ). suc (deepest ns)) (members_mapped levels ms vs h) ∙ one_above (deepest (map levels vs))
+    (record_levels (parts_with ms vs) ∙ ap (λ (ns : List ℕ). suc (deepest ns)) (members_mapped levels ms vs h) ∙ suc_is (deepest (map levels vs))
     ∙ ap (λ (ns : List ℕ). 1 + deepest ns) all.all_levels ∙ sym (struct_levels ms vs h)) size
 
 number_counted : (n : _) → IsCounted (Int n)

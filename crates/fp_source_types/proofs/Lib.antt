@@ -1,5 +1,5 @@
 mod Chained
-mod Counting
+pub mod Counting
 mod Deep
 mod Defined
 pub mod Dotted
@@ -18,5 +18,5 @@ pub mod Resolved
 mod Resulting
 mod Serving
 mod Sized
-mod Standing
+pub mod Standing
 mod WellMade

@@ -2,7 +2,7 @@
 -- values and all expressions have values.
 use Rattle.std.proofs.Common.{◌≡◌, ℕ, zero, suc, ◌+◌, List, [], ◌∷◌, length, flat_map, take, slice_get, Option, Some, None, inl, inr, refl, sym, ap, subst, ◌∙◌, arith}
 use Rattle.std.specs.Prelude.{ℤ, pos}
-use Rattle.fp_base.proofs.Options.{same_some}
+use Rattle.fp_base.proofs.Options.{same_some, no_some}
 use Rattle.fp_base.specs.declared.value.Value.{Value}
 use Rattle.fp_base.specs.Least.{IsUnbroken}
 use Rattle.fp_tree.specs.declared.source.Source.{Source}
@@ -28,7 +28,6 @@ use Rattle.fp_consts.specs.Examined.{HasValue}
 use Rattle.fp_consts.proofs.Grouped.{AreValueNames, value_names}
 use Rattle.fp_consts.proofs.Tabled.{flat_at}
 use Rattle.fp_consts.proofs.Valued.{the_head}
-use Rattle.fp_type_sizes.proofs.Places.{no_some}
 use Rattle.fp_source_types.proofs.Deep.{IsOf, by_uses}
 use Rattle.fp_source_types.proofs.Expressed.{AreNamesValued, Valued, expression_valued}
 use Rattle.fp_source_types.proofs.Standing.{AllFrom, IsItem, before, from_places, item_of, origin_at, use_at}

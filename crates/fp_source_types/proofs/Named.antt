@@ -4,7 +4,7 @@ use Rattle.std.proofs.lemmas.Grind.{flat_map-append}
 use Rattle.std.proofs.lemmas.List.{take-append-drop}
 use Rattle.std.proofs.lemmas.Option.{slice_get-map}
 use Rattle.fp_base.proofs.Lists.{get_front}
-use Rattle.fp_base.proofs.Options.{same_some}
+use Rattle.fp_base.proofs.Options.{same_some, no_some}
 use Rattle.fp_base.specs.declared.rule.Rule.TheVariants.{DefinedTwice}
 use Rattle.fp_base.specs.Least.{broken_at, IsUnbroken}
 use Rattle.fp_graph.proofs.Places.{get_joined, get_right, get_take}
@@ -28,7 +28,6 @@ use Rattle.fp_meaning.specs.Names.{Path, constant_of, definitions, definitions_o
 use Rattle.fp_meaning.specs.Sites.{Site, in_optional}
 use Rattle.fp_type_forms.specs.Written.{TypeHere, type_here, types, types_in, types_of}
 use Rattle.fp_type_forms.proofs.Following.{items_whole}
-use Rattle.fp_type_sizes.proofs.Places.{no_some}
 
 -- ---- a type of a source is one of its definitions
 

@@ -2,7 +2,9 @@
 use Rattle.std.proofs.Common.{◌≡◌, ℕ, suc, ◌+◌, ◌<◌, ◌⊎◌, inl, inr, Bool, true, List, [], ◌∷◌, ◌++◌, length, map, take, slice_get, Some, option_map, refl, sym, ap, ◌∙◌, subst, arith}
 use Rattle.std.specs.List.{list_all}
 use Rattle.std.proofs.lemmas.Option.{slice_get-map}
+use Rattle.std.proofs.Math.Nat.{add-zero}
 use Rattle.fp_base.proofs.Bools.{both, join}
+use Rattle.fp_base.proofs.Passing.{all_items}
 use Rattle.fp_base.specs.declared.rule.Rule.TheVariants.{DefinedTwice}
 use Rattle.fp_base.specs.Least.{broken_at, IsUnbroken}
 use Rattle.fp_base.specs.Names.{is_name}
@@ -41,10 +43,6 @@ use Rattle.fp_source_types.proofs.Related.{related_at}
 use Rattle.fp_source_types.proofs.Standing.{before}
 use Rattle.fp_source_types.proofs.WellMade.{differ, named_back}
 
-all_of_each : {A : Type 0} (p : A → Bool) (xs : List A) → ((k : ℕ) (x : A) → slice_get xs k ≡ Some x → p x ≡ true) → list_all p xs ≡ true
-all_of_each p [] each = refl
-all_of_each p (x ∷ xs) each = join (p x) (list_all p xs) (each 0 x refl) (all_of_each p xs (λ k. each (suc k)))
-
 last_of : {A : Type 0} (p : A → Bool) (xs : List A) (x : A) → list_all p (xs ++ x ∷ []) ≡ true → p x ≡ true
 last_of p [] x h = (both (p x) true h).0
 last_of p (y ∷ xs) x h = last_of p xs x (both (p y) (list_all p (xs ++ x ∷ [])) h).1
@@ -52,9 +50,6 @@ last_of p (y ∷ xs) x h = last_of p xs x (both (p y) (list_all p (xs ++ x ∷ [
 not_empty : {A : Type 0} (xs : List A) (x : A) → xs ++ x ∷ [] ≡ [] → ⊥
 not_empty [] x e = cc
 not_empty (y ∷ xs) x e = cc
-
-plus_none : (n : ℕ) → n + 0 ≡ n
-plus_none n = omega arith
 
 below_or_above : (m n : ℕ) → (m ≡ n → ⊥) → (m < n) ⊎ (n < m)
 below_or_above m n differ = grind arith
@@ -85,7 +80,7 @@ module _ (source : Source) (ts : List TypeDef) (of : AreTypesOf source (map (λ 
       record {
         number = m;
         definition = x;
-        here = subst (λ (k : ℕ). slice_get (definitions source) k ≡ Some x) (plus_none m) there;
+        here = subst (λ (k : ℕ). slice_get (definitions source) k ≡ Some x) (add-zero m) there;
         of_types = s.group;
         name =
             named ∙ t.2.name ∙ ap (λ (p : Path). dotted (p ++ t.0.name.text ∷ [])) s.scope
@@ -125,7 +120,7 @@ module _ (source : Source) (ts : List TypeDef) (of : AreTypesOf source (map (λ 
 
   pub names_qualified : DefinitionsAreNamed source → list_all (λ (d : TypeDef). is_qualified d.name) ts ≡ true
   names_qualified named =
-      all_of_each (λ (d : TypeDef). is_qualified d.name) ts (λ k d e.
+      all_items (λ (d : TypeDef). is_qualified d.name) ts (λ k d e.
       let x = definition_at k d e in
       ap is_qualified x.name ∙ dotted_qualified x.definition.name (named x.number x.definition x.here) x.some)
 
@@ -178,6 +173,6 @@ module _ (source : Source) (ts : List TypeDef) (of : AreTypesOf source (map (λ 
 
   pub names_within : list_all (λ (d : TypeDef). form_has_names d.form) ts ≡ true
   names_within =
-      all_of_each (λ (d : TypeDef). form_has_names d.form) ts (λ i d e.
+      all_items (λ (d : TypeDef). form_has_names d.form) ts (λ i d e.
       let g = given_here source ts of i d.form (ap (option_map (λ (x : TypeDef). x.form)) e) in
       form_named source g.0.scope g.0.definition d.form g.2 (has_names i g.0 g.0.definition g.1 refl (fields i g.0 g.1)))

@@ -1,7 +1,9 @@
 -- Where what is written of types breaks no rule, each enumerated constant has the number that is wanted of it.
-use Rattle.std.proofs.Common.{◌≡◌, ℕ, zero, suc, ◌+◌, ◌⊎◌, inl, inr, Bool, true, false, ◌&&◌, is_none, List, [], ◌∷◌, ◌++◌, length, flat_map, slice_get, Option, Some, None, refl, sym, ap, subst, ◌∙◌, arith}
-use Rattle.std.specs.List.{AllByRecursion, list_all}
+use Rattle.std.proofs.Common.{◌≡◌, ℕ, zero, suc, ◌+◌, ◌⊎◌, inl, inr, Bool, true, false, is_none, List, [], ◌∷◌, ◌++◌, length, flat_map, slice_get, Option, Some, None, refl, sym, ap, subst, arith}
+use Rattle.std.specs.List.{AllByRecursion}
 use Rattle.fp_base.proofs.Lists.{each_append, each_flat, each_of_any, get_front, of_item}
+use Rattle.fp_base.proofs.Passing.{some_fails}
+use Rattle.fp_base.proofs.Options.{no_some}
 use Rattle.fp_base.specs.declared.rule.Rule.TheVariants.{BadConversion, EnumValuesAllOrNone}
 use Rattle.fp_base.specs.declared.refusal.Refusal.{Refusal}
 use Rattle.fp_base.specs.Least.{broken_at, IsUnbroken}
@@ -26,7 +28,6 @@ use Rattle.fp_meaning.specs.Values.{IsImplied}
 use Rattle.fp_meaning.proofs.Since.{AllSince}
 use Rattle.fp_meaning.proofs.Throughout.{all_items}
 use Rattle.fp_type_forms.specs.Broken.{BrokenByParts, ByOptional, HasBoth, IsNoNumber, TypePartsBroken}
-use Rattle.fp_type_sizes.proofs.Places.{no_some}
 use Rattle.fp_source_types.proofs.Meant.{AreNumbered}
 
 -- ---- a constant stands behind its enumeration
@@ -160,14 +161,6 @@ behind : (source : Source) → AreBehind (items source)
 behind source = all_items AreBehind behind_nothing behind_joined behind_definition behind_declared source
 
 -- ---- where no rule is broken
-
-some_fails : {A : Type 0} (p : A → Bool) (xs : List A) → list_all p xs ≡ false → (k : ℕ) × (x : A) × (slice_get xs k ≡ Some x) × (p x ≡ false)
-some_fails p [] h = absurd (cc)
-some_fails {A = A} p (x ∷ xs) h = go (p x) refl (some_fails p xs)
-  where
-    go : (b : Bool) → p x ≡ b → (list_all p xs ≡ false → (k : ℕ) × (y : A) × (slice_get xs k ≡ Some y) × (p y ≡ false)) → (k : ℕ) × (y : A) × (slice_get (x ∷ xs) k ≡ Some y) × (p y ≡ false)
-    go false is rest = (0, x, refl, is)
-    go true is rest = let t = rest (sym (ap (λ (b : Bool). b && list_all p xs) is) ∙ h) in (suc t.0, t.1, t.2, t.3)
 
 -- an enumeration without a value at one constant has none, unless it has both
 pub all_implied : (d : Enum) (k : ℕ) (c : EnumConst) → slice_get d.constants k ≡ Some c → c.value ≡ None → (HasBoth d → ⊥) → IsImplied d

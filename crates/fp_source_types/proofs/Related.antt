@@ -1,8 +1,7 @@
 -- What stands at a place of two lists that are related place by place.
 use Rattle.std.proofs.Common.{◌≡◌, ℕ, zero, suc, ◌+◌, List, [], ◌∷◌, slice_get, Some, refl, subst, arith}
-use Rattle.fp_base.proofs.Options.{same_some}
+use Rattle.fp_base.proofs.Options.{same_some, no_some}
 use Rattle.fp_type_forms.specs.Written.{AllAt}
-use Rattle.fp_type_sizes.proofs.Places.{no_some}
 
 -- what stands there in the first list, and what in the second
 pub related_at : {A B : Type 0} (R : ℕ → A → B → Type 0) (k : ℕ) (xs : List A) (ys : List B) (i j : ℕ) (y : B) → j ≡ k + i → AllAt R k xs ys → slice_get ys i ≡ Some y

@@ -3,7 +3,7 @@ use Rattle.std.proofs.Common.{◌≡◌, inl, inr, suc, Bool, true, false, cond,
 use Rattle.std.specs.Prelude.{option_to_list}
 use Rattle.std.proofs.lemmas.List.{length-map}
 use Rattle.std.proofs.lemmas.Option.{slice_get-map}
-use Rattle.fp_base.proofs.Options.{mapped_some, same_some}
+use Rattle.fp_base.proofs.Options.{mapped_some, same_some, no_some}
 use Rattle.fp_base.specs.declared.value.Value.{Value, Opaque}
 use Rattle.fp_tree.specs.declared.source.Source.{Source}
 use Rattle.fp_tables.specs.declared.kind.TypeDef.{TypeDef}
@@ -13,7 +13,6 @@ use Rattle.fp_meaning.specs.Values.{Opened, opened, Val, IsValue}
 use Rattle.fp_meaning.proofs.OneValue.{one_value}
 use Rattle.fp_consts.specs.Answered.{StandsFor, StandFor}
 use Rattle.fp_consts.specs.Marked.{AreValues}
-use Rattle.fp_type_sizes.proofs.Places.{no_some}
 use Rattle.fp_source_types.specs.Resolved.{EachIsGiven, is_opaque, mark_of}
 use Rattle.fp_source_types.specs.Typed.{AreTypesOf}
 

@@ -2,7 +2,7 @@
 use Rattle.std.proofs.Common.{◌≡◌, ℕ, zero, suc, ◌<◌, ◌⊎◌, inl, inr, List, [], ◌∷◌, ◌++◌, map, flat_map, length, Option, Some, None, option_map, slice_get, refl, sym, ap, ◌∙◌, subst}
 use Rattle.std.proofs.lemmas.List.{length-map}
 use Rattle.std.proofs.lemmas.Option.{slice_get-map, slice_get_within}
-use Rattle.fp_base.proofs.Options.{mapped_some, same_some}
+use Rattle.fp_base.proofs.Options.{mapped_some, same_some, no_some}
 use Rattle.fp_graph.specs.Chains.{LeadsThrough, IsOrder}
 use Rattle.fp_graph.specs.Chains as chains
 use Rattle.fp_graph.specs.Rows.{IsListed}
@@ -19,7 +19,6 @@ use Rattle.fp_type_sizes.specs.Found as found
 use Rattle.fp_type_sizes.proofs.Counted.{formed}
 use Rattle.fp_type_sizes.proofs.Limits.{used_sized}
 use Rattle.fp_type_sizes.proofs.NoCycle.{no_cycle}
-use Rattle.fp_type_sizes.proofs.Places.{no_some}
 use Rattle.fp_source_types.specs.Used.{number_in, used_in, used_if, used_by}
 
 -- ---- the numbers in one kind

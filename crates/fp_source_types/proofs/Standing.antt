@@ -3,9 +3,11 @@ use Rattle.std.proofs.Common.{◌≡◌, ℕ, zero, suc, ◌+◌, ◌<◌, ◌�
 use Rattle.std.proofs.lemmas.Grind.{flat_map-append}
 use Rattle.std.proofs.lemmas.List.{length-replicate, take-append-drop}
 use Rattle.std.proofs.lemmas.Option.{slice_get_within}
+use Rattle.std.proofs.Math.Nat.{add-zero}
 use Rattle.fp_base.proofs.Lists.{get_front}
-use Rattle.fp_base.proofs.Options.{same_some}
+use Rattle.fp_base.proofs.Options.{same_some, no_some}
 use Rattle.fp_base.proofs.Spots.{item_below}
+use Rattle.fp_base.proofs.Numbers.{suc_is, get_replicate, none_before as none_more}
 use Rattle.fp_consts.proofs.Tabled.{flat_at}
 use Rattle.fp_graph.proofs.Places.{get_right}
 use Rattle.fp_tree.specs.declared.source.Source.{Source}
@@ -19,10 +21,6 @@ use Rattle.fp_meaning.specs.Names.{definitions, definitions_of, mentions, uses_o
 use Rattle.fp_meaning.specs.Origins.{Origin, origins_of}
 use Rattle.fp_meaning.specs.Owners.{owner_of, owners_from}
 use Rattle.fp_meaning.specs.Uses.{Uses, by_name}
-use Rattle.fp_type_sizes.proofs.Places.{no_some}
-
-plus_none : (n : ℕ) → n + 0 ≡ n
-plus_none n = omega arith
 
 -- how many definitions stand before a place
 abbrev pub before : List Item → ℕ → ℕ
@@ -51,7 +49,7 @@ module _ (P : ℕ → Item → Type 0) where
   pub from_places : (is : List Item) (b : ℕ) → ((p : ℕ) (i : Item) → slice_get is p ≡ Some i → P (owner_of (b + before is p) i) i) → AllFrom b is
   from_places [] b each = tt
   from_places (i ∷ is) b each = (
-    subst (λ (n : ℕ). P (owner_of n i) i) (plus_none b) (each 0 i refl),
+    subst (λ (n : ℕ). P (owner_of n i) i) (add-zero b) (each 0 i refl),
     from_places is (b + length (definitions_of i)) (λ p x at. subst (λ (n : ℕ). P (owner_of n x) x) (before_next i is p b) (each (suc p) x at)),
   )
 
@@ -60,7 +58,7 @@ module _ (P : ℕ → Item → Type 0) where
   all_front (x ∷ xs) ys b h = (h.0, all_front xs ys (b + length (definitions_of x)) h.1)
 
   pub all_behind : (xs ys : List Item) (b c : ℕ) → c ≡ b + length (flat_map definitions_of xs) → AllFrom b (xs ++ ys) → AllFrom c ys
-  all_behind [] ys b c e h = subst (λ (n : ℕ). AllFrom n ys) (sym (e ∙ plus_none b)) h
+  all_behind [] ys b c e h = subst (λ (n : ℕ). AllFrom n ys) (sym (e ∙ add-zero b)) h
   all_behind (x ∷ xs) ys b c e h =
       let long = length-append (definitions_of x) (flat_map definitions_of xs) in
       let whole : c ≡ b + length (definitions_of x ++ flat_map definitions_of xs) = e in
@@ -71,11 +69,6 @@ module _ (P : ℕ → Item → Type 0) where
 
 -- ---- the uses of an item are those of the definition that has it
 
-many_of : (n x k : ℕ) → k < n → slice_get (replicate n x) k ≡ Some x
-many_of zero x k h = absurd (omega arith)
-many_of (suc n) x zero h = refl
-many_of (suc n) x (suc k) h = many_of n x k (omega arith)
-
 owned : (number : ℕ) (is : List Item) (p : ℕ) (i : Item) (j : ℕ) → slice_get is p ≡ Some i → j < length (uses_of i)
     → slice_get (owners_from number is) (length (flat_map uses_of (take p is)) + j) ≡ Some (owner_of (number + before is p) i)
 owned number [] p i j at low = no_some at
@@ -83,10 +76,10 @@ owned number (z ∷ is) zero i j at low =
     let same : z ≡ i = same_some at in
     let here : slice_get (owners_from number (z ∷ is)) j ≡ Some (owner_of number z) =
     get_front (replicate (length (uses_of z)) (owner_of number z)) (owners_from (number + length (definitions_of z)) is) j (owner_of number z)
-    (many_of (length (uses_of z)) (owner_of number z) j (subst (λ (x : Item). j < length (uses_of x)) (sym same) low)) in
+    (get_replicate (length (uses_of z)) (owner_of number z) j (subst (λ (x : Item). j < length (uses_of x)) (sym same) low)) in
     let index : j ≡ 0 + j = omega arith in
     subst (λ (k : ℕ). slice_get (owners_from number (z ∷ is)) k ≡ Some (owner_of (number + 0) i)) index
-    (here ∙ ap (λ (x : Item). Some (owner_of number x)) same ∙ ap (λ (n : ℕ). Some (owner_of n i)) (sym (plus_none number)))
+    (here ∙ ap (λ (x : Item). Some (owner_of number x)) same ∙ ap (λ (n : ℕ). Some (owner_of n i)) (sym (add-zero number)))
 owned number (z ∷ is) (suc p) i j at low =
     let long = length-append (uses_of z) (flat_map uses_of (take p is)) in
     let many = length-replicate (length (uses_of z)) (owner_of number z) in
@@ -151,25 +144,19 @@ further i is n m d e t =
     let same : m ≡ length (definitions_of i ++ flat_map definitions_of (take t.at is)) = omega arith in
     record { at = suc t.at; found = t.found; here = t.here; defines = t.defines; number = same }
 
-none_more : (n : ℕ) → n ≡ 0 + n
-none_more n = omega arith
-
-one_more : (n : ℕ) → suc n ≡ 1 + n
-one_more n = omega arith
-
 pub item_of : (is : List Item) (n : ℕ) (d : Definition) → slice_get (flat_map definitions_of is) n ≡ Some d → IsItem is n d
 item_of [] n d e = no_some e
 item_of (item.Used since x ∷ is) n d e = further (item.Used since x) is n n d (none_more n) (item_of is n d e)
 item_of (item.Written since x ∷ is) n d e = further (item.Written since x) is n n d (none_more n) (item_of is n d e)
 item_of (item.Defined s ∷ is) zero d e =
     record { at = 0; found = item.Defined s; here = refl; defines = ap (λ (x : Definition). x ∷ []) (same_some e); number = refl }
-item_of (item.Defined s ∷ is) (suc n) d e = further (item.Defined s) is n (suc n) d (one_more n) (item_of is n d e)
+item_of (item.Defined s ∷ is) (suc n) d e = further (item.Defined s) is n (suc n) d (suc_is n) (item_of is n d e)
 item_of (item.Enumerated s ∷ is) zero d e =
     record { at = 0; found = item.Enumerated s; here = refl; defines = ap (λ (x : Definition). x ∷ []) (same_some e); number = refl }
-item_of (item.Enumerated s ∷ is) (suc n) d e = further (item.Enumerated s) is n (suc n) d (one_more n) (item_of is n d e)
+item_of (item.Enumerated s ∷ is) (suc n) d e = further (item.Enumerated s) is n (suc n) d (suc_is n) (item_of is n d e)
 item_of (item.Declared s ∷ is) zero d e =
     record { at = 0; found = item.Declared s; here = refl; defines = ap (λ (x : Definition). x ∷ []) (same_some e); number = refl }
-item_of (item.Declared s ∷ is) (suc n) d e = further (item.Declared s) is n (suc n) d (one_more n) (item_of is n d e)
+item_of (item.Declared s ∷ is) (suc n) d e = further (item.Declared s) is n (suc n) d (suc_is n) (item_of is n d e)
 
 as_many : (is : List Item) → length (flat_map origins_of is) ≡ length (flat_map definitions_of is)
 as_many [] = refl

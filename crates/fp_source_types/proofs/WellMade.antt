@@ -5,10 +5,11 @@ use Rattle.std.specs.Prelude.{nat_le}
 use Rattle.std.specs.Str.{bytes_eq}
 use Rattle.std.proofs.lemmas.Bool.Decides.{nat_tests}
 use Rattle.std.proofs.lemmas.Option.{slice_get-map, slice_get_within}
-use Rattle.std.proofs.lemmas.Slice.Eq.{bytes_eq-Decides}
 use Rattle.fp_base.proofs.Bools.{join}
 use Rattle.fp_base.proofs.Options.{mapped_some}
 use Rattle.fp_base.proofs.Spots.{item_below}
+use Rattle.fp_base.proofs.Bytes.{same_bytes}
+use Rattle.fp_base.proofs.Passing.{any_found}
 use Rattle.fp_base.specs.declared.refusal.Refusal.{Refusal}
 use Rattle.fp_base.specs.declared.rule.Rule.TheVariants.{BadMember, OutsideType}
 use Rattle.fp_base.specs.declared.value.Value.{Value, Enumerated}
@@ -41,7 +42,6 @@ use Rattle.fp_type_sizes.specs.Sizes.{HasForm, IsInteger, IsOfSize, MeasuresForm
 use Rattle.fp_type_sizes.proofs.Limits.{form_measured}
 use Rattle.fp_type_forms.specs.Broken.{BrokenByEnum, HasRange, RepeatsMember, constant_place}
 use Rattle.fp_type_forms.specs.Written.{AllAt, EnumeratedIs, FieldIs, FormIs, IsWritten, ReprIs, SizeIs, TypeHere, types}
-use Rattle.fp_type_forms.proofs.Breaking.{any_holds}
 use Rattle.fp_types.specs.Converting.{DefaultIs, IsWithin}
 use Rattle.fp_types.specs.WellWritten.{AreWellWritten, HasOwnConstants, IsOwnConstant}
 use Rattle.fp_source_types.specs.Broken.{TypesBroken, TypesBrokenBy}
@@ -51,9 +51,6 @@ use Rattle.fp_source_types.proofs.Related.{related_at}
 
 -- ---- texts that differ
 
-pub same_text : (a b : List ℕ) → bytes_eq a b ≡ true → a ≡ b
-same_text a b e = (bytes_eq-Decides a b).0 e
-
 pub differ : (ns : List (List ℕ)) → ((i j : ℕ) (n : List ℕ) → i < j → slice_get ns i ≡ Some n → slice_get ns j ≡ Some n → ⊥) → texts_differ ns ≡ true
 differ [] apart = refl
 differ (n ∷ ns) apart =
@@ -62,8 +59,8 @@ differ (n ∷ ns) apart =
     none : (b : Bool) → list_any (bytes_eq n) ns ≡ b → not (list_any (bytes_eq n) ns) ≡ true
     none false e = ap not e
     none true e =
-        let p = any_holds (bytes_eq n) ns e in
-        absurd (apart 0 (suc p.0) n (omega arith) refl (p.2 ∙ ap (λ (m : List ℕ). Some m) (sym (same_text n p.1 p.3))))
+        let p = any_found (bytes_eq n) ns e in
+        absurd (apart 0 (suc p.0) n (omega arith) refl (p.2 ∙ ap (λ (m : List ℕ). Some m) (sym (same_bytes n p.1 p.3))))
 
 pub named_back : {A : Type 0} (name : A → List ℕ) (xs : List A) (k : ℕ) (n : List ℕ) → slice_get (map name xs) k ≡ Some n → (x : A) × (slice_get xs k ≡ Some x) × (name x ≡ n)
 named_back name xs k n e = mapped_some name (slice_get xs k) n (sym (slice_get-map name xs k) ∙ e)

@@ -1,6 +1,6 @@
 ghost use Rattle.std.specs.Prelude.{◌≡◌, ◌++◌, Some, flat_map, map, option_to_list, IfErr, IfOk, OnOk};
-ghost use Rattle.fp_base.specs.Least.{IsUnbroken};
-ghost use Rattle.fp_consts.specs.Answered.{IsStop, StandFor};
+ghost use Rattle.fp_base.specs.Least.{IsUnbroken, IsStop};
+ghost use Rattle.fp_consts.specs.Answered.{StandFor};
 ghost use Rattle.fp_meaning.specs.Broken.{BrokenByDefinitions};
 ghost use Rattle.fp_meaning.specs.ConstantFaults.{ConstantsBroken};
 ghost use Rattle.fp_meaning.specs.Meaning.{AreMeanings};

@@ -9,3 +9,6 @@ pub mod Optional
 pub mod Shaped
 pub mod Short
 pub mod Spots
+pub mod Indexed
+pub mod SpecialPorts
+pub mod Untyped

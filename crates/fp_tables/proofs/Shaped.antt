@@ -3,24 +3,16 @@ use Rattle.std.proofs.Common.{◌≡◌, ℕ, zero, suc, Bool, true, false, ◌&
 use Rattle.std.proofs.lemmas.Bool.Decides.{nat_tests}
 use Rattle.std.specs.List.{list_all}
 use Rattle.std.specs.Str.{bytes_eq}
-use mathlib.Core.Former.{Count}
-use Rattle.fp_base.specs.declared.value.Value.{Value, Array', Struct', Row_of-Value, more_of-Value, end_of-Value, items-the_row-Value, items_hidden-the_row-Value-0}
+use Rattle.fp_base.specs.declared.value.Value.{Value, Row_of-Value, more_of-Value, end_of-Value, items-the_row-Value, items_hidden-the_row-Value-0}
 use Rattle.fp_base.specs.declared.value.Value.TheViews.{Array, Struct}
 use Rattle.fp_base.specs.declared.value.Value.TheBlock as block
 use Rattle.fp_base.specs.declared.value.MemberValue.{MemberValue}
+use Rattle.fp_base.proofs.Texts.{items_of, parts_of}
 use Rattle.fp_tables.specs.Lists.{all_beside}
 use Rattle.fp_tables.specs.Types.{Shape, array, struct, shape, member_shape, has, items_have, parts_have, part_has}
 use Rattle.fp_tables.specs.declared.kind.Kind.{Kind}
 use Rattle.fp_tables.specs.declared.kind.Field.{Field}
 use Rattle.fp_tables.specs.declared.kind.TypeDef.{TypeDef}
-
-abbrev pub items_of : Value → (n : Count) × Row_of-Value n
-items_of (Array' _ row) = (_, row)
-items_of _ = (_, end_of-Value)
-
-abbrev pub parts_of : Value → (n : Count) × block.Row_of-MemberValue n
-parts_of (Struct' _ row) = (_, row)
-parts_of _ = (_, block.end_of-MemberValue)
 
 none_of : (n : ℕ) (b : Bool) → (eqb (suc n) 0 && b) ≡ false
 none_of n b = grind (arith, nat_tests)

@@ -11,7 +11,7 @@ use Rattle.fp_tables.specs.declared.topology.Instance.{Instance}
 use Rattle.fp_tables.specs.declared.topology.Topology.{Topology}
 use Rattle.fp_tables.specs.declared.model.Model.{Model}
 
-short_length : {X : Type 0} (xs : List X) → is_short xs ≡ true → length xs < 2 ^ 32
+pub short_length : {X : Type 0} (xs : List X) → is_short xs ≡ true → length xs < 2 ^ 32
 short_length xs h = grind (arith, nat_tests)
 
 pub topology_is_short : (m : Model) (t : ℕ) (o : Topology) → lists_are_short m ≡ true → slice_get m.topologies t ≡ Some o → length o.instances < 2 ^ 32

@@ -16,3 +16,4 @@ pub mod Sound
 pub mod SoundPrograms
 pub mod Specials
 pub mod Types
+pub mod Words

@@ -1,23 +1,18 @@
 -- What an imported topology imports is imported too.
-use Rattle.std.proofs.Common.{◌≡◌, ℕ, zero, suc, ◌<◌, true, List, [], ◌∷◌, ◌++◌, length, flat_map, map, Option, Some, None, slice_get, refl, sym, ap, subst, ◌∙◌, arith}
+use Rattle.std.proofs.Common.{◌≡◌, ℕ, ◌<◌, true, List, [], ◌∷◌, ◌++◌, length, flat_map, Option, Some, None, slice_get, refl, sym, ap, subst, ◌∙◌, arith}
 use Rattle.std.specs.Prelude.{option_and_then, unwrap_or}
 use Rattle.std.specs.List.{AllByRecursion}
 use Rattle.std.proofs.lemmas.Option.{slice_get_within}
-use Rattle.fp_base.proofs.Lists.{each_flat, each_mapped, each_push, each_weaker}
-use Rattle.fp_base.proofs.Options.{same_some}
+use Rattle.fp_base.proofs.Lists.{each_flat, each_mapped, each_push, each_weaker, each_item}
 use Rattle.fp_base.proofs.Spots.{item_below}
+use Rattle.fp_base.proofs.Mapped.{map_get}
 use Rattle.fp_tables.specs.Lists.{is_in}
 use Rattle.fp_written_topologies.specs.declared.topology.ImportedTopology.{ImportedTopology}
 use Rattle.fp_written_topologies.specs.declared.topology.WrittenTopology.{WrittenTopology}
 use Rattle.fp_topologies.specs.Imports.{AreClosures, Imports, LeadsToCycle, closure_at, closure_of, first_of_each, imported_by, with_imports}
 use Rattle.fp_topologies.proofs.Ways.{by_imports}
-use Rattle.fp_topologies.proofs.Earlier.{each_first, each_item}
+use Rattle.fp_topologies.proofs.Earlier.{each_first}
 use Rattle.fp_topologies.proofs.Having.{all_in, in_first, in_flat, in_front}
-
-get_map : {A B : Type 0} (f : A → B) (xs : List A) (k : ℕ) (x : A) → slice_get xs k ≡ Some x → slice_get (map f xs) k ≡ Some (f x)
-get_map f [] k x e = absurd (cc)
-get_map f (y ∷ xs) zero x e = ap (λ z. Some (f z)) (same_some e)
-get_map f (y ∷ xs) (suc k) x e = get_map f xs k x e
 
 module _ (ts : List WrittenTopology) (closures : List (Option (List ℕ))) (closed : AreClosures ts closures) where
   -- all of the one is in the other
@@ -45,7 +40,7 @@ module _ (ts : List WrittenTopology) (closures : List (Option (List ℕ))) (clos
           into : (k : ℕ) (i : ImportedTopology) → slice_get o.imports k ≡ Some i → (n : ℕ) → is_in n (closure_at closures i.topology) ≡ true → is_in n (closure_of closures o) ≡ true
           into k i e n h =
               in_first n (flat_map (with_imports closures) (imported_by o))
-              (in_flat (with_imports closures) n (imported_by o) k i.topology (get_map (λ (j : ImportedTopology). j.topology) o.imports k i e)
+              (in_flat (with_imports closures) n (imported_by o) k i.topology (map_get (λ (j : ImportedTopology). j.topology) o.imports k i e)
               (in_front n (closure_at closures i.topology) (i.topology ∷ []) h))
 
           by : (k : ℕ) (i : ImportedTopology) → slice_get o.imports k ≡ Some i → AllByRecursion (λ (u : ℕ). Within (closure_at closures u) (closure_of closures o)) (with_imports closures i.topology)

@@ -1,9 +1,10 @@
 -- What a topology imports, through others too, stands before it in an order of topologies.
-use Rattle.std.proofs.Common.{◌≡◌, ℕ, zero, suc, ◌<◌, ◌≤◌, Bool, true, false, not, cond, ◌==◌, ◌⊎◌, inl, inr, List, [], ◌∷◌, length, flat_map, Option, Some, None, slice_get, refl, sym, subst, arith}
+use Rattle.std.proofs.Common.{◌≡◌, ℕ, zero, suc, ◌<◌, ◌≤◌, not, ◌==◌, ◌⊎◌, inl, inr, List, [], ◌∷◌, length, flat_map, Option, Some, None, slice_get, refl, sym, subst, arith}
 use Rattle.std.specs.Prelude.{option_and_then, unwrap_or}
-use Rattle.std.specs.List.{AllByRecursion, filter}
-use Rattle.fp_base.proofs.Lists.{each_flat, each_mapped, each_push, each_weaker}
+use Rattle.std.specs.List.{AllByRecursion}
+use Rattle.fp_base.proofs.Lists.{each_flat, each_mapped, each_push, each_weaker, each_item}
 use Rattle.fp_base.proofs.Spots.{item_below}
+use Rattle.fp_base.proofs.Passing.{each_filtered}
 use Rattle.fp_graph.specs.Chains.{IsOnCycle, IsOrder}
 use Rattle.fp_written_topologies.specs.declared.topology.ImportedTopology.{ImportedTopology}
 use Rattle.fp_written_topologies.specs.declared.topology.WrittenTopology.{WrittenTopology}
@@ -11,21 +12,9 @@ use Rattle.fp_topologies.specs.Imports.{AreClosures, Imports, closure_at, closur
 
 -- ---- what holds of each item
 
-pub each_item : {A : Type 0} (P : A → Type 0) (xs : List A) → ((k : ℕ) (x : A) → slice_get xs k ≡ Some x → P x) → AllByRecursion P xs
-each_item P [] h = tt
-each_item P (x ∷ xs) h = (h 0 x refl, each_item P xs (λ k y e. h (suc k) y e))
-
-pub each_filter : {A : Type 0} (P : A → Type 0) (p : A → Bool) (xs : List A) → AllByRecursion P xs → AllByRecursion P (filter p xs)
-each_filter P p [] h = tt
-each_filter P p (x ∷ xs) h = go (p x) (each_filter P p xs h.1)
-  where
-    go : (b : Bool) → AllByRecursion P (filter p xs) → AllByRecursion P (cond b (x ∷ filter p xs) (filter p xs))
-    go true rest = (h.0, rest)
-    go false rest = rest
-
 pub each_first : (P : ℕ → Type 0) (ns : List ℕ) → AllByRecursion P ns → AllByRecursion P (first_of_each ns)
 each_first P [] h = tt
-each_first P (n ∷ ns) h = (h.0, each_filter P (λ m. not (n == m)) (first_of_each ns) (each_first P ns h.1))
+each_first P (n ∷ ns) h = (h.0, each_filtered P (λ m. not (n == m)) (first_of_each ns) (each_first P ns h.1))
 
 -- ---- before it in the order
 

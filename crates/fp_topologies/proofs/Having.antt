@@ -1,19 +1,14 @@
 -- Which numbers lists have.
-use Rattle.std.proofs.Common.{◌≡◌, ℕ, zero, suc, ◌<◌, ◌≤◌, Bool, true, false, not, cond, ◌&&◌, ◌||◌, ◌==◌, List, [], ◌∷◌, ◌++◌, flat_map, Some, slice_get, refl, sym, ap, subst, ◌∙◌, arith}
+use Rattle.std.proofs.Common.{◌≡◌, ℕ, zero, suc, ◌<◌, ◌≤◌, Bool, true, false, not, cond, ◌&&◌, ◌||◌, ◌==◌, List, [], ◌∷◌, ◌++◌, flat_map, Some, slice_get, refl, sym, ap, subst, ◌∙◌}
 use Rattle.std.specs.List.{AllByRecursion, filter, list_any}
-use Rattle.std.proofs.lemmas.Bool.Decides.{nat_tests}
 use Rattle.std.proofs.lemmas.List.Folds.{list_any-append}
 use Rattle.fp_base.proofs.Bools.{or_left, or_right}
 use Rattle.fp_base.proofs.Options.{same_some}
+use Rattle.fp_base.proofs.Numbers.{same_number}
+use Rattle.fp_base.proofs.Lists.{each_item}
 use Rattle.fp_tables.specs.Lists.{is_in}
+use Rattle.fp_tables.proofs.Indexed.{item_in}
 use Rattle.fp_topologies.specs.Imports.{first_of_each}
-use Rattle.fp_topologies.proofs.Earlier.{each_item}
-
-same_number : (m n : ℕ) → (m == n) ≡ true → m ≡ n
-same_number m n e = grind (arith, nat_tests)
-
-pub itself : (n : ℕ) → (n == n) ≡ true
-itself n = grind (arith, nat_tests)
 
 -- what holds of all holds of each that they have
 pub of_in : (P : ℕ → Type 0) (n : ℕ) (xs : List ℕ) → AllByRecursion P xs → is_in n xs ≡ true → P n
@@ -24,13 +19,8 @@ of_in P n (x ∷ xs) h e = go (x == n) refl e (of_in P n xs h.1)
     go true is f rest = subst P (same_number x n is) h.0
     go false is f rest = rest f
 
-pub in_item : (xs : List ℕ) (k n : ℕ) → slice_get xs k ≡ Some n → is_in n xs ≡ true
-in_item [] k n e = absurd (cc)
-in_item (x ∷ xs) zero n e = or_left (x == n) (is_in n xs) (ap (λ (m : ℕ). m == n) (same_some e) ∙ itself n)
-in_item (x ∷ xs) (suc k) n e = or_right (x == n) (is_in n xs) (in_item xs k n e)
-
 pub all_in : (xs : List ℕ) → AllByRecursion (λ (n : ℕ). is_in n xs ≡ true) xs
-all_in xs = each_item (λ (n : ℕ). is_in n xs ≡ true) xs (λ k n e. in_item xs k n e)
+all_in xs = each_item (λ (n : ℕ). is_in n xs ≡ true) xs (λ k n e. item_in xs k n e)
 
 pub in_front : (n : ℕ) (xs ys : List ℕ) → is_in n xs ≡ true → is_in n (xs ++ ys) ≡ true
 in_front n xs ys e = list_any-append (λ (m : ℕ). m == n) xs ys ∙ or_left (is_in n xs) (is_in n ys) e
@@ -73,12 +63,3 @@ in_first n (m ∷ ns) e = go (m == n) refl e (in_first n ns)
     go true is f rest = or_left (m == n) (is_in n (filter (λ k. not (m == k)) (first_of_each ns))) is
     go false is f rest =
         or_right (m == n) (is_in n (filter (λ k. not (m == k)) (first_of_each ns))) (in_filter n (λ k. not (m == k)) (first_of_each ns) (ap not is) (rest f))
-
--- what holds of all, and more of those that pass
-pub each_passing : {A : Type 0} (P Q : A → Type 0) (p : A → Bool) → ((x : A) → P x → p x ≡ true → Q x) → (xs : List A) → AllByRecursion P xs → AllByRecursion Q (filter p xs)
-each_passing P Q p to [] h = tt
-each_passing P Q p to (x ∷ xs) h = go (p x) refl (each_passing P Q p to xs h.1)
-  where
-    go : (b : Bool) → p x ≡ b → AllByRecursion Q (filter p xs) → AllByRecursion Q (cond b (x ∷ filter p xs) (filter p xs))
-    go true e rest = (to x h.0 e, rest)
-    go false e rest = rest

@@ -7,6 +7,7 @@ use Rattle.std.proofs.lemmas.Bool.Decides.{nat_tests}
 use Rattle.std.proofs.lemmas.List.Elements.{filter_agree}
 use Rattle.std.proofs.lemmas.List.Folds.{list_any-append}
 use Rattle.std.proofs.lemmas.List.{append-nil}
+use Rattle.std.proofs.Math.Bool.{or-false}
 use Rattle.fp_base.proofs.Lists.{take_next}
 use Rattle.fp_tables.specs.declared.topology.Link.{Link}
 use Rattle.fp_written_topologies.specs.declared.topology.MemberInstance.{MemberInstance}
@@ -20,15 +21,11 @@ pub open_taken : (ts : List WrittenTopology) (t : ℕ) (hidden : BTreeSet ℕ) �
     → filter (is_open hidden) ls ≡ filter (is_taken ts t) ls
 open_taken ts t hidden same ls = filter_agree (is_open hidden) (is_taken ts t) (λ (l : Link). λ i. not (same l.from i) && not (same l.to i)) ls
 
-or_false : (a : Bool) → (a || false) ≡ a
-or_false true = refl
-or_false false = refl
-
 pub private_next : (i : ℕ) (members : List MemberInstance) (n : ℕ) (m : MemberInstance) (before after : Bool) → slice_get members n ≡ Some m → after ≡ (before || (m.private && (m.used.instance == i)))
     → before ≡ is_private_among i (take n members) → after ≡ is_private_among i (take (n + 1) members)
 private_next i members n m before after here notes h =
     let test : MemberInstance → Bool = λ (x : MemberInstance). x.private && x.used.instance == i in
-    notes ∙ ap (λ b. b || test m) h ∙ ap (λ b. list_any test (take n members) || b) (sym (or_false (test m))) ∙ sym (list_any-append test (take n members) (m ∷ []))
+    notes ∙ ap (λ b. b || test m) h ∙ ap (λ b. list_any test (take n members) || b) (sym (or-false (test m))) ∙ sym (list_any-append test (take n members) (m ∷ []))
     ∙ ap (list_any test) (sym (take_next members n m here))
 
 -- a private member is noted

@@ -1,22 +1,13 @@
 -- Numbers that are noted one after another.
-use Rattle.std.proofs.Common.{◌≡◌, ◌∙◌, ◌==◌, ◌||◌, ℕ, Bool, true, false, not, cond, List, [], ◌∷◌, ◌++◌, refl, sym, ap, subst, append_assoc}
+use Rattle.std.proofs.Common.{◌≡◌, ◌∙◌, ◌==◌, ◌||◌, ℕ, Bool, true, false, not, cond, List, [], ◌∷◌, ◌++◌, sym, ap, subst, append_assoc}
 use Rattle.std.proofs.lemmas.List.{append-nil}
 use Rattle.std.specs.Ordering.{nat_cmp}
 use Rattle.std.specs.BTreeSet.{contains}
+use Rattle.fp_base.proofs.Bools.{was_there, was_new}
 use Rattle.fp_topologies.specs.declared.firsts.Firsts.{Firsts}
 use Rattle.fp_topologies.specs.ImportFirsts.{AreFirsts, has_number}
 use Rattle.fp_topologies.specs.Imports.{first_of_each}
 use Rattle.fp_topologies.proofs.Numbers.{first_pushed, has_pushed}
-
-not_new : (b c : Bool) → b ≡ not c → b ≡ false → c ≡ true
-not_new true c is e = absurd (cc)
-not_new false true is e = refl
-not_new false false is e = absurd (cc)
-
-is_new : (b c : Bool) → b ≡ not c → b ≡ true → c ≡ false
-is_new false c is e = absurd (cc)
-is_new true false is e = refl
-is_new true true is e = absurd (cc)
 
 -- the set with one number more is that of the list with it
 module _ (all : List ℕ) (n : ℕ) (old : Firsts) (before : AreFirsts all old) (new : Bool) (fresh : new ≡ not (contains nat_cmp old.seen n)) where
@@ -26,7 +17,7 @@ module _ (all : List ℕ) (n : ℕ) (old : Firsts) (before : AreFirsts all old) 
 
     pub pushed : new ≡ true → after.row ≡ old.row ++ n ∷ [] → AreFirsts (all ++ n ∷ []) after
     pushed is e =
-        let none : has_number n all ≡ false = sym (before.seen n) ∙ is_new new (contains nat_cmp old.seen n) fresh is in
+        let none : has_number n all ≡ false = sym (before.seen n) ∙ was_new new (contains nat_cmp old.seen n) fresh is in
         record {
           row =
               e ∙ ap (λ (ns : List ℕ). ns ++ n ∷ []) before.row
@@ -36,7 +27,7 @@ module _ (all : List ℕ) (n : ℕ) (old : Firsts) (before : AreFirsts all old) 
 
     pub passed : new ≡ false → after.row ≡ old.row → AreFirsts (all ++ n ∷ []) after
     passed is e =
-        let there : has_number n all ≡ true = sym (before.seen n) ∙ not_new new (contains nat_cmp old.seen n) fresh is in
+        let there : has_number n all ≡ true = sym (before.seen n) ∙ was_there new (contains nat_cmp old.seen n) fresh is in
         record {
           row = e ∙ before.row ∙ sym (first_pushed all n ∙ ap (λ (b : Bool). cond b (first_of_each all) (first_of_each all ++ n ∷ [])) there);
           seen = seen_more;

@@ -1,5 +1,4 @@
 pub mod ClosingSteps
-mod ConnectionFolding
 pub mod Differing
 pub mod Earlier
 pub mod FillingSteps
@@ -17,7 +16,6 @@ mod Linking
 mod Lists
 pub mod Lying
 pub mod Meeting
-mod MemberFolding
 mod MemberSteps
 mod MembersNoted
 pub mod NotingSteps

@@ -9,17 +9,19 @@ use Rattle.fp_base.proofs.Calculus.{least_same}
 use Rattle.fp_base.proofs.Lists.{get_front}
 use Rattle.fp_base.proofs.Options.{one_some, same_some}
 use Rattle.fp_base.proofs.Spots.{item_below}
+use Rattle.fp_base.proofs.Mapped.{map_get, get_mapped, many_mapped}
+use Rattle.fp_base.proofs.Numbers.{numbers_at, numbers_get}
+use Rattle.fp_base.specs.Numbers.{numbers_from}
 use Rattle.fp_graph.specs.Chains.{AreFlags, IsOnCycle, LeadsThrough, one, more}
 use Rattle.fp_graph.specs.Rows.{IsListed}
 use Rattle.fp_graph.proofs.Places.{get_drop, get_joined, get_right}
+use Rattle.fp_graph.proofs.Leading.{leads_join}
 use Rattle.fp_written_topologies.specs.declared.topology.ImportedTopology.{ImportedTopology}
 use Rattle.fp_written_topologies.specs.declared.topology.WrittenTopology.{WrittenTopology}
 use Rattle.fp_topologies.specs.declared.links.Link.{Link}
 use Rattle.fp_topologies.specs.Flagged.{FlaggedLink}
 use Rattle.fp_topologies.specs.Imports.{Imports, ImportsBroken, ImportsLie, Reaches}
-use Rattle.fp_topologies.specs.Links.{link_by, links_from, links_in, numbers_from, rows_from, targets_of}
-use Rattle.fp_topologies.proofs.Lists.{get_mapped, many_mapped, map_get}
-use Rattle.fp_topologies.proofs.Ways.{leads_join}
+use Rattle.fp_topologies.specs.Links.{link_by, links_from, links_in, rows_from, targets_of}
 
 -- ---- links are imports
 
@@ -69,16 +71,6 @@ stands_link v n (g ∷ ts) (suc a) o k i is e m =
     (length (links_in v g.imports) + t.0, get_right (links_in v g.imports) (links_from (suc v) ts) (record { importer = n; written = i }) (length (links_in v g.imports) + t.0) t.0 refl t.1)
 
 -- ---- their vertices
-
-numbers_at : (first count k t : ℕ) → slice_get (numbers_from first count) k ≡ Some t → (t ≡ first + k) × (k < count)
-numbers_at first zero k t e = absurd (cc)
-numbers_at first (suc count) zero t e = let same : first ≡ t = cc in (omega arith, omega arith)
-numbers_at first (suc count) (suc k) t e = let n = numbers_at (suc first) count k t e in let a = n.0 in let b = n.1 in (omega arith, omega arith)
-
-numbers_get : (first count k t : ℕ) → k < count → t ≡ first + k → slice_get (numbers_from first count) k ≡ Some t
-numbers_get first zero k t low is = absurd (omega arith)
-numbers_get first (suc count) zero t low is = let same : first ≡ t = omega arith in ap Some same
-numbers_get first (suc count) (suc k) t low is = numbers_get (suc first) count k t (omega arith) (omega arith)
 
 record IsNumberOf (first v : ℕ) (ts : List WrittenTopology) (a t : ℕ) : Type 0 where
   j : ℕ

@@ -1,7 +1,7 @@
 -- The positions in topologies are those of what is there.
 use Rattle.std.proofs.Common.{◌≡◌, ℕ, zero, suc, ◌+◌, ◌<◌, ◌≤◌, Bool, true, false, not, cond, ◌&&◌, ◌==◌, List, [], ◌∷◌, ◌++◌, length, map, flat_map, Option, Some, None, slice_get, refl, sym, ap, subst, ◌∙◌, arith}
 use Rattle.std.specs.Prelude.{nat_lt, option_and_then, option_map, unwrap_or, position, filter_map}
-use Rattle.std.specs.List.{AllByRecursion, cons_option, filter, list_all, list_any, position_or_len}
+use Rattle.std.specs.List.{AllByRecursion, cons_option, filter, list_all, list_any}
 use Rattle.std.specs.List.Sorted.{IsPermutation}
 use Rattle.std.specs.Str.{bytes_eq}
 use Rattle.std.proofs.lemmas.Bool.Decides.{nat_tests}
@@ -9,9 +9,10 @@ use Rattle.std.proofs.lemmas.List.Elements.{All-from_recursion, recursion_from_A
 use Rattle.std.proofs.lemmas.List.Sorted.{All-permutation}
 use Rattle.std.proofs.lemmas.Option.{slice_get_within}
 use Rattle.fp_base.proofs.Bools.{join}
-use Rattle.fp_base.proofs.Lists.{each_append, each_flat, each_mapped, of_item}
-use Rattle.fp_base.proofs.Options.{mapped_some, one_some, same_some, then_some}
+use Rattle.fp_base.proofs.Lists.{each_append, each_flat, each_mapped, of_item, each_item}
+use Rattle.fp_base.proofs.Options.{mapped_some, one_some, then_some}
 use Rattle.fp_base.proofs.Spots.{item_below}
+use Rattle.fp_base.proofs.Passing.{position_below, each_filtered}
 use Rattle.fp_tables.specs.Lists.{some_and}
 use Rattle.fp_tables.specs.Positions.{has_port, link_lies, numbers_lie, topology_lies, wire_lies}
 use Rattle.fp_tables.specs.declared.component.Component.{Component}
@@ -38,7 +39,7 @@ use Rattle.fp_topologies.specs.Joined.{AreJoined, IsJoined, imported_links, is_t
 use Rattle.fp_topologies.specs.Laws.{HaveClosures}
 use Rattle.fp_topologies.specs.Ordered.{AreInOrder, link_cmp}
 use Rattle.fp_topologies.specs.Resolved.{AreTopologies, HaveNoWires, IsTopology}
-use Rattle.fp_topologies.proofs.Earlier.{each_filter, each_first, each_item}
+use Rattle.fp_topologies.proofs.Earlier.{each_first}
 
 -- ---- on lists
 
@@ -62,13 +63,6 @@ each_new P there (l ∷ ls) h = go (list_any (same_ports l) there) (each_new P t
 pub list_all_each : {A : Type 0} (test : A → Bool) (xs : List A) → AllByRecursion (λ x. test x ≡ true) xs → list_all test xs ≡ true
 list_all_each test [] h = refl
 list_all_each test (x ∷ xs) h = join (test x) (list_all test xs) h.0 (list_all_each test xs h.1)
-
-pub position_below : {A : Type 0} (test : A → Bool) (xs : List A) (k : ℕ) → position test xs ≡ Some k → k < length xs
-position_below test xs k e = go (nat_lt (position_or_len test xs) (length xs)) refl e
-  where
-    go : (b : Bool) → nat_lt (position_or_len test xs) (length xs) ≡ b → cond b (Some (position_or_len test xs)) None ≡ Some k → k < length xs
-    go true is f = let same = same_some f in grind (arith, nat_tests)
-    go false is f = absurd (cc)
 
 only_below : {A : Type 0} (test : A → Bool) (xs : List A) (k : ℕ) → only_position test xs ≡ Some k → k < length xs
 only_below test xs k e = go (length (filter test xs) == 1) e
@@ -149,7 +143,7 @@ module _ (m : Model) where
       where
         taken : (t : ℕ) (o : Option Joined) → slice_get js t ≡ o → AllByRecursion Lies (filter (is_taken ts t) (unwrap_or (option_map (λ (j : Joined). j.own) o) []))
         taken t None e = tt
-        taken t (Some j) e = each_filter Lies (is_taken ts t) j.own (each t j e)
+        taken t (Some j) e = each_filtered Lies (is_taken ts t) j.own (each t j e)
 
     abbrev Below : ℕ → Type 0
     Below i = i < length m.instances
@@ -168,7 +162,7 @@ module _ (m : Model) where
         public t None e = tt
         public t (Some p) e =
             each_mapped Below (λ (x : MemberInstance). x.used.instance) (filter (λ (x : MemberInstance). not x.private) p.instances)
-            (each_filter _ (λ (x : MemberInstance). not x.private) p.instances (members_lie p.instances (lie t p e).members))
+            (each_filtered _ (λ (x : MemberInstance). not x.private) p.instances (members_lie p.instances (lie t p e).members))
 
     below_tests : (ns : List ℕ) → AllByRecursion Below ns → numbers_lie (length m.instances) ns ≡ true
     below_tests [] h = refl

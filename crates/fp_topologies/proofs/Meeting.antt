@@ -7,15 +7,18 @@ use Rattle.std.proofs.lemmas.List.Elements.{All-from_recursion, recursion_from_A
 use Rattle.std.proofs.lemmas.List.Sorted.{All-permutation}
 use Rattle.std.proofs.lemmas.Option.{slice_get_within}
 use Rattle.fp_base.proofs.Bools.{both, join, neither, not_true, or_left, or_right}
-use Rattle.fp_base.proofs.Lists.{each_append, each_flat, each_mapped, of_item}
+use Rattle.fp_base.proofs.Lists.{each_append, each_flat, each_mapped, of_item, each_item}
 use Rattle.fp_base.proofs.Options.{mapped_some, same_some, then_some}
 use Rattle.fp_base.proofs.Spots.{item_below}
+use Rattle.fp_base.proofs.Numbers.{number_itself}
+use Rattle.fp_base.proofs.Passing.{each_filtered, each_passing}
 use Rattle.fp_tables.specs.Lists.{is_in, some_and}
 use Rattle.fp_tables.specs.declared.component.Component.{Component}
 use Rattle.fp_tables.specs.declared.kind.PortDef.{PortDef}
 use Rattle.fp_tables.specs.declared.topology.Instance.{Instance}
 use Rattle.fp_tables.specs.declared.topology.Link.{Link}
 use Rattle.fp_tables.specs.declared.topology.Topology.{Topology}
+use Rattle.fp_tables.proofs.Indexed.{item_in}
 use Rattle.fp_written_topologies.specs.declared.topology.MemberInstance.{MemberInstance}
 use Rattle.fp_written_topologies.specs.declared.topology.UsedInstance.{UsedInstance}
 use Rattle.fp_written_topologies.specs.declared.topology.WrittenConnection.{WrittenConnection}
@@ -31,8 +34,8 @@ use Rattle.fp_topologies.specs.Joined.{AreJoined, IsJoined, imported_links, is_t
 use Rattle.fp_topologies.specs.Laws.{AllUsesAreHeld, HaveClosures, UsesAreHeld, joins}
 use Rattle.fp_topologies.specs.Resolved.{AreTopologies}
 use Rattle.fp_topologies.proofs.ClosingSteps.{whole}
-use Rattle.fp_topologies.proofs.Earlier.{each_filter, each_first, each_item}
-use Rattle.fp_topologies.proofs.Having.{all_in, each_passing, in_back, in_first, in_flat, in_flat_of, in_front, in_item, itself, of_in}
+use Rattle.fp_topologies.proofs.Earlier.{each_first}
+use Rattle.fp_topologies.proofs.Having.{all_in, in_back, in_first, in_flat, in_flat_of, in_front, of_in}
 use Rattle.fp_topologies.proofs.Lying.{each_kept, each_new, list_all_each}
 
 -- a member that isn't private is among those that importers take
@@ -59,7 +62,7 @@ open_in (x ∷ ms) k m e h = go k e (neither (x.private && x.used.instance == m.
         → is_in m.used.instance (instances_of (filter (λ (y : MemberInstance). not y.private) ms)) ≡ true)
         → is_in m.used.instance (instances_of (filter (λ (y : MemberInstance). not y.private) (x ∷ ms))) ≡ true
     go zero e n rest =
-        let same : (x.used.instance == m.used.instance) ≡ true = ap (λ (y : MemberInstance). y.used.instance == m.used.instance) (same_some e) ∙ itself m.used.instance in
+        let same : (x.used.instance == m.used.instance) ≡ true = ap (λ (y : MemberInstance). y.used.instance == m.used.instance) (same_some e) ∙ number_itself m.used.instance in
         first x.private (filter (λ (y : MemberInstance). not y.private) ms) (shut x.private (x.used.instance == m.used.instance) n.0 same) same
     go (suc k) e n rest = more (not x.private) (filter (λ (y : MemberInstance). not y.private) ms) (rest k e n.1)
 
@@ -80,7 +83,7 @@ module _ (ds : List PortDef) (cs : List Component) (is : List Instance) where
             subst (Joins held) q.2 (join (is_in c.from.used.instance held) (is_in c.to.used.instance held) (uses.from k c e) (uses.to k c e))
 
     targets_join : (k : ℕ) (p : WrittenPattern) → slice_get o.patterns k ≡ Some p → (us : Option (List UsedInstance)) → p.targets ≡ us → AllByRecursion (λ (i : ℕ). is_in i held ≡ true) (targets_of ds cs is held p us)
-    targets_join k p e None f = each_filter (λ (i : ℕ). is_in i held ≡ true) (is_target ds cs is p) held (all_in held)
+    targets_join k p e None f = each_filtered (λ (i : ℕ). is_in i held ≡ true) (is_target ds cs is p) held (all_in held)
     targets_join k p e (Some us) f =
         each_mapped (λ (i : ℕ). is_in i held ≡ true) (λ (u : UsedInstance). u.instance) us (each_item _ us (λ j u g. uses.targets k p us j u e f g))
 
@@ -136,7 +139,7 @@ module _ (ds : List PortDef) (cs : List Component) (is : List Instance) where
         each_first Given (flat_map (public_at ts) d ++ instances_of p.instances)
         (each_append Given (flat_map (public_at ts) d) (instances_of p.instances)
         (each_flat Given (public_at ts) d
-        (each_item _ d (λ k v e. each_item _ (public_at ts v) (λ j i f. λ open_. given_by v (through v (in_item d k v e)) i (in_item (public_at ts v) j i f)))))
+        (each_item _ d (λ k v e. each_item _ (public_at ts v) (λ j i f. λ open_. given_by v (through v (item_in d k v e)) i (item_in (public_at ts v) j i f)))))
         (each_mapped Given (λ (m : MemberInstance). m.used.instance) p.instances (each_item _ p.instances (λ k m e. member k m e))))
 
     pub taken_join : (ls : List Link) → AllByRecursion (Joins (instances_with ts d p)) ls → AllByRecursion (Joins (instances_with ts c o)) (filter (is_taken ts u) ls)
@@ -165,7 +168,7 @@ module _ (ds : List PortDef) (cs : List Component) (is : List Instance) where
       let own : AllByRecursion (Joins (instances_with ts c.0 o.0)) j.0.own =
       subst (λ (xs : List ℕ). AllByRecursion (Joins xs) j.0.own) of.instances (own_join ts a.joined c.0 o.0 j.0 of (uses a.closures a.closed t o.0 c.0 o.1 c.1)) in
       let imported : AllByRecursion (Joins (instances_with ts c.0 o.0)) (imported_links ts a.joined c.0) =
-      each_flat (Joins (instances_with ts c.0 o.0)) (taken_links ts a.joined) c.0 (each_item _ c.0 (λ i u f. taken c.0 o.0 c.1 u (in_item c.0 i u f) (slice_get a.joined u) refl)) in
+      each_flat (Joins (instances_with ts c.0 o.0)) (taken_links ts a.joined) c.0 (each_item _ c.0 (λ i u f. taken c.0 o.0 c.1 u (item_in c.0 i u f) (slice_get a.joined u) refl)) in
       let all : AllByRecursion (Joins (instances_with ts c.0 o.0)) r.links =
       moved (instances_with ts c.0 o.0) (imported_links ts a.joined c.0 ++ j.0.own) r.links it.links.permutation (each_append (Joins (instances_with ts c.0 o.0)) (imported_links ts a.joined c.0) j.0.own imported own) in
       list_all_each (joins r.instances) r.links (subst (λ (xs : List ℕ). AllByRecursion (Joins xs) r.links) (sym held) all)

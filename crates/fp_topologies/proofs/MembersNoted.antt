@@ -1,23 +1,17 @@
 -- What is noted of a list so far.
 use Rattle.std.proofs.Common.{◌≡◌, ℕ, ◌+◌, ◌<◌, ◌≤◌, ◌==◌, ◌||◌, ◌↔◌, ◌⊎◌, inl, inr, Bool, true, false, not, cond, List, length, slice_get, Option, Some, None, refl, sym, ap, subst, ◌∙◌, arith}
-use Rattle.std.proofs.lemmas.Bool.Decides.{nat_tests}
 use Rattle.std.proofs.lemmas.Option.{slice_get_within}
-use Rattle.fp_base.proofs.Bools.{or_cases, or_left, or_right}
-use Rattle.fp_base.proofs.Elements.{least_first_none}
+use Rattle.fp_base.proofs.Bools.{or_cases, or_left, or_right, not_both}
+use Rattle.fp_base.proofs.Elements.{least_first_none, least_next, least_of_all}
 use Rattle.fp_base.proofs.Options.{same_some}
 use Rattle.fp_base.proofs.Spots.{below_or_at}
+use Rattle.fp_base.proofs.Numbers.{same_number, number_same}
+use Rattle.fp_base.proofs.Calculus.{least_told}
 use Rattle.fp_base.specs.declared.refusal.Refusal.{Refusal}
 use Rattle.fp_base.specs.declared.rule.Rule.TheVariants.{BadInstance}
 use Rattle.fp_base.specs.Least.{broken_at, InFirst, IsLeast, lesser_of}
 use Rattle.fp_topologies.specs.MemberBroken.{Holds, IsRepeated, LackingAt, RepeatedAt, Repeated, Stands}
 use Rattle.fp_written_topologies.specs.declared.topology.UsedInstance.{UsedInstance}
-use Rattle.fp_topologies.proofs.MemberFolding.{least_next, least_of_all, least_told, not_both}
-
-numbers_equal : (m n : ℕ) → (m == n) ≡ true → m ≡ n
-numbers_equal m n e = grind (arith, nat_tests)
-
-numbers_are : (m n : ℕ) → m ≡ n → (m == n) ≡ true
-numbers_are m n e = grind (arith, nat_tests)
 
 -- what is noted is what stands at the first so many places
 pub record AreNoted (has : ℕ → ℕ → Type 0) (n : ℕ) (noted : ℕ → Bool) : Type 0 where
@@ -36,11 +30,11 @@ module _ (has : ℕ → ℕ → Type 0) where
     where
       found : (i : ℕ) → (old i ≡ true) ⊎ ((x == i) ≡ true) → (k : ℕ) × (k < n + 1) × has k i
       found i (inl e) = let t = before.to i e in let l = t.1 in (t.0, omega arith, t.2)
-      found i (inr e) = (n, omega arith, subst (λ (j : ℕ). has n j) (numbers_equal x i e) here)
+      found i (inr e) = (n, omega arith, subst (λ (j : ℕ). has n j) (same_number x i e) here)
 
       there : (k i : ℕ) → has k i → (k < n) ⊎ (k ≡ n) → (old i || (x == i)) ≡ true
       there k i h (inl l) = or_left (old i) (x == i) (before.from k i l h)
-      there k i h (inr s) = or_right (old i) (x == i) (numbers_are x i (only i (subst (λ (j : ℕ). has j i) s h)))
+      there k i h (inr s) = or_right (old i) (x == i) (number_same x i (only i (subst (λ (j : ℕ). has j i) s h)))
 
 -- ---- of a list of numbers
 

@@ -1,29 +1,20 @@
 -- What is noted of the ports that connections join, and which connections join others.
-use Rattle.std.proofs.Common.{◌≡◌, ℕ, ◌+◌, ◌<◌, ◌≤◌, Bool, true, false, not, cond, ◌&&◌, ◌||◌, ◌==◌, List, [], ◌∷◌, ◌++◌, length, take, drop, Some, slice_get, refl, sym, ap, subst, ◌∙◌, arith, zero, suc}
+use Rattle.std.proofs.Common.{◌≡◌, ℕ, ◌+◌, ◌<◌, ◌≤◌, Bool, true, false, not, cond, ◌&&◌, ◌||◌, ◌==◌, List, [], ◌∷◌, ◌++◌, length, take, drop, Some, slice_get, refl, sym, ap, subst, ◌∙◌, arith}
 use Rattle.std.specs.BTreeSet.{BTreeSet, contains}
 use Rattle.std.specs.List.{list_any}
 use Rattle.std.specs.Ordering.{is_eq, nat_cmp, ordering_then}
-use Rattle.std.specs.declared.cmp.Ordering.{Ordering}
-use Rattle.std.specs.declared.cmp.Ordering.TheVariants.{Less, Equal, Greater}
 use Rattle.std.proofs.lemmas.Bool.Decides.{nat_tests}
 use Rattle.std.proofs.lemmas.List.{append-nil, append_assoc}
 use Rattle.std.proofs.lemmas.List.Folds.{list_any-append}
-use Rattle.fp_base.proofs.Bools.{both}
-use Rattle.fp_base.proofs.Lists.{any_same, take_next}
-use Rattle.fp_base.proofs.Options.{same_some}
+use Rattle.std.proofs.Math.Bool.{or-false}
+use Rattle.fp_base.proofs.Bools.{both, was_there, was_new, or_noted}
+use Rattle.fp_base.proofs.Lists.{any_same, take_next, drop_over, drop_here}
+use Rattle.fp_base.proofs.Comparing.{both_equal, numbers_tie}
 use Rattle.fp_tables.specs.declared.topology.Link.{Link}
 use Rattle.fp_topologies.specs.Ends.{AreTaken, Ends, HasPorts, ends_cmp, ends_of}
 use Rattle.fp_topologies.specs.Joined.{new_beside, same_ports}
 
 -- ---- equal ends are the same ports
-
-tie : (a b : ℕ) → is_eq (nat_cmp a b) ≡ (b == a)
-tie a b = grind (arith, nat_tests)
-
-then_tie : (r s : Ordering) → is_eq (ordering_then r s) ≡ (is_eq r && is_eq s)
-then_tie Less s = refl
-then_tie Equal s = refl
-then_tie Greater s = refl
 
 regroup : (a b c d : Bool) → (((a && b) && c) && d) ≡ (a && (b && (c && d)))
 regroup false b c d = refl
@@ -36,37 +27,27 @@ ends_tie l q =
     let two = nat_cmp l.from_port q.from_port in
     let three = nat_cmp l.to q.to in
     let four = nat_cmp l.to_port q.to_port in
-    then_tie (ordering_then (ordering_then one two) three) four ∙ ap (λ b. b && is_eq four) (then_tie (ordering_then one two) three)
-    ∙ ap (λ b. (b && is_eq three) && is_eq four) (then_tie one two) ∙ regroup (is_eq one) (is_eq two) (is_eq three) (is_eq four)
+    both_equal (ordering_then (ordering_then one two) three) four ∙ ap (λ b. b && is_eq four) (both_equal (ordering_then one two) three)
+    ∙ ap (λ b. (b && is_eq three) && is_eq four) (both_equal one two) ∙ regroup (is_eq one) (is_eq two) (is_eq three) (is_eq four)
     ∙ alike (is_eq one) (is_eq two) (is_eq three) (is_eq four) (q.from == l.from) (q.from_port == l.from_port) (q.to == l.to) (q.to_port == l.to_port)
-    (tie l.from q.from) (tie l.from_port q.from_port) (tie l.to q.to) (tie l.to_port q.to_port)
+    (numbers_tie l.from q.from) (numbers_tie l.from_port q.from_port) (numbers_tie l.to q.to) (numbers_tie l.to_port q.to_port)
   where
     alike : (a b c d e f g h : Bool) → a ≡ e → b ≡ f → c ≡ g → d ≡ h → (a && (b && (c && d))) ≡ (e && (f && (g && h)))
     alike a b c d e f g h p q r s = λ i. p i && (q i && (r i && s i))
 
 -- ---- noting
 
-noted_or : (now asked had : Bool) → now ≡ cond asked true had → now ≡ (had || asked)
-noted_or now true true e = e
-noted_or now true false e = e
-noted_or now false true e = e
-noted_or now false false e = e
-
 pub noted_more : (now had : Bool) (key : Ends) (l q : Link) → key ≡ ends_of l → now ≡ cond (is_eq (ends_cmp key (ends_of q))) true had → now ≡ (had || same_ports q l)
 noted_more now had key l q is e =
-    noted_or now (same_ports q l) had (e ∙ ap (λ (k : Ends). cond (is_eq (ends_cmp k (ends_of q))) true had) is ∙ ap (λ b. cond b true had) (ends_tie l q))
+    or_noted now (same_ports q l) had (e ∙ ap (λ (k : Ends). cond (is_eq (ends_cmp k (ends_of q))) true had) is ∙ ap (λ b. cond b true had) (ends_tie l q))
 
 pub fresh_is : (new : Bool) (had : Ends → Bool) (key : Ends) (l : Link) → key ≡ ends_of l → new ≡ not (had key) → new ≡ not (had (ends_of l))
 fresh_is new had key l is e = e ∙ ap (λ (k : Ends). not (had k)) is
 
-or_false : (a : Bool) → (a || false) ≡ a
-or_false true = refl
-or_false false = refl
-
 pub noted_behind : (before after : BTreeSet Ends) (xs : List Link) (l : Link)
     → ((q : Link) → contains ends_cmp after (ends_of q) ≡ (contains ends_cmp before (ends_of q) || same_ports q l)) → HasPorts before xs → HasPorts after (xs ++ l ∷ [])
 noted_behind before after xs l notes has q =
-    notes q ∙ ap (λ b. b || same_ports q l) (has q) ∙ ap (λ b. list_any (same_ports q) xs || b) (sym (or_false (same_ports q l))) ∙ sym (list_any-append (same_ports q) xs (l ∷ []))
+    notes q ∙ ap (λ b. b || same_ports q l) (has q) ∙ ap (λ b. list_any (same_ports q) xs || b) (sym (or-false (same_ports q l))) ∙ sym (list_any-append (same_ports q) xs (l ∷ []))
 
 pub noted_next : (before after : BTreeSet Ends) (there all : List Link) (n : ℕ) (l : Link) → slice_get all n ≡ Some l
     → ((q : Link) → contains ends_cmp after (ends_of q) ≡ (contains ends_cmp before (ends_of q) || same_ports q l)) → HasPorts before (there ++ take n all) → HasPorts after (there ++ take (n + 1) all)
@@ -98,33 +79,17 @@ known_or xs l q there = go (same_ports q l) refl
 
     go : (b : Bool) → same_ports q l ≡ b → (list_any (same_ports q) xs || same_ports q l) ≡ list_any (same_ports q) xs
     go true e = ap (λ b. list_any (same_ports q) xs || b) e ∙ ors (list_any (same_ports q) xs) (any_same (same_ports q) (same_ports l) (λ x. alike_to l q x e) xs ∙ there)
-    go false e = ap (λ b. list_any (same_ports q) xs || b) e ∙ or_false (list_any (same_ports q) xs)
+    go false e = ap (λ b. list_any (same_ports q) xs || b) e ∙ or-false (list_any (same_ports q) xs)
 
 pub noted_again : (before after : BTreeSet Ends) (xs : List Link) (l : Link) → ((q : Link) → contains ends_cmp after (ends_of q) ≡ (contains ends_cmp before (ends_of q) || same_ports q l))
     → list_any (same_ports l) xs ≡ true → HasPorts before xs → HasPorts after xs
 noted_again before after xs l notes there has q = notes q ∙ ap (λ b. b || same_ports q l) (has q) ∙ known_or xs l q there
-
-drop_here : {A : Type 0} (xs : List A) (n : ℕ) (x : A) → slice_get xs n ≡ Some x → drop n xs ≡ x ∷ drop (n + 1) xs
-drop_here xs n x h = let on : suc n ≡ n + 1 = omega arith in step xs n x h ∙ ap (λ k. x ∷ drop k xs) on
-  where
-    step : {A : Type 0} (xs : List A) (n : ℕ) (x : A) → slice_get xs n ≡ Some x → drop n xs ≡ x ∷ drop (suc n) xs
-    step [] n x h = absurd (cc)
-    step (y ∷ xs) zero x h = ap (λ z. z ∷ xs) (same_some h)
-    step (y ∷ xs) (suc n) x h = step xs n x h
 
 pub taken_none : (there all : List Link) (noted : BTreeSet Ends) → HasPorts noted there → AreTaken there all 0 noted []
 taken_none there all noted has = record {
   has = noted_none noted there has;
   rest = ap (λ xs. new_beside xs all) (sym (append-nil there));
 }
-
-not_fresh : (new had : Bool) → new ≡ not had → new ≡ false → had ≡ true
-not_fresh new true e f = refl
-not_fresh new false e f = absurd (cc)
-
-is_fresh : (new had : Bool) → new ≡ not had → new ≡ true → had ≡ false
-is_fresh new false e f = refl
-is_fresh new true e f = absurd (cc)
 
 module _ (there all : List Link) (n : ℕ) (before after : BTreeSet Ends) (taken : List Link) (l : Link) (here : slice_get all n ≡ Some l) (new : Bool)
     (fresh : new ≡ not (contains ends_cmp before (ends_of l))) (notes : (q : Link) → contains ends_cmp after (ends_of q) ≡ (contains ends_cmp before (ends_of q) || same_ports q l))
@@ -137,12 +102,12 @@ module _ (there all : List Link) (n : ℕ) (before after : BTreeSet Ends) (taken
 
   pub taken_passed : new ≡ false → AreTaken there all (n + 1) after taken
   taken_passed e =
-      let known : list_any (same_ports l) (there ++ taken) ≡ true = sym (so.has l) ∙ not_fresh new (contains ends_cmp before (ends_of l)) fresh e in
+      let known : list_any (same_ports l) (there ++ taken) ≡ true = sym (so.has l) ∙ was_there new (contains ends_cmp before (ends_of l)) fresh e in
       record { has = noted_again before after (there ++ taken) l notes known so.has; rest = opened true known }
 
   pub taken_more : new ≡ true → (more : List Link) → more ≡ taken ++ l ∷ [] → AreTaken there all (n + 1) after more
   taken_more e more is =
-      let unknown : list_any (same_ports l) (there ++ taken) ≡ false = sym (so.has l) ∙ is_fresh new (contains ends_cmp before (ends_of l)) fresh e in
+      let unknown : list_any (same_ports l) (there ++ taken) ≡ false = sym (so.has l) ∙ was_new new (contains ends_cmp before (ends_of l)) fresh e in
       let joined : (there ++ taken) ++ l ∷ [] ≡ there ++ (taken ++ l ∷ []) = append_assoc there taken (l ∷ []) in
       subst (AreTaken there all (n + 1) after) (sym is)
       (record {
@@ -151,12 +116,6 @@ module _ (there all : List Link) (n : ℕ) (before after : BTreeSet Ends) (taken
             opened false unknown ∙ sym (append_assoc taken (l ∷ []) (new_beside ((there ++ taken) ++ l ∷ []) (drop (n + 1) all)))
             ∙ ap (λ xs. (taken ++ l ∷ []) ++ new_beside xs (drop (n + 1) all)) joined;
       })
-
-drop_over : {A : Type 0} (xs : List A) (n : ℕ) → length xs ≤ n → drop n xs ≡ []
-drop_over [] zero h = refl
-drop_over [] (suc n) h = refl
-drop_over (x ∷ xs) zero h = absurd (omega arith)
-drop_over (x ∷ xs) (suc n) h = drop_over xs n (omega arith)
 
 pub taken_all : (there all : List Link) (n : ℕ) (noted : BTreeSet Ends) (taken : List Link) → length all ≤ n → AreTaken there all n noted taken → taken ≡ new_beside there all
 taken_all there all n noted taken over so =

@@ -1,18 +1,12 @@
 -- Of each number of a list the first.
-use Rattle.std.proofs.Common.{◌≡◌, ◌∙◌, ◌==◌, ◌||◌, ℕ, Bool, true, false, not, cond, List, [], ◌∷◌, ◌++◌, refl, ap, arith}
+use Rattle.std.proofs.Common.{◌≡◌, ◌∙◌, ◌==◌, ◌||◌, ℕ, Bool, true, false, not, cond, List, [], ◌∷◌, ◌++◌, refl, ap}
 use Rattle.std.specs.List.{filter, AllByRecursion}
-use Rattle.std.proofs.lemmas.Bool.Decides.{nat_tests}
 use Rattle.std.proofs.lemmas.List.{append-nil}
 use Rattle.std.proofs.lemmas.List.Elements.{filter-append}
 use Rattle.std.proofs.lemmas.List.Folds.{list_any-append}
+use Rattle.std.proofs.Math.Bool.{or-false}
 use Rattle.fp_topologies.specs.ImportFirsts.{has_number}
 use Rattle.fp_topologies.specs.Imports.{first_of_each}
-
-pub numbers_equal : (m n : ℕ) → (m == n) ≡ true → m ≡ n
-numbers_equal m n e = grind (arith, nat_tests)
-
-pub numbers_are : (m n : ℕ) → m ≡ n → (m == n) ≡ true
-numbers_are m n e = grind (arith, nat_tests)
 
 -- ---- a number more
 
@@ -37,12 +31,8 @@ first_pushed (x ∷ ns) n = ap (λ (zs : List ℕ). x ∷ others x zs) (first_pu
     go true is false = ap (λ (zs : List ℕ). x ∷ zs) (others_pushed x n (first_of_each ns) true is)
     go false is false = ap (λ (zs : List ℕ). x ∷ zs) (others_pushed x n (first_of_each ns) false is)
 
-or_false : (b : Bool) → (b || false) ≡ b
-or_false true = refl
-or_false false = refl
-
 pub has_pushed : (i n : ℕ) (ns : List ℕ) → has_number i (ns ++ n ∷ []) ≡ (has_number i ns || (n == i))
-has_pushed i n ns = list_any-append (λ (m : ℕ). m == i) ns (n ∷ []) ∙ ap (λ (b : Bool). has_number i ns || b) (or_false (n == i))
+has_pushed i n ns = list_any-append (λ (m : ℕ). m == i) ns (n ∷ []) ∙ ap (λ (b : Bool). has_number i ns || b) (or-false (n == i))
 
 -- ---- what holds of all
 

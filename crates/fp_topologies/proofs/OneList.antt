@@ -5,13 +5,14 @@ use Rattle.std.specs.List.{AllByRecursion}
 use Rattle.std.proofs.lemmas.Option.{slice_get_within}
 use Rattle.fp_base.specs.Least.{IsUnbroken, broken_at}
 use Rattle.fp_base.specs.declared.rule.Rule.TheVariants.{ImportCycle}
-use Rattle.fp_base.proofs.Lists.{each_append, of_item}
+use Rattle.fp_base.proofs.Lists.{each_append, of_item, same_items}
 use Rattle.fp_base.proofs.Spots.{item_below}
+use Rattle.fp_base.proofs.Mapped.{get_mapped}
 use Rattle.fp_graph.specs.Chains.{IsOnCycle, LeadsThrough, one, more}
 use Rattle.fp_written_topologies.specs.declared.topology.ImportedTopology.{ImportedTopology}
 use Rattle.fp_written_topologies.specs.declared.topology.WrittenTopology.{WrittenTopology}
 use Rattle.fp_topologies.specs.Imports.{AreClosures, closure_at, closure_of, first_of_each, imported_by, Imports, ImportsBroken, ImportsLie, LeadsToCycle, Reaches, with_imports}
-use Rattle.fp_topologies.proofs.Lists.{flat_same, get_mapped, same_lists}
+use Rattle.fp_topologies.proofs.Lists.{flat_same}
 use Rattle.fp_topologies.proofs.Numbers.{first_all}
 use Rattle.fp_topologies.proofs.Ways.{by_imports}
 
@@ -70,7 +71,7 @@ module _ (ts : List WrittenTopology) (a b : List (Option (List ℕ))) (closed : 
   same_entries t (Some c) (Some d) e f = ap Some (sym (ap stands_as e) ∙ same_at t (closed.free t c e) ∙ ap stands_as f)
 
   pub one_list : a ≡ b
-  one_list = same_lists a b (closed.each ∙ sym again.each) same_entries
+  one_list = same_items a b (closed.each ∙ sym again.each) same_entries
 
 -- ---- where nothing is broken
 

@@ -6,7 +6,7 @@ use Rattle.std.specs.Cmp.{IsStrictWeakOrder}
 use Rattle.std.proofs.lemmas.List.Sorted.{sorted_far}
 use Rattle.std.proofs.lemmas.Option.{get_or_from_slice_get, slice_get_within}
 use Rattle.fp_base.proofs.Bools.{both, join, not_true}
-use Rattle.fp_topologies.proofs.Earlier.{each_item}
+use Rattle.fp_base.proofs.Lists.{each_item}
 
 module _ {X : Type 0} (lt : X → X → Bool) (order : IsStrictWeakOrder lt) where
   -- none before it is greater

@@ -1,13 +1,9 @@
 -- The order of connections: that it is one, and that there is one list in it.
-use Rattle.std.proofs.Common.{◌≡◌, ℕ, ◌+◌, ◌<◌, ◌≤◌, Bool, true, false, not, cond, ◌&&◌, List, [], ◌∷◌, length, refl, sym, ap, subst, ◌∙◌, arith, zero, suc}
+use Rattle.std.proofs.Common.{◌≡◌, ℕ, ◌+◌, ◌<◌, ◌≤◌, Bool, true, false, not, cond, ◌&&◌, List, [], ◌∷◌, length, refl, sym, subst, ◌∙◌, arith, zero, suc}
 use Rattle.std.specs.Cmp.{IsStrictWeakOrder, IsTotalOrder}
 use Rattle.std.specs.Ordering.{is_lt, nat_cmp, ordering_then}
 use Rattle.std.specs.declared.cmp.Ordering.{Ordering}
 use Rattle.std.specs.declared.cmp.Ordering.TheVariants.{Less, Equal, Greater}
-use Rattle.std.specs.Fn.{Called, ComparesAs}
-use denote.Param.Members.{Mut}
-use denote.Ref.{Bor}
-use Rattle.std.proofs.lemmas.Fn.{always_returns_same}
 use Rattle.std.proofs.lemmas.Cmp.{nat_list_cmp_total, on_total, then_total}
 use Rattle.std.proofs.lemmas.List.Sorted.{ranks_by}
 use Rattle.fp_tables.specs.declared.component.Component.{Component}
@@ -30,9 +26,3 @@ pub ends_regroup : (a b c d : Ordering) → ordering_then (ordering_then a b) (o
 ends_regroup Less b c d = refl
 ends_regroup Equal b c d = refl
 ends_regroup Greater b c d = refl
-
--- a closure that compares and stays as it was
-pub compares : {X F : Type 0} {g : Mut F (Bor X × (Bor X × Unit {0})) Ordering} {f : F} (cmp : X → X → Ordering)
-    → ((a : Bor X × (Bor X × Unit {0})) (r : Ordering) (h : F) → Called g f a r h → (r ≡ cmp a.0.now a.1.0.now) × (h ≡ f)) → ComparesAs g (λ x y. is_lt (cmp x y)) f
-compares {g = g} {f = f} cmp each =
-    always_returns_same g (λ a r. is_lt r ≡ is_lt (cmp a.0.now a.1.0.now)) f (λ a r h k. let t = each a r h k in (ap is_lt t.0, t.1))

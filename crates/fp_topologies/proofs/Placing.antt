@@ -4,6 +4,7 @@ use Rattle.std.specs.Prelude.{option_and_then, unwrap_or}
 use Rattle.std.proofs.lemmas.List.{length-append}
 use Rattle.fp_base.proofs.Options.{one_some}
 use Rattle.fp_base.proofs.Spots.{get_push}
+use Rattle.fp_base.proofs.Lists.{no_item}
 use Rattle.fp_tables.specs.declared.component.Component.{Component}
 use Rattle.fp_tables.specs.declared.topology.Instance.{Instance}
 use Rattle.fp_tables.specs.declared.topology.Link.{Link}
@@ -15,9 +16,6 @@ use Rattle.fp_topologies.specs.Joined.{imported_links}
 use Rattle.fp_topologies.specs.Ordered.{AreInOrder, link_cmp}
 use Rattle.fp_topologies.specs.Resolved.{AreResolved, HaveNoWires, IsTopology}
 
-none_there : {A : Type 0} {P : Type 0} (k : ℕ) (x : A) → slice_get [] k ≡ Some x → P
-none_there k x e = absurd (cc)
-
 module _ (cs : List Component) (is : List Instance) (ts : List WrittenTopology) (closures : List (Option (List ℕ))) (joined : List Joined) where
   -- the first so many
   pub record ArePlaced (n : ℕ) (rs : List Topology) : Type 0 where
@@ -28,8 +26,8 @@ module _ (cs : List Component) (is : List Instance) (ts : List WrittenTopology) 
   pub placed_none : ArePlaced 0 []
   placed_none = record {
     each = refl;
-    resolved = record { of = λ t o c j r w f g e. none_there t r e };
-    wires = λ t r e. none_there t r e;
+    resolved = record { of = λ t o c j r w f g e. no_item t r e };
+    wires = λ t r e. no_item t r e;
   }
 
   module _ (n : ℕ) (o : WrittenTopology) (j : Joined) (links sorted : List Link) (one : Topology) (here : slice_get ts n ≡ Some o) (there : slice_get joined n ≡ Some j)

@@ -3,7 +3,7 @@ use Rattle.std.proofs.Common.{◌≡◌, ℕ, zero, suc, ◌<◌, ◌≤◌, Lis
 use Rattle.std.specs.Prelude.{option_and_then, unwrap_or}
 use Rattle.std.specs.List.{AllByRecursion}
 use Rattle.std.proofs.lemmas.Option.{slice_get_within}
-use Rattle.fp_base.proofs.Lists.{each_before, each_flat, each_mapped, each_push}
+use Rattle.fp_base.proofs.Lists.{each_before, each_flat, each_mapped, each_push, each_item}
 use Rattle.fp_base.proofs.Spots.{item_below}
 use Rattle.fp_tables.specs.declared.component.Component.{Component}
 use Rattle.fp_tables.specs.declared.kind.PortDef.{PortDef}
@@ -21,7 +21,7 @@ use Rattle.fp_topologies.specs.Joined.{AreJoined, IsJoined, imported_links, made
 use Rattle.fp_topologies.specs.Laws.{AreAlike, HaveClosures}
 use Rattle.fp_topologies.specs.Ordered.{AreInOrder, link_cmp}
 use Rattle.fp_topologies.specs.Resolved.{AreTopologies, IsTopology}
-use Rattle.fp_topologies.proofs.Earlier.{each_first, each_item}
+use Rattle.fp_topologies.proofs.Earlier.{each_first}
 use Rattle.fp_topologies.proofs.FillingSteps.{imported_same}
 use Rattle.fp_topologies.proofs.OneOrder.{one_in_order}
 use Rattle.fp_topologies.proofs.Ordering.{link_ranks}

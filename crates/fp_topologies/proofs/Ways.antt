@@ -4,15 +4,12 @@ use Rattle.std.specs.List.{AllByRecursion}
 use Rattle.std.proofs.lemmas.Bool.Decides.{nat_tests}
 use Rattle.std.proofs.lemmas.Option.{slice_get_within}
 use Rattle.fp_base.proofs.Lists.{each_weaker}
+use Rattle.fp_base.proofs.Numbers.{same_number}
 use Rattle.fp_graph.specs.Chains.{IsOnCycle, LeadsThrough, one, more}
+use Rattle.fp_graph.proofs.Leading.{leads_join}
 use Rattle.fp_written_topologies.specs.declared.topology.WrittenTopology.{WrittenTopology}
 use Rattle.fp_topologies.specs.ImportFirsts.{has_number}
 use Rattle.fp_topologies.specs.Imports.{Imports, LeadsToCycle, Reaches}
-use Rattle.fp_topologies.proofs.Numbers.{numbers_equal}
-
-pub leads_join : {L : ℕ → ℕ → Type 0} {a b c : ℕ} → LeadsThrough L a b → LeadsThrough L b c → LeadsThrough L a c
-leads_join p (one k) = more p k
-leads_join p (more q k) = more (leads_join p q) k
 
 -- ---- of numbers below a limit those that aren't in a list
 
@@ -39,7 +36,7 @@ left_fewer (suc n) t path low new = go (t == n) refl (has_number n path) refl (�
 
     go : (a : Bool) → (t == n) ≡ a → (b : Bool) → has_number n path ≡ b → (t < n → left n (t ∷ path) < left n path)
         → cond (a || b) (left n (t ∷ path)) (suc (left n (t ∷ path))) < cond b (left n path) (suc (left n path))
-    go true is true there rest = let same : has_number t path ≡ true = ap (λ (k : ℕ). has_number k path) (numbers_equal t n is) ∙ there in absurd (cc)
+    go true is true there rest = let same : has_number t path ≡ true = ap (λ (k : ℕ). has_number k path) (same_number t n is) ∙ there in absurd (cc)
     go true is false there rest = let less = left_less n t path in omega arith
     go false is true there rest = rest (below is)
     go false is false there rest = let less = rest (below is) in omega arith
@@ -87,7 +84,7 @@ module _ (ts : List WrittenTopology) where
   in_path t (p ∷ path) h e = go (p == t) refl e (in_path t path h.1)
     where
       go : (a : Bool) → (p == t) ≡ a → (a || has_number t path) ≡ true → (has_number t path ≡ true → IsOnCycle (Imports ts) t) → IsOnCycle (Imports ts) t
-      go true is x rest = subst (λ (q : ℕ). LeadsThrough (Imports ts) q t) (numbers_equal p t is) h.0
+      go true is x rest = subst (λ (q : ℕ). LeadsThrough (Imports ts) q t) (same_number p t is) h.0
       go false is x rest = rest x
 
   module _ (P : ℕ → Type 0) (step : (t : ℕ) → (LeadsToCycle ts t → ⊥) → ((w : ℕ) → Imports ts t w → P w) → P t) where

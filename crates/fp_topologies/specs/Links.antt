@@ -1,6 +1,7 @@
 -- The imports of topologies as a graph. Each import is a vertex of its own, behind those of the topologies: a topology leads to its imports, and
 -- they lead to what they import.
-use Rattle.std.specs.Prelude.{ℕ, zero, suc, ◌+◌, List, [], ◌∷◌, ◌++◌, length, map}
+use Rattle.std.specs.Prelude.{ℕ, suc, ◌+◌, List, [], ◌∷◌, ◌++◌, length, map}
+use Rattle.fp_base.specs.Numbers.{numbers_from}
 use Rattle.fp_written_topologies.specs.declared.topology.ImportedTopology.{ImportedTopology}
 use Rattle.fp_written_topologies.specs.declared.topology.WrittenTopology.{WrittenTopology}
 use Rattle.fp_topologies.specs.declared.links.Link.{Link}
@@ -14,11 +15,6 @@ links_in importer is = map (link_by importer) is
 abbrev pub links_from : ℕ → List WrittenTopology → List Link
 links_from t [] = []
 links_from t (o ∷ os) = links_in t o.imports ++ links_from (suc t) os
-
--- so many numbers from one on
-abbrev pub numbers_from : ℕ → ℕ → List ℕ
-numbers_from first zero = []
-numbers_from first (suc count) = first ∷ numbers_from (suc first) count
 
 -- the vertices of the imports of each topology
 abbrev pub rows_from : ℕ → ℕ → List WrittenTopology → List (List ℕ)

@@ -1,8 +1,9 @@
 -- What is read of a list, one after another, into what grows with each.
 use Rattle.std.proofs.Common.{◌≡◌, ℕ, ◌+◌, ◌≤◌, List, [], ◌∷◌, ◌++◌, length, flat_map, take, slice_get, Option, Some, sym, ap, ◌∙◌, subst}
 use Rattle.std.proofs.lemmas.List.{append-nil, take_all}
-use Rattle.std.proofs.lemmas.Grind.{flat_map-append}
+use Rattle.fp_component_forms.proofs.Lists.{EachIs}
 use Rattle.fp_base.proofs.Lists.{take_next}
+use Rattle.fp_base.proofs.Mapped.{flat_next, flat_last}
 use Rattle.fp_base.specs.declared.value.Value.{Value}
 use Rattle.fp_tree.specs.declared.source.Source.{Source}
 use Rattle.fp_meaning.specs.declared.item.Item.{Item}
@@ -11,12 +12,6 @@ use Rattle.fp_type_forms.specs.Resolved.{Takes}
 use Rattle.fp_type_forms.specs.Written.{AllAt}
 use Rattle.fp_type_forms.proofs.Only.{all_joined}
 use Rattle.fp_type_forms.proofs.Taking.{taken_as, taken_nothing, taken_then}
-
-pub flat_last : {A B : Type 0} (f : A → List B) (xs : List A) (x : A) → flat_map f (xs ++ x ∷ []) ≡ flat_map f xs ++ f x
-flat_last f xs x = flat_map-append f xs (x ∷ []) ∙ ap (λ l. flat_map f xs ++ l) (append-nil (f x))
-
-pub flat_next : {A B : Type 0} (f : A → List B) (xs : List A) (k : ℕ) (x : A) → slice_get xs k ≡ Some x → flat_map f (take (k + 1) xs) ≡ flat_map f (take k xs) ++ f x
-flat_next f xs k x at = ap (flat_map f) (take_next xs k x at) ∙ flat_last f (take k xs) x
 
 -- what the first so many give
 abbrev pub GrownFirst : {A S : Type 0} → (List A → S → Type 0) → (A → List Item) → Source → List (Option Value) → List Resolution → List A → ℕ → ℕ → ℕ → S → Type 0
@@ -39,14 +34,11 @@ module _ {A S : Type 0} (P : List A → S → Type 0) (g : A → List Item) (sou
 
 -- one for each
 module _ {A B : Type 0} (R : A → B → Type 0) where
-  abbrev pub EachIs : List A → List B → Type 0
-  EachIs xs ys = AllAt (λ position. R) 0 xs ys
+  pub none_each : (ys : List B) → ys ≡ [] → EachIs R [] ys
+  none_each ys is = subst (λ (l : List B). EachIs R [] l) (sym is) tt
 
-  pub none_each : (ys : List B) → ys ≡ [] → EachIs [] ys
-  none_each ys is = subst (λ (l : List B). EachIs [] l) (sym is) tt
-
-  pub one_more : (x : A) (y : B) (old new : List B) → new ≡ old ++ y ∷ [] → R x y → (xs : List A) → EachIs xs old → EachIs (xs ++ x ∷ []) new
-  one_more x y old new is r xs h = subst (λ (l : List B). EachIs (xs ++ x ∷ []) l) (sym is) (all_joined R 0 0 xs (x ∷ []) old (y ∷ []) h (r, tt))
+  pub one_more : (x : A) (y : B) (old new : List B) → new ≡ old ++ y ∷ [] → R x y → (xs : List A) → EachIs R xs old → EachIs R (xs ++ x ∷ []) new
+  one_more x y old new is r xs h = subst (λ (l : List B). EachIs R (xs ++ x ∷ []) l) (sym is) (all_joined R 0 0 xs (x ∷ []) old (y ∷ []) h (r, tt))
 
 -- as many as each gives
 module _ {A B C : Type 0} (f : A → List C) (R : C → B → Type 0) where

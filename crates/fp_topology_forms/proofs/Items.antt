@@ -1,7 +1,9 @@
 -- What is read of items, one after another.
 use Rattle.std.proofs.Common.{◌≡◌, ℕ, ◌+◌, ◌≤◌, List, [], ◌++◌, length, flat_map, take, slice_get, Option, Some, None, sym, ◌∙◌, subst}
 use Rattle.std.proofs.lemmas.List.{take_all}
+use Rattle.std.specs.Option.{option_to_list}
 use Rattle.fp_base.specs.declared.value.Value.{Value}
+use Rattle.fp_base.proofs.Mapped.{flat_next}
 use Rattle.fp_tree.specs.declared.source.Source.{Source}
 use Rattle.fp_meaning.specs.declared.item.Item.{Item}
 use Rattle.fp_meaning.specs.Layout as layout
@@ -10,10 +12,8 @@ use Rattle.fp_type_forms.specs.Resolved.{AreResolved}
 use Rattle.fp_type_forms.specs.Written.{AllAt}
 use Rattle.fp_type_forms.proofs.Adding.{parts_resolved}
 use Rattle.fp_type_forms.proofs.Only.{all_joined}
-use Rattle.fp_component_forms.specs.Taken.{row_of}
 use Rattle.fp_topology_forms.specs.declared.ranks.Ranks.{Ranks}
 use Rattle.fp_topology_forms.specs.Taken.{AreRanks, Gives, IsGiven}
-use Rattle.fp_topology_forms.proofs.Growing.{flat_next}
 
 -- what the first so many give
 abbrev pub GivesFirst : {A B : Type 0} → (Source → A → B → Type 0) → (Item → List A) → Ranks → List (Option Value) → List Resolution → List Item → ℕ → List B → Type 0
@@ -29,12 +29,12 @@ module _ {A B : Type 0} (R : Source → A → B → Type 0) (these_of : Item →
     pub none_given : (ws : List B) → ws ≡ [] → GivesFirst R these_of ranks marks rs is 0 ws
     none_given ws e source ready laid h = subst (λ (l : List B). AllAt (λ position. R source) 0 [] l) (sym e) tt
 
-    pub next_given : (k : ℕ) (i : Item) (old new : List B) (one : Option B) → slice_get is k ≡ Some i → new ≡ old ++ row_of one → GivesFirst R these_of ranks marks rs is k old
+    pub next_given : (k : ℕ) (i : Item) (old new : List B) (one : Option B) → slice_get is k ≡ Some i → new ≡ old ++ option_to_list one → GivesFirst R these_of ranks marks rs is k old
         → IsGiven R these_of ranks marks rs (k + 1) i one → GivesFirst R these_of ranks marks rs is (k + 1) new
     next_given k i old new one at made before here source ready laid h =
         subst (λ (l : List A). AllAt (λ position. R source) 0 l new) (sym (flat_next these_of is k i at))
         (subst (λ (l : List B). AllAt (λ position. R source) 0 (flat_map these_of (take k is) ++ these_of i) l) (sym made)
-        (all_joined (R source) 0 0 (flat_map these_of (take k is)) (these_of i) old (row_of one) (before source ready laid h)
+        (all_joined (R source) 0 0 (flat_map these_of (take k is)) (these_of i) old (option_to_list one) (before source ready laid h)
         (here source ready (parts_resolved source marks rs is k i laid at h))))
 
     pub all_given : (k : ℕ) (ws : List B) → length is ≤ k → GivesFirst R these_of ranks marks rs is k ws → Gives R these_of ranks marks rs is ws

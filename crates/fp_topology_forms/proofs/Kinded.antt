@@ -18,7 +18,7 @@ use Rattle.fp_meaning.specs.declared.item.Item.{Item}
 use Rattle.fp_meaning.specs.declared.item.Item.TheVariants as item
 use Rattle.fp_meaning.specs.Broken.{BrokenByDefinitions}
 use Rattle.fp_meaning.specs.Layout.{items}
-use Rattle.fp_meaning.specs.Names.{Path, defined, definitions, definitions_of, group_of, model_group, model_name, name_of}
+use Rattle.fp_meaning.specs.Names.{Path, defined, definitions, definitions_of, group_of, model_group, model_name, name_of, IsMadeOfNames}
 use Rattle.fp_meaning.specs.Sites.{ModelDef, component, instance, interface, machine, topology}
 use Rattle.fp_component_forms.specs.Written.{Scoped, qualified, same_group}
 use Rattle.fp_source_types.specs.Named.{DefinitionsAreNamed}
@@ -27,7 +27,7 @@ use Rattle.fp_written_topologies.specs.declared.instance.WrittenInstance.{Writte
 use Rattle.fp_written_topologies.specs.declared.topology.WrittenDeployment.{WrittenDeployment}
 use Rattle.fp_written_topologies.specs.declared.topology.WrittenTopology.{WrittenTopology}
 use Rattle.fp_topology_forms.specs.Written.{InstanceIs, IsWrittenDeployment, TopologyIs, instance_in, instance_of, instances, topologies, topology_in, topology_of}
-use Rattle.fp_topology_forms.proofs.Texts.{HasNames, source_once, texts_in, written_apart, written_qualified}
+use Rattle.fp_topology_forms.proofs.Texts.{source_once, texts_in, written_apart, written_qualified}
 
 in_each : {A B : Type 0} (P : A → Type 0) (f : B → List A) (xs : List B) → Each P (flat_map f xs) → Each (λ (x : B). Each P (f x)) xs
 in_each P f [] h = tt
@@ -78,7 +78,7 @@ instance_texts (item.Written since p) = refl
 abbrev InstanceQualified : Scoped Instance → Type 0
 InstanceQualified s = is_qualified (qualified s.scope s.node.name) ≡ true
 
-instance_qualified : (i : Item) → Each HasNames (definitions_of i) → Each InstanceQualified (instance_of i)
+instance_qualified : (i : Item) → Each IsMadeOfNames (definitions_of i) → Each InstanceQualified (instance_of i)
 instance_qualified (item.Declared d) h = of_model d.scope d.definition h.0
   where
     of_model : (scope : Path) (m : ModelDef) → list_all is_name (scope ++ (model_name m).text ∷ []) ≡ true → Each InstanceQualified (instance_in scope m)
@@ -130,7 +130,7 @@ topology_texts (item.Written since p) = refl
 abbrev TopologyQualified : Scoped Topology → Type 0
 TopologyQualified s = is_qualified (qualified s.scope s.node.name) ≡ true
 
-topology_qualified : (i : Item) → Each HasNames (definitions_of i) → Each TopologyQualified (topology_of i)
+topology_qualified : (i : Item) → Each IsMadeOfNames (definitions_of i) → Each TopologyQualified (topology_of i)
 topology_qualified (item.Declared d) h = of_model d.scope d.definition h.0
   where
     of_model : (scope : Path) (m : ModelDef) → list_all is_name (scope ++ (model_name m).text ∷ []) ≡ true → Each TopologyQualified (topology_in scope m)
@@ -147,22 +147,22 @@ topology_qualified (item.Written since p) h = tt
 -- ---- of a source
 
 module _ (source : Source) (d : WrittenDeployment) (definitions_named : DefinitionsAreNamed source) (are : IsWrittenDeployment source d) where
-  each_named : Each HasNames (definitions source)
-  each_named = each_given HasNames (definitions source) definitions_named
+  each_named : Each IsMadeOfNames (definitions source)
+  each_named = each_given IsMadeOfNames (definitions source) definitions_named
 
-  by_items : Each (λ (i : Item). Each HasNames (definitions_of i)) (items source)
-  by_items = in_each HasNames definitions_of (items source) each_named
+  by_items : Each (λ (i : Item). Each IsMadeOfNames (definitions_of i)) (items source)
+  by_items = in_each IsMadeOfNames definitions_of (items source) each_named
 
   pub instances_qualified : list_all (λ (i : WrittenInstance). is_qualified i.name) d.instances ≡ true
   instances_qualified =
       written_qualified group.Instance (λ (i : Instance). i.name) instance_of (InstanceIs source) (λ (w : WrittenInstance). w.name) (λ s w h. h.name) 0 (instances source) d.instances
-      (each_flat InstanceQualified instance_of (items source) (each_weaker (λ (i : Item). Each HasNames (definitions_of i)) (λ (i : Item). Each InstanceQualified (instance_of i)) instance_qualified (items source) by_items))
+      (each_flat InstanceQualified instance_of (items source) (each_weaker (λ (i : Item). Each IsMadeOfNames (definitions_of i)) (λ (i : Item). Each InstanceQualified (instance_of i)) instance_qualified (items source) by_items))
       are.instances
 
   pub topologies_qualified : list_all (λ (t : WrittenTopology). is_qualified t.name) d.topologies ≡ true
   topologies_qualified =
       written_qualified group.Topology (λ (t : Topology). t.name) topology_of (TopologyIs source) (λ (w : WrittenTopology). w.name) (λ s w h. h.name) 0 (topologies source) d.topologies
-      (each_flat TopologyQualified topology_of (items source) (each_weaker (λ (i : Item). Each HasNames (definitions_of i)) (λ (i : Item). Each TopologyQualified (topology_of i)) topology_qualified (items source) by_items))
+      (each_flat TopologyQualified topology_of (items source) (each_weaker (λ (i : Item). Each IsMadeOfNames (definitions_of i)) (λ (i : Item). Each TopologyQualified (topology_of i)) topology_qualified (items source) by_items))
       are.topologies
 
   pub instances_differ : IsUnbroken (BrokenByDefinitions source) → texts_differ (map (λ (i : WrittenInstance). i.name) d.instances) ≡ true

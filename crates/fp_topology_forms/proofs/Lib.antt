@@ -3,7 +3,7 @@ mod Growing
 mod Items
 mod Kinded
 mod Numbers
-mod Once
+pub mod Once
 pub mod Places
 mod PortNames
 mod Rows

@@ -1,7 +1,7 @@
 -- Where expressions have values, and numbers where numbers are wanted, each number that is written is there.
 use Rattle.std.proofs.Common.{◌≡◌, ℕ, suc, ℤ, List, [], ◌∷◌, ◌++◌, flat_map, slice_get, Option, Some, None, refl, subst}
 use Rattle.std.specs.List.{AllByRecursion as Each}
-use Rattle.fp_base.proofs.Lists.{each_append, each_before, each_behind, each_flat, of_item}
+use Rattle.fp_base.proofs.Lists.{each_append, each_before, each_behind, each_flat, of_item, each_part}
 use Rattle.fp_base.proofs.Options.{same_some}
 use Rattle.fp_base.specs.declared.value.Value.{Value}
 use Rattle.fp_tree.specs.declared.source.Source.{Source}
@@ -26,17 +26,13 @@ use Rattle.fp_part_values.specs.Numbers.{connection_numbers, instance_numbers, t
 use Rattle.fp_part_values.specs.FormStanding.{AreValued, NumbersStand}
 use Rattle.fp_part_values.proofs.Standing.{HasValue as IsPlaced, each_given, owned}
 use Rattle.fp_written_parts.specs.declared.port.Given.{Given}
+use Rattle.fp_written_parts.specs.Numbered.{HasNumber}
 use Rattle.fp_component_forms.specs.Written.{BothOrNeither, GivenIs, Scoped}
-use Rattle.fp_written_topologies.specs.Given.{DeploymentHasNumbers, HasNumber, HasNumberWhereGiven, InstanceHasNumbers}
+use Rattle.fp_written_topologies.specs.Given.{DeploymentHasNumbers, HasNumberWhereGiven, InstanceHasNumbers}
 use Rattle.fp_written_topologies.specs.declared.instance.WrittenInstance.{WrittenInstance}
 use Rattle.fp_written_topologies.specs.declared.topology.WrittenDeployment.{WrittenDeployment}
 use Rattle.fp_topology_forms.specs.Written.{ConnectionIs, InstanceIs, IsWrittenDeployment, TopologyIs, connections_in, instance_in, instance_of, instances, topologies, topology_in, topology_of}
 use Rattle.fp_topology_forms.proofs.Places.{second_read}
-
--- part by part
-each_split : {A B : Type 0} (P : B → Type 0) (f : A → List B) (xs : List A) → Each P (flat_map f xs) → Each (λ x. Each P (f x)) xs
-each_split P f [] h = tt
-each_split P f (x ∷ xs) h = (each_before P (f x) (flat_map f xs) h, each_split P f xs (each_behind P (f x) (flat_map f xs) h))
 
 none_there : {A C : Type 0} {x : A} → ◌≡◌ {A = Option A} None (Some x) → C
 none_there e = absurd (cc)
@@ -129,7 +125,7 @@ module _ (source : Source) where
         (of_each ms (each_behind Numbered (topology_member_numbers m) (flat_map topology_member_numbers ms) h))
       where
         one_of : (m : TMember) → Each Numbered (topology_member_numbers m) → Each Joined (connections_in m)
-        one_of (member.Connections g) h = each_split Numbered connection_numbers g.connections h
+        one_of (member.Connections g) h = each_part Numbered connection_numbers g.connections h
         one_of (member.Instance u) h = tt
         one_of (member.Import i) h = tt
         one_of (member.Include i) h = tt

@@ -33,7 +33,7 @@ use Rattle.fp_written_topologies.specs.declared.topology.WrittenTopology.{Writte
 use Rattle.fp_topology_forms.specs.Written.{ConnectionIs, ImportIs, InstanceIs, IsWrittenDeployment, MemberInstanceIs, PatternIs, PortUseIs, TargetIs, TargetsAre, TopologyIs, UsedIs, connections_in, imports_in, instance_part, instances, patterns_in, topologies, uses_in}
 
 -- both there and one, or neither there
-one_of_both : {A B : Type 0} (R : A → B → Type 0) → ((x : A) (y z : B) → R x y → R x z → y ≡ z) → (o : Option A) (p q : Option B) → BothOrNeither R o p → BothOrNeither R o q → p ≡ q
+pub one_of_both : {A B : Type 0} (R : A → B → Type 0) → ((x : A) (y z : B) → R x y → R x z → y ≡ z) → (o : Option A) (p q : Option B) → BothOrNeither R o p → BothOrNeither R o q → p ≡ q
 one_of_both R one None None None h g = refl
 one_of_both R one None None (Some z) h g = absurd g
 one_of_both R one None (Some y) q h g = absurd h
@@ -41,18 +41,18 @@ one_of_both R one (Some x) None q h g = absurd h
 one_of_both R one (Some x) (Some y) None h g = absurd g
 one_of_both R one (Some x) (Some y) (Some z) h g = ap (λ w. Some w) (one x y z h g)
 
-same_given : {m n : Option ℤ} {a b : _} → m ≡ n → a ≡ b → ◌≡◌ {A = Given} (record { number = m; at = a }) (record { number = n; at = b })
+pub same_given : {m n : Option ℤ} {a b : _} → m ≡ n → a ≡ b → ◌≡◌ {A = Given} (record { number = m; at = a }) (record { number = n; at = b })
 same_given e f = cc
 
 module _ (source : Source) (scope : Path) where
-  one_given : (e : Expr) (g h : Given) → GivenIs source scope e g → GivenIs source scope e h → g ≡ h
+  pub one_given : (e : Expr) (g h : Given) → GivenIs source scope e g → GivenIs source scope e h → g ≡ h
   one_given e g h k l =
       same_given (same_answer (NumberIs source scope e) g.number h.number (one_number source scope e) k.number l.number) (k.at ∙ sym l.at)
 
-  one_optional : (e : Option Expr) (g h : Option Given) → BothOrNeither (GivenIs source scope) e g → BothOrNeither (GivenIs source scope) e h → g ≡ h
+  pub one_optional : (e : Option Expr) (g h : Option Given) → BothOrNeither (GivenIs source scope) e g → BothOrNeither (GivenIs source scope) e h → g ≡ h
   one_optional e g h k l = one_of_both (GivenIs source scope) one_given e g h k l
 
-  one_place : (g : Group) (q : Qual) (j k : ℕ) → PositionIs source scope g q j → PositionIs source scope g q k → j ≡ k
+  pub one_place : (g : Group) (q : Qual) (j k : ℕ) → PositionIs source scope g q j → PositionIs source scope g q k → j ≡ k
   one_place g q j k h l =
       h.2 ∙ ap (λ (n : ℕ). before g (definitions source) n) (one_meaning (definitions source) scope (names_of q) g h.0 l.0 h.1 l.1) ∙ sym l.2
 

@@ -14,7 +14,7 @@ use Rattle.fp_meaning.specs.Layout.{items}
 use Rattle.fp_meaning.specs.Names.{Path, definitions, definitions_of, defined, group_of, model_group, model_name, name_of}
 use Rattle.fp_meaning.specs.Sites.{ModelDef, machine, component, interface, instance, topology}
 use Rattle.fp_type_forms.specs.Written.{AllAt}
-use Rattle.fp_component_forms.specs.Written.{PositionIs, among, before, component_in, component_of, components, same_group}
+use Rattle.fp_component_forms.specs.Written.{PositionIs, among, before, component_in, component_declared, components, same_group}
 use Rattle.fp_topology_forms.specs.Written.{instance_in, instance_of, instances, topologies, topology_in, topology_of}
 
 -- what stands at one place of the first, where the second has something
@@ -41,21 +41,21 @@ module _ {A B : Type 0} (R : A → B → Type 0) where
 
 -- ---- those of a group, of which as many stand before one as its position says
 
-itself : (g : Group) → same_group g g ≡ true
-itself group.Kind = refl
-itself group.Value = refl
-itself group.Port = refl
-itself group.Component = refl
-itself group.Instance = refl
-itself group.Topology = refl
-itself group.Machine = refl
-itself group.Interface = refl
+pub group_itself : (g : Group) → same_group g g ≡ true
+group_itself group.Kind = refl
+group_itself group.Value = refl
+group_itself group.Port = refl
+group_itself group.Component = refl
+group_itself group.Instance = refl
+group_itself group.Topology = refl
+group_itself group.Machine = refl
+group_itself group.Interface = refl
 
-among_joined : (g : Group) (ds es : List Definition) → among g (ds ++ es) ≡ among g ds + among g es
+pub among_joined : (g : Group) (ds es : List Definition) → among g (ds ++ es) ≡ among g ds + among g es
 among_joined g [] es = omega arith
 among_joined g (d ∷ ds) es = let rest = among_joined g ds es in omega arith
 
-before_lies : (g : Group) (ds : List Definition) (n : ℕ) (d : Definition) → slice_get ds n ≡ Some d → same_group g d.group ≡ true → before g ds n < among g ds
+pub before_lies : (g : Group) (ds : List Definition) (n : ℕ) (d : Definition) → slice_get ds n ≡ Some d → same_group g d.group ≡ true → before g ds n < among g ds
 before_lies g [] n d at same = absurd (cc)
 before_lies g (x ∷ ds) zero d at same =
     let here : ◌≡◌ {A = ℕ} (cond (same_group g x.group) 1 0) 1 = ap (λ (b : Bool). cond b 1 0) (ap (λ (y : Definition). same_group g y.group) (same_some at) ∙ same) in
@@ -73,17 +73,17 @@ module _ {A : Type 0} (g : Group) (f : Item → List A) (each : (i : Item) → a
       omega (arith, long, split, here, rest)
 
   -- the position of what a name means in the list of those
-  position_lies : (source : Source) (scope : Path) (q : Qual) (position : ℕ) → PositionIs source scope g q position → position < length (flat_map f (items source))
+  pub position_lies : (source : Source) (scope : Path) (q : Qual) (position : ℕ) → PositionIs source scope g q position → position < length (flat_map f (items source))
   position_lies source scope q position h =
       let named = h.1.meant.named in
-      let within = before_lies g (definitions source) h.0 named.definition named.here (ap (same_group g) named.of_group ∙ itself g) in
+      let within = before_lies g (definitions source) h.0 named.definition named.here (ap (same_group g) named.of_group ∙ group_itself g) in
       let all = among_items (items source) in
       let same = h.2 in
       omega (arith, within, all, same)
 
 -- ---- components, instances and topologies
 
-one_component_of : (i : Item) → among group.Component (definitions_of i) ≡ length (component_of i)
+one_component_of : (i : Item) → among group.Component (definitions_of i) ≡ length (component_declared i)
 one_component_of (item.Defined s) = of_definition s.scope s.definition
   where
     of_definition : (scope : Path) (d : Def) → among group.Component (defined (group_of d) scope (name_of d) ∷ []) ≡ 0
@@ -107,7 +107,7 @@ one_component_of (item.Used since n) = refl
 one_component_of (item.Written since p) = refl
 
 pub component_lies : (source : Source) (scope : Path) (q : Qual) (position : ℕ) → PositionIs source scope group.Component q position → position < length (components source)
-component_lies = position_lies group.Component component_of one_component_of
+component_lies = position_lies group.Component component_declared one_component_of
 
 one_instance_of : (i : Item) → among group.Instance (definitions_of i) ≡ length (instance_of i)
 one_instance_of (item.Defined s) = of_definition s.scope s.definition

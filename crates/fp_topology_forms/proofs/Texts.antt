@@ -1,14 +1,14 @@
 -- The names of the definitions of a group, written with dots, differ where none is defined twice.
-use Rattle.std.proofs.Common.{◌≡◌, ℕ, suc, ◌<◌, Bool, true, false, cond, not, ◌||◌, List, [], ◌∷◌, ◌++◌, map, flat_map, take, slice_get, Some, refl, sym, ap, ◌∙◌, arith}
+use Rattle.std.proofs.Common.{◌≡◌, ℕ, suc, ◌<◌, Bool, true, false, cond, not, List, [], ◌∷◌, ◌++◌, map, flat_map, take, slice_get, Some, refl, sym, ap, ◌∙◌, arith}
 use Rattle.std.specs.List.{AllByRecursion as Each, list_all, list_any}
 use Rattle.std.specs.Str.{bytes_eq}
 use Rattle.std.proofs.lemmas.List.{map-append}
-use Rattle.std.proofs.lemmas.Slice.Eq.{bytes_eq-Decides}
+use Rattle.std.proofs.lemmas.Bool.{or_from}
 use Rattle.fp_base.proofs.Bools.{join}
 use Rattle.fp_base.proofs.Lists.{of_item}
+use Rattle.fp_base.proofs.Bytes.{same_bytes}
 use Rattle.fp_base.specs.declared.rule.Rule.TheVariants.{DefinedTwice}
 use Rattle.fp_base.specs.Least.{IsUnbroken, broken_at}
-use Rattle.fp_base.specs.Names.{is_name}
 use Rattle.fp_graph.proofs.Places.{get_take}
 use Rattle.fp_tree.specs.declared.source.Source.{Source}
 use Rattle.fp_tree.specs.declared.name.Name.{Name}
@@ -18,15 +18,11 @@ use Rattle.fp_meaning.specs.declared.item.Item.{Item}
 use Rattle.fp_meaning.specs.declared.names.Definition.{Definition}
 use Rattle.fp_meaning.specs.Broken.{BrokenByDefinitions}
 use Rattle.fp_meaning.specs.Meaning.{IsNamed}
-use Rattle.fp_meaning.specs.Names.{definitions, definitions_of}
+use Rattle.fp_meaning.specs.Names.{definitions, definitions_of, IsMadeOfNames}
 use Rattle.fp_meaning.specs.Values.{dotted}
 use Rattle.fp_type_forms.specs.Written.{AllAt}
 use Rattle.fp_component_forms.specs.Written.{Scoped, qualified, same_group}
 use Rattle.fp_source_types.proofs.Dotted.{dotted_same}
-
--- each name in a qualified name is a name of the language
-abbrev pub HasNames : Definition → Type 0
-HasNames d = list_all is_name d.name ≡ true
 
 -- no two are of one group and have one name
 abbrev pub Once : List Definition → Type 0
@@ -38,19 +34,12 @@ source_once source once m n x y low at there of_group of_name =
     record { definition = x; here = get_take (definitions source) n m low ∙ at; of_group = of_group; of_name = of_name } in
     once (broken_at DefinedTwice y.place) (n, y, there, (refl, (m, earlier)))
 
-same_text : (a b : List ℕ) → bytes_eq a b ≡ true → a ≡ b
-same_text a b e = (bytes_eq-Decides a b).0 e
-
-both_false : (a b : Bool) → a ≡ false → b ≡ false → (a || b) ≡ false
-both_false false b e f = f
-both_false true b e f = absurd (cc)
-
 no_same : (a b : List ℕ) → (a ≡ b → ⊥) → bytes_eq a b ≡ false
 no_same a b differ = go (bytes_eq a b) refl
   where
     go : (t : Bool) → bytes_eq a b ≡ t → bytes_eq a b ≡ false
     go false e = e
-    go true e = absurd (differ (same_text a b e))
+    go true e = absurd (differ (same_bytes a b e))
 
 -- the names of those of a group
 abbrev pub texts_in : Group → List Definition → List (List ℕ)
@@ -74,9 +63,9 @@ module _ (g : Group) (is_group : (h : Group) → same_group g h ≡ true → h �
     where
       go : (b : Bool) → same_group g y.group ≡ b → list_any (bytes_eq t) (texts_in g ds) ≡ false → list_any (bytes_eq t) (cond b (dotted y.name ∷ texts_in g ds) (texts_in g ds)) ≡ false
       go false e rest = rest
-      go true e rest = both_false (bytes_eq t (dotted y.name)) (list_any (bytes_eq t) (texts_in g ds)) (no_same t (dotted y.name) (other 0 y refl e)) rest
+      go true e rest = or_from (bytes_eq t (dotted y.name)) (list_any (bytes_eq t) (texts_in g ds)) (no_same t (dotted y.name) (other 0 y refl e)) rest
 
-  pub texts_apart : (ds : List Definition) → Once ds → Each HasNames ds → texts_differ (texts_in g ds) ≡ true
+  pub texts_apart : (ds : List Definition) → Once ds → Each IsMadeOfNames ds → texts_differ (texts_in g ds) ≡ true
   texts_apart [] once named = refl
   texts_apart (d ∷ ds) once named = go (same_group g d.group) refl (texts_apart ds (λ m n x y low. once (suc m) (suc n) x y (omega arith)) named.1)
     where
@@ -85,7 +74,7 @@ module _ (g : Group) (is_group : (h : Group) → same_group g h ≡ true → h �
       go true e rest =
           join (not (list_any (bytes_eq (dotted d.name)) (texts_in g ds))) (texts_differ (texts_in g ds))
           (ap not (none_like (dotted d.name) ds (λ n y at of same.
-          once 0 (suc n) d y (omega arith) refl at (is_group d.group e ∙ sym (is_group y.group of)) (dotted_same d.name y.name named.0 (of_item HasNames ds n y named.1 at) same))))
+          once 0 (suc n) d y (omega arith) refl at (is_group d.group e ∙ sym (is_group y.group of)) (dotted_same d.name y.name named.0 (of_item IsMadeOfNames ds n y named.1 at) same))))
           rest
 
 -- nodes of a kind, whose definitions are those of a group, and what is written of them
@@ -108,7 +97,7 @@ module _ {A W : Type 0} (g : Group) (name : A → Name) (of : Item → List (Sco
       ap (λ (t : List ℕ). t ∷ map text ws) (named x w h.0) ∙ ap (λ (l : List (List ℕ)). text_of x ∷ l) (texts_written (suc k) xs ws h.1)
 
   pub written_apart : (is_group : (h : Group) → same_group g h ≡ true → h ≡ g) → ((i : Item) → texts_in g (definitions_of i) ≡ map text_of (of i))
-      → (is : List Item) (ws : List W) → AllAt (λ position. R) 0 (flat_map of is) ws → Once (flat_map definitions_of is) → Each HasNames (flat_map definitions_of is)
+      → (is : List Item) (ws : List W) → AllAt (λ position. R) 0 (flat_map of is) ws → Once (flat_map definitions_of is) → Each IsMadeOfNames (flat_map definitions_of is)
       → texts_differ (map text ws) ≡ true
   written_apart is_group each is ws are once names =
       ap texts_differ (texts_written 0 (flat_map of is) ws are ∙ sym (texts_of_items each is)) ∙ texts_apart g is_group (flat_map definitions_of is) once names

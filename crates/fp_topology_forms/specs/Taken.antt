@@ -1,5 +1,6 @@
 -- What is read of instances and topologies, part by part.
 use Rattle.std.specs.Prelude.{◌≡◌, ℕ, List, [], ◌∷◌, ◌++◌, flat_map, Option}
+use Rattle.std.specs.Option.{option_to_list}
 use Rattle.fp_base.specs.declared.value.Value.{Value}
 use Rattle.fp_tree.specs.declared.source.Source.{Source}
 use Rattle.fp_tree.specs.declared.topology.TMember.{TMember}
@@ -11,7 +12,6 @@ use Rattle.fp_type_forms.specs.declared.resolving.Resolution.{Resolution}
 use Rattle.fp_type_forms.specs.Resolved.{AreResolved, parts_of_item}
 use Rattle.fp_type_forms.specs.Written.{AllAt}
 use Rattle.fp_component_forms.specs.Positions.{RanksAre}
-use Rattle.fp_component_forms.specs.Taken.{row_of}
 use Rattle.fp_topology_forms.specs.declared.members.MembersTaken.{MembersTaken}
 use Rattle.fp_topology_forms.specs.declared.ranks.Ranks.{Ranks}
 use Rattle.fp_topology_forms.specs.Written.{ConnectionIs, ImportIs, MemberInstanceIs, PatternIs, connections_in, imports_in, patterns_in, uses_in}
@@ -43,7 +43,7 @@ AreWithMember source scope m before after = (ms : List TMember) → MembersAre s
 -- what an item gives, whose parts are read from a place on
 abbrev pub IsGiven : {A B : Type 0} → (Source → A → B → Type 0) → (Item → List A) → Ranks → List (Option Value) → List Resolution → ℕ → Item → Option B → Type 0
 IsGiven R these_of ranks marks rs start i one =
-    (source : Source) → AreRanks source ranks → AreResolved source marks rs (parts_of_item i) start → AllAt (λ position. R source) 0 (these_of i) (row_of one)
+    (source : Source) → AreRanks source ranks → AreResolved source marks rs (parts_of_item i) start → AllAt (λ position. R source) 0 (these_of i) (option_to_list one)
 
 -- what all items of a source give
 abbrev pub Gives : {A B : Type 0} → (Source → A → B → Type 0) → (Item → List A) → Ranks → List (Option Value) → List Resolution → List Item → List B → Type 0

@@ -1,11 +1,11 @@
 ghost use Rattle.std.specs.Prelude.{◌≡◌, ◌++◌, ◌∷◌, [], IfOk};
-ghost use Rattle.fp_component_forms.specs.Taken.{row_of};
+ghost use Rattle.std.specs.Option.{option_to_list};
 
 use fp_base::{NoMemory, Row};
 
 /// With one more behind them, where it is there.
 pub fn with_optional<T: Drop>(row: Row<T>, one: Option<T>) -> Result<Row<T>, NoMemory>
-    ensures { IfOk result (λ more. more ≡ row ++ row_of one) }
+    ensures { IfOk result (λ more. more ≡ row ++ option_to_list one) }
 {
     match one {
         Some(one) => with_one(row, one),

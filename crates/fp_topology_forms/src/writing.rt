@@ -1,9 +1,9 @@
 ghost use Rattle.std.specs.Prelude.{◌≡◌, IfOk};
+ghost use Rattle.std.specs.Option.{option_to_list};
 ghost use Rattle.fp_meaning.specs.Layout.{items as laid_out, model_own_items};
 ghost use Rattle.fp_tree.specs.declared.source.Source.{Source};
 ghost use Rattle.fp_type_forms.specs.Resolved.{AreResolved};
 ghost use Rattle.fp_type_forms.specs.Written.{AllAt};
-ghost use Rattle.fp_component_forms.specs.Taken.{row_of};
 ghost use Rattle.fp_topology_forms.specs.Taken.{AreRanks, Gives, IsGiven};
 ghost use Rattle.fp_topology_forms.specs.Written.{InstanceIs, IsWrittenDeployment, TopologyIs, instance_in, instance_of, topology_in, topology_of};
 
@@ -81,7 +81,7 @@ fn instance_among(
     marks: &[Option<Value>],
     start: usize,
 ) -> Result<Option<WrittenInstance>, NoMemory>
-    ensures { IfOk result (λ one. (source : Source) → AreRanks source ranks.now → AreResolved source marks.now resolutions.now (model_own_items declared.now.scope declared.now.definition) start → AllAt (λ position. InstanceIs source) 0 (instance_in declared.now.scope declared.now.definition) (row_of one)) }
+    ensures { IfOk result (λ one. (source : Source) → AreRanks source ranks.now → AreResolved source marks.now resolutions.now (model_own_items declared.now.scope declared.now.definition) start → AllAt (λ position. InstanceIs source) 0 (instance_in declared.now.scope declared.now.definition) (option_to_list one)) }
 {
     match declared.definition() {
         ModelDef::Machine(_) => Ok(None),
@@ -143,7 +143,7 @@ fn topology_among(
     marks: &[Option<Value>],
     start: usize,
 ) -> Result<Option<WrittenTopology>, NoMemory>
-    ensures { IfOk result (λ one. (source : Source) → AreRanks source ranks.now → AreResolved source marks.now resolutions.now (model_own_items declared.now.scope declared.now.definition) start → AllAt (λ position. TopologyIs source) 0 (topology_in declared.now.scope declared.now.definition) (row_of one)) }
+    ensures { IfOk result (λ one. (source : Source) → AreRanks source ranks.now → AreResolved source marks.now resolutions.now (model_own_items declared.now.scope declared.now.definition) start → AllAt (λ position. TopologyIs source) 0 (topology_in declared.now.scope declared.now.definition) (option_to_list one)) }
 {
     match declared.definition() {
         ModelDef::Machine(_) => Ok(None),

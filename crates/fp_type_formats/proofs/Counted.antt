@@ -1,8 +1,11 @@
 -- What is read of elements one by one is what they are as a whole.
 use Rattle.std.proofs.Common.{◌≡◌, ℕ, zero, suc, ◌+◌, Bool, true, false, cond, not, ◌&&◌, ◌||◌, ◌⊎◌, inl, inr, List, [], ◌∷◌, length, slice_get, Some, refl, sym, ◌∙◌, ap, subst, arith}
+use Rattle.std.proofs.Math.Bool.{or-false, or-true}
+use Rattle.std.proofs.Math.Nat.{zero-add}
 use Rattle.std.specs.List.{list_any}
-use Rattle.fp_base.proofs.Bools.{both, join, or_cases, or_left, or_right}
+use Rattle.fp_base.proofs.Bools.{both, join, or_cases, or_left, or_right, or_assoc}
 use Rattle.fp_base.proofs.Options.{same_some}
+use Rattle.fp_base.proofs.Numbers.{none_behind}
 use Rattle.fp_base.specs.Formats.{is_empty_text}
 use Rattle.fp_formats.specs.Spelling.{is_form}
 use Rattle.fp_type_formats.specs.declared.reading.Mark.{Mark}
@@ -19,26 +22,8 @@ marks_lone : Mark → Bool
 marks_lone mark.Lone = true
 marks_lone _ = false
 
-or_true : (b : Bool) → (b || true) ≡ true
-or_true true = refl
-or_true false = refl
-
-or_false : (b : Bool) → (b || false) ≡ b
-or_false true = refl
-or_false false = refl
-
-or_or : (a b c : Bool) → ((a || b) || c) ≡ (a || (b || c))
-or_or true b c = refl
-or_or false b c = refl
-
-zero_more : (n : ℕ) → 0 + n ≡ n
-zero_more n = omega arith
-
 one_behind : (a n : ℕ) → (a + 1) + n ≡ a + suc n
 one_behind a n = omega arith
-
-none_behind : (a : ℕ) → a ≡ a + 0
-none_behind a = omega arith
 
 -- ---- of one element
 
@@ -76,24 +61,24 @@ unfit_from unfit k (w ∷ ws) = (prints_number w && unfit k) || unfit_from unfit
 module _ (unfit : ℕ → Bool) where
   other_with : (m : Mark) (r : Reading) → (with_mark unfit m r).other ≡ (r.other || marks_other m)
   unfolding marks_other
-  other_with mark.Text r = sym (or_false r.other)
-  other_with mark.Any r = sym (or_false r.other)
-  other_with mark.Numeric r = sym (or_false r.other)
-  other_with mark.Other r = sym (or_true r.other)
-  other_with mark.Lone r = sym (or_false r.other)
+  other_with mark.Text r = sym (or-false r.other)
+  other_with mark.Any r = sym (or-false r.other)
+  other_with mark.Numeric r = sym (or-false r.other)
+  other_with mark.Other r = sym (or-true r.other)
+  other_with mark.Lone r = sym (or-false r.other)
 
   lone_with : (m : Mark) (r : Reading) → (with_mark unfit m r).lone ≡ (r.lone || marks_lone m)
   unfolding marks_lone
-  lone_with mark.Text r = sym (or_false r.lone)
-  lone_with mark.Any r = sym (or_false r.lone)
-  lone_with mark.Numeric r = sym (or_false r.lone)
-  lone_with mark.Other r = sym (or_false r.lone)
-  lone_with mark.Lone r = sym (or_true r.lone)
+  lone_with mark.Text r = sym (or-false r.lone)
+  lone_with mark.Any r = sym (or-false r.lone)
+  lone_with mark.Numeric r = sym (or-false r.lone)
+  lone_with mark.Other r = sym (or-false r.lone)
+  lone_with mark.Lone r = sym (or-true r.lone)
 
   field_unfit : (a b : Bool) (r : Reading) → (with_mark unfit (cond a (cond b mark.Any mark.Numeric) mark.Other) r).unfit ≡ (r.unfit || ((a && not b) && unfit r.fields))
-  field_unfit true true r = sym (or_false r.unfit)
+  field_unfit true true r = sym (or-false r.unfit)
   field_unfit true false r = refl
-  field_unfit false b r = sym (or_false r.unfit)
+  field_unfit false b r = sym (or-false r.unfit)
 
   field_counts : (a b : Bool) (r : Reading) → (with_mark unfit (cond a (cond b mark.Any mark.Numeric) mark.Other) r).fields ≡ r.fields + 1
   field_counts true true r = refl
@@ -103,16 +88,16 @@ module _ (unfit : ℕ → Bool) where
   -- ---- of all
 
   pub other_on : (r : Reading) (es : List Element) → (read_on unfit r es).other ≡ (r.other || list_any is_other es)
-  other_on r [] = sym (or_false r.other)
+  other_on r [] = sym (or-false r.other)
   other_on r (e ∷ es) =
       other_on (with_mark unfit (mark_of e) r) es ∙ ap (λ (b : Bool). b || list_any is_other es) (other_with (mark_of e) r ∙ ap (λ (b : Bool). r.other || b) (other_of e))
-      ∙ or_or r.other (is_other e) (list_any is_other es)
+      ∙ or_assoc r.other (is_other e) (list_any is_other es)
 
   pub lone_on : (r : Reading) (es : List Element) → (read_on unfit r es).lone ≡ (r.lone || list_any is_lone es)
-  lone_on r [] = sym (or_false r.lone)
+  lone_on r [] = sym (or-false r.lone)
   lone_on r (e ∷ es) =
       lone_on (with_mark unfit (mark_of e) r) es ∙ ap (λ (b : Bool). b || list_any is_lone es) (lone_with (mark_of e) r ∙ ap (λ (b : Bool). r.lone || b) (lone_of e))
-      ∙ or_or r.lone (is_lone e) (list_any is_lone es)
+      ∙ or_assoc r.lone (is_lone e) (list_any is_lone es)
 
   fields_on : (r : Reading) (es : List Element) → (read_on unfit r es).fields ≡ r.fields + length (fields_of es)
   fields_on r [] = none_behind r.fields
@@ -124,18 +109,18 @@ module _ (unfit : ℕ → Bool) where
 
   unfit_on : (r : Reading) (es : List Element) → (read_on unfit r es).unfit ≡ (r.unfit || unfit_from unfit r.fields (fields_of es))
   unfolding unfit_from
-  unfit_on r [] = sym (or_false r.unfit)
+  unfit_on r [] = sym (or-false r.unfit)
   unfit_on r (plain b ∷ es) = unfit_on r es
   unfit_on r (escape b ∷ es) = unfit_on r es
   unfit_on r (field w ∷ es) =
       unfit_on (with_mark unfit (field_mark w) r) es
       ∙ ap (λ (b : Bool). b || unfit_from unfit (with_mark unfit (field_mark w) r).fields (fields_of es)) (field_unfit (is_form w) (is_empty_text w) r)
       ∙ ap (λ (n : ℕ). (r.unfit || (prints_number w && unfit r.fields)) || unfit_from unfit n (fields_of es)) (field_counts (is_form w) (is_empty_text w) r)
-      ∙ or_or r.unfit (prints_number w && unfit r.fields) (unfit_from unfit (r.fields + 1) (fields_of es))
+      ∙ or_assoc r.unfit (prints_number w && unfit r.fields) (unfit_from unfit (r.fields + 1) (fields_of es))
   unfit_on r (lone b ∷ es) = unfit_on (with_mark unfit mark.Lone r) es
 
   pub as_many : (es : List Element) → (read_on unfit nothing_read es).fields ≡ length (fields_of es)
-  as_many es = fields_on nothing_read es ∙ zero_more (length (fields_of es))
+  as_many es = fields_on nothing_read es ∙ zero-add (length (fields_of es))
 
   -- ---- the field that is unfit
 
@@ -167,8 +152,8 @@ module _ (unfit : ℕ → Bool) where
   pub found_unfit : (es : List Element) → (read_on unfit nothing_read es).unfit ≡ true → HasUnfitField (λ k. unfit k ≡ true) es
   found_unfit es e =
       let t = unfit_there 0 (fields_of es) (sym (unfit_on nothing_read es) ∙ e) in
-      (t.0, t.1, t.2, t.3, subst (λ (n : ℕ). unfit n ≡ true) (zero_more t.0) t.4)
+      (t.0, t.1, t.2, t.3, subst (λ (n : ℕ). unfit n ≡ true) (zero-add t.0) t.4)
 
   pub is_unfit : (es : List Element) → HasUnfitField (λ k. unfit k ≡ true) es → (read_on unfit nothing_read es).unfit ≡ true
   is_unfit es (k, w, at, p, u) =
-      unfit_on nothing_read es ∙ unfit_given 0 (fields_of es) k w at p (subst (λ (n : ℕ). unfit n ≡ true) (sym (zero_more k)) u)
+      unfit_on nothing_read es ∙ unfit_given 0 (fields_of es) k w at p (subst (λ (n : ℕ). unfit n ≡ true) (sym (zero-add k)) u)

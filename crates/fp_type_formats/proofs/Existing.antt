@@ -2,13 +2,11 @@
 use Rattle.std.proofs.Common.{◌≡◌, ℕ, zero, suc, ◌≤◌, ◌⊎◌, inl, inr, Bool, true, false, ◌==◌, List, [], ◌∷◌, ◌++◌, length, length-append, refl, sym, ◌∙◌, ap, arith}
 use Rattle.std.proofs.lemmas.Bool.Decides.{nat_tests}
 use Rattle.fp_base.specs.Formats.{is_brace}
+use Rattle.fp_base.proofs.Numbers.{same_number}
 use Rattle.fp_formats.specs.Spelling.{has_no_brace, begins_with, IsLone}
 use Rattle.fp_formats.proofs.Braces.{no_brace-cons, no_brace-tail, no_closing, opened_first}
 use Rattle.fp_type_formats.specs.Elements.{Element, plain, escape, field, lone, element_text, IsElement, IsReading}
 use Rattle.fp_type_formats.proofs.Heads.{field_bytes}
-
-pub same_number : (b c : ℕ) → (b == c) ≡ true → b ≡ c
-same_number b c h = grind (arith, nat_tests)
 
 pub other_number : (b c : ℕ) → (b == c) ≡ false → b ≡ c → ⊥
 other_number b c h e = grind (arith, nat_tests)

@@ -5,6 +5,7 @@ use Rattle.std.proofs.lemmas.List.{take_all}
 use Rattle.fp_base.proofs.Lists.{take_next}
 use Rattle.std.proofs.Common.{◌≡◌, ℕ, zero, suc, ◌+◌, ◌≤◌, ◌<◌, ◌-◌, append-nil, length, take, Bool, true, false, MatchBool, cond, List, [], ◌∷◌, ◌++◌, slice_get, Option, Some, None, refl, sym, ◌∙◌, ap, subst, arith}
 use Rattle.fp_base.proofs.Options.{same_some}
+use Rattle.fp_base.proofs.Bools.{not_both}
 use Rattle.fp_tree.specs.declared.definition.Def.{Def}
 use Rattle.fp_tree.specs.declared.definition.Def.TheVariants as def
 use Rattle.fp_tree.specs.declared.name.Qual.{Qual}
@@ -22,9 +23,6 @@ use Rattle.fp_type_formats.specs.declared.sorts.Sort.{Sort}
 use Rattle.fp_type_formats.specs.declared.sorts.Sort.TheVariants as sort
 use Rattle.fp_type_formats.specs.Integers.{NamesNoInteger, StandsAt, by_word, by_definition, by_alias, is_other_definition, is_other_word, sites_of}
 use Rattle.fp_type_formats.specs.Sorted.{AreFound, AreSorts, IsSortOfDefinition, IsSortOfName, IsSortOfSite, IsSortOfUse, definition_sort, ends_other, sort_if, word_sort}
-
-no_both : {A : Type 0} {b : Bool} → b ≡ true → b ≡ false → A
-no_both e f = absurd (cc)
 
 -- ---- the list of sorts
 
@@ -61,10 +59,10 @@ module _ (ds : List Definition) (scope : Path) where
   other_sort d s e h = h ∙ ap (λ (b : Bool). cond b sort.Other sort.Nothing) e
 
 no_integer : {A : Type 0} (n : ℕ) (ss : List Sort) (s : Sort) → s ≡ sort.Integer → ends_other n ss s ≡ true → A
-no_integer n ss s is e = no_both e (ap (ends_other n ss) is)
+no_integer n ss s is e = not_both e (ap (ends_other n ss) is)
 
 not_nothing : {A : Type 0} (n : ℕ) (ss : List Sort) (s : Sort) → s ≡ sort.Nothing → ends_other n ss s ≡ true → A
-not_nothing n ss s is e = no_both e (ap (ends_other n ss) is)
+not_nothing n ss s is e = not_both e (ap (ends_other n ss) is)
 
 module _ (is : List Item) (ss : List Sort) (sorted : AreSorts (flat_map definitions_of is) (flat_map sites_of is) ss) where
   abbrev ds : List Definition
@@ -102,7 +100,7 @@ module _ (is : List Item) (ss : List Sort) (sorted : AreSorts (flat_map definiti
 
     at_sort : (o : Option Sort) → slice_get ss number ≡ o → ends_other n ss (sort_if o) ≡ true
         → ((s : Sort) (path : Path) (t : TypeForm) → IsSortOfName ds path t s → ends_other n ss s ≡ true → NamesNoInteger is n path t) → NamesNoInteger is (suc n) scope (type.Use q)
-    at_sort None at e rest = no_both e (nothing_ends n)
+    at_sort None at e rest = not_both e (nothing_ends n)
       where
         nothing_ends : (m : ℕ) → ends_other m ss sort.Nothing ≡ false
         nothing_ends m = refl
@@ -116,7 +114,7 @@ module _ (is : List Item) (ss : List Sort) (sorted : AreSorts (flat_map definiti
   follow_use : (n : ℕ) (scope : Path) (q : Qual) (s : Sort) → IsSortOfUse ds scope q s → ends_other n ss s ≡ true → ((m : ℕ) → n ≡ suc m → Follows m) → NamesNoInteger is n scope (type.Use q)
   follow_use zero scope q (sort.Named number) k e rest = absurd (cc)
   follow_use (suc n) scope q (sort.Named number) k e rest = at_sort n scope q number k (slice_get ss number) refl e (λ s path t l f. rest n refl path t s l f)
-  follow_use n scope q sort.Nothing k e rest = no_both e refl
+  follow_use n scope q sort.Nothing k e rest = not_both e refl
   follow_use n scope q sort.Integer k e rest = absurd k
   follow_use n scope q sort.Other k e rest = absurd k
 
@@ -159,7 +157,7 @@ module _ (is : List Item) (names : List Definition) (ss : List Sort) (found : Ar
   yes_other e = follow is ss sorted_here n scope t s sort_here e
 
   no_other : ends_other n ss s ≡ false → NamesNoInteger is n scope t → ⊥
-  no_other e h = no_both (ended is ss sorted_here h s sort_here) e
+  no_other e h = not_both (ended is ss sorted_here h s sort_here) e
 
   pub told : (b : Bool) → b ≡ ends_other n ss s → MatchBool b (NamesNoInteger is n scope t) (NamesNoInteger is n scope t → ⊥)
   told true e = yes_other (sym e)

@@ -1,20 +1,19 @@
 -- A text is read in one way: its first element and what stands behind it are determined.
-use Rattle.std.proofs.Common.{◌≡◌, ℕ, Bool, true, false, ◌==◌, List, [], ◌∷◌, ◌++◌, refl, sym, ◌∙◌, ap, append_assoc, arith}
+use Rattle.std.proofs.Common.{◌≡◌, ℕ, true, false, ◌==◌, List, [], ◌∷◌, ◌++◌, refl, sym, ◌∙◌, ap, append_assoc, arith}
 use Rattle.std.proofs.lemmas.Bool.Decides.{nat_tests}
 use Rattle.fp_base.specs.Formats.{is_brace}
+use Rattle.fp_base.proofs.Bools.{not_both}
 use Rattle.fp_formats.specs.Spelling.{has_no_brace, begins_with, IsLone}
 use Rattle.fp_formats.proofs.Braces.{opens, opened_first, same_closing}
+use Rattle.fp_formats.proofs.Readings.{field_no_lone}
 use Rattle.fp_type_formats.specs.Elements.{Element, plain, escape, field, lone, element_text, IsElement}
-
-no_both : {A : Type 0} {b : Bool} → b ≡ true → b ≡ false → A
-no_both e f = absurd (cc)
 
 -- the bytes of a field before what stands behind it
 pub field_bytes : (w y : List ℕ) → element_text (field w) ++ y ≡ 123 ∷ (w ++ (125 ∷ y))
 field_bytes w y = ap (λ (t : List ℕ). 123 ∷ t) (append_assoc w (125 ∷ []) y)
 
 plain_no_field : (b : ℕ) (x w y : List ℕ) → is_brace b ≡ false → b ∷ x ≡ 123 ∷ (w ++ (125 ∷ y)) → ⊥
-plain_no_field b x w y h e = let p : b ≡ 123 = cc in no_both (ap is_brace p ∙ opens) h
+plain_no_field b x w y h e = let p : b ≡ 123 = cc in not_both (ap is_brace p ∙ opens) h
 
 escape_no_field : (b : ℕ) (x w y : List ℕ) → has_no_brace w ≡ true → b ∷ b ∷ x ≡ 123 ∷ (w ++ (125 ∷ y)) → ⊥
 escape_no_field b x w y h e =
@@ -29,19 +28,13 @@ escape_no_lone b x c y l e =
     let q : b ∷ x ≡ y = cc in
     let s : (b == c) ≡ false = ap (begins_with c) q ∙ l.not_doubled in
     let t : (b == c) ≡ true = grind (arith, nat_tests) in
-    no_both t s
-
-field_no_lone : (w y : List ℕ) (c : ℕ) (after : List ℕ) → has_no_brace w ≡ true → IsLone c after → 123 ∷ (w ++ (125 ∷ y)) ≡ c ∷ after → ⊥
-field_no_lone w y c after h l e =
-    let p : c ≡ 123 = cc in
-    let q : after ≡ w ++ (125 ∷ y) = cc in
-    l.no_field p w y h q
+    not_both t s
 
 plain_no_lone : (b : ℕ) (x : List ℕ) (c : ℕ) (y : List ℕ) → is_brace b ≡ false → IsLone c y → b ∷ x ≡ c ∷ y → ⊥
-plain_no_lone b x c y h l e = let p : b ≡ c = cc in no_both (ap is_brace p ∙ l.is_brace) h
+plain_no_lone b x c y h l e = let p : b ≡ c = cc in not_both (ap is_brace p ∙ l.is_brace) h
 
 plain_no_escape : (b : ℕ) (x : List ℕ) (c : ℕ) (y : List ℕ) → is_brace b ≡ false → is_brace c ≡ true → b ∷ x ≡ c ∷ y → ⊥
-plain_no_escape b x c y h k e = let p : b ≡ c = cc in no_both (ap is_brace p ∙ k) h
+plain_no_escape b x c y h k e = let p : b ≡ c = cc in not_both (ap is_brace p ∙ k) h
 
 pub same_head : (e f : Element) (x y : List ℕ) → IsElement e x → IsElement f y → element_text e ++ x ≡ element_text f ++ y → (e ≡ f) × (x ≡ y)
 same_head (plain b) (plain c) x y h k is = let p : b ≡ c = cc in let q : x ≡ y = cc in (ap (λ (n : ℕ). plain n) p, q)

@@ -1,22 +1,19 @@
 -- What is found of a format by what was read of it is the least rule that it breaks.
-use Rattle.std.proofs.Common.{◌≡◌, ℕ, ◌≤◌, Bool, true, false, cond, not, ◌&&◌, ◌||◌, ◌==◌, ◌⊎◌, inl, inr, List, length, Option, Some, None, refl, sym, ◌∙◌, ap, arith}
+use Rattle.std.proofs.Common.{◌≡◌, ℕ, Bool, true, false, cond, not, ◌&&◌, ◌||◌, ◌==◌, ◌⊎◌, inl, inr, List, length, Option, Some, None, refl, sym, ◌∙◌, ap}
 use Rattle.std.specs.List.{list_any}
-use Rattle.fp_base.proofs.Bools.{both, join, not_true, or_cases, or_left, or_right}
-use Rattle.std.proofs.lemmas.Option.{slice_get_within}
+use Rattle.fp_base.proofs.Bools.{both, join, not_true, or_cases, or_left, or_right, not_both}
 use Rattle.fp_base.proofs.Calculus.{least_either, least_if, least_same}
+use Rattle.fp_base.proofs.Numbers.{same_number}
 use Rattle.fp_base.specs.declared.place.Place.{Place}
 use Rattle.fp_base.specs.declared.refusal.Refusal.{Refusal}
 use Rattle.fp_base.specs.declared.rule.Rule.TheVariants.{FieldCount, FieldKind, LoneBrace}
-use Rattle.fp_base.specs.Least.{broken_at, InFirst, InSome, IsLeast, lesser_of}
+use Rattle.fp_base.specs.Least.{broken_at, IsLeast, lesser_of}
 use Rattle.fp_type_formats.specs.declared.reading.Reading.{Reading}
 use Rattle.fp_type_formats.specs.Broken.{BrokenByFields, HasBadField, HasLoneBrace, IsMiscounted}
 use Rattle.fp_type_formats.specs.Elements.{Element, IsReading, HasUnfitField, fields_of, is_lone, is_malformed, is_other}
 use Rattle.fp_type_formats.specs.Sorted.{IsReadAs, fault_found, nothing_read}
 use Rattle.fp_type_formats.proofs.Counted.{as_many, found_unfit, is_unfit, lone_on, other_on}
-use Rattle.fp_type_formats.proofs.Existing.{other_number, same_number}
-
-no_both : {A : Type 0} {b : Bool} → b ≡ true → b ≡ false → A
-no_both e f = absurd (cc)
+use Rattle.fp_type_formats.proofs.Existing.{other_number}
 
 -- what each field prints is read off as one likes
 pub least_of_fields : (text : List ℕ) (place : Place) (values : ℕ) (U V : ℕ → Type 0) {o : Option Refusal} → ((k : ℕ) → U k → V k) → ((k : ℕ) → V k → U k)
@@ -57,13 +54,13 @@ module _ (unfit : ℕ → Bool) (text : List ℕ) (r : Reading) (h : IsReadAs un
         sym (malformed h.elements h.reading) ∙ not_true (r.other || r.lone) t.0,
         λ is. other_number r.fields values (not_true (r.fields == values) t.1) (fields h.elements h.reading ∙ is),
       ))
-      (λ e q. no_both (join (not (r.other || r.lone)) (not (r.fields == values)) (not_is (r.other || r.lone) (malformed q.0 q.1 ∙ q.2))
+      (λ e q. not_both (join (not (r.other || r.lone)) (not (r.fields == values)) (not_is (r.other || r.lone) (malformed q.0 q.1 ∙ q.2))
       (not_is (r.fields == values) (not_as_many q.0 q.1 q.3 (r.fields == values) refl))) e)
 
   least_lone : IsLeast (HasLoneBrace text place) (cond r.lone (Some (broken_at LoneBrace place)) None)
   least_lone = least_if r.lone (broken_at LoneBrace place)
       (λ e. (h.elements, h.reading, sym (lones h.elements h.reading) ∙ e))
-      (λ e q. no_both (lones q.0 q.1 ∙ q.2) e)
+      (λ e q. not_both (lones q.0 q.1 ∙ q.2) e)
 
   found_bad : (es : List Element) → IsReading es text → (r.other || r.unfit) ≡ true → (list_any is_other es ≡ true) ⊎ HasUnfitField (λ k. unfit k ≡ true) es
   found_bad es k e =
@@ -82,7 +79,7 @@ module _ (unfit : ℕ → Bool) (text : List ℕ) (r : Reading) (h : IsReadAs un
   least_bad : IsLeast (HasBadField text place (λ k. unfit k ≡ true)) (cond (r.other || r.unfit) (Some (broken_at FieldKind place)) None)
   least_bad = least_if (r.other || r.unfit) (broken_at FieldKind place)
       (λ e. (h.elements, h.reading, found_bad h.elements h.reading e))
-      (λ e q. no_both (is_bad q.0 q.1 q.2) e)
+      (λ e q. not_both (is_bad q.0 q.1 q.2) e)
 
   pub least_found : IsLeast (BrokenByFields text place values (λ k. unfit k ≡ true)) (fault_found r values place)
   least_found =
@@ -90,8 +87,3 @@ module _ (unfit : ℕ → Bool) (text : List ℕ) (r : Reading) (h : IsReadAs un
       (lesser_of (cond (r.other || r.unfit) (Some (broken_at FieldKind place)) None) (cond r.lone (Some (broken_at LoneBrace place)) None))
       least_count
       (least_either (cond (r.other || r.unfit) (Some (broken_at FieldKind place)) None) (cond r.lone (Some (broken_at LoneBrace place)) None) least_bad least_lone)
-
--- through the elements of a list
-pub least_of_all : {A : Type 0} (P : ℕ → A → Refusal → Type 0) (xs : List A) (k : ℕ) (o : Option Refusal) → length xs ≤ k → IsLeast (InFirst k P xs) o → IsLeast (InSome P xs) o
-least_of_all P xs k o past l =
-    least_same (λ f t. (t.0, t.1, t.3, t.4)) (λ f t. let low = slice_get_within xs t.0 t.1 t.2 in (t.0, t.1, omega (arith, low, past), t.2, t.3)) l

@@ -2,7 +2,8 @@
 use Rattle.std.specs.Prelude.{flat_map}
 use Rattle.std.specs.List.{list_any}
 use Rattle.std.proofs.Common.{◌≡◌, ℕ, suc, ◌⊎◌, inl, inr, Bool, true, false, cond, not, ◌&&◌, ◌==◌, List, [], ◌∷◌, ◌++◌, length, slice_get, Some, refl, sym, ◌∙◌, ap, append_assoc, append-nil, arith}
-use Rattle.fp_base.proofs.Bools.{both, join, neither}
+use Rattle.fp_base.proofs.Bools.{both, join, neither, not_both}
+use Rattle.fp_base.proofs.Numbers.{same_number}
 use Rattle.fp_base.specs.declared.format.FormatPiece.{FormatPiece}
 use Rattle.fp_base.specs.declared.format.FormatPiece.TheVariants as piece
 use Rattle.fp_base.specs.declared.value.Value.{Value}
@@ -11,10 +12,6 @@ use Rattle.fp_formats.specs.Fits.{fits, is_integer, takes}
 use Rattle.fp_formats.specs.Spelling.{is_form, IsFormat}
 use Rattle.fp_type_formats.specs.Elements.{Element, plain, escape, field, lone, element_text, fields_of, is_lone, is_other, prints_number, IsReading}
 use Rattle.fp_type_formats.specs.Readable.{Agree}
-use Rattle.fp_type_formats.proofs.Existing.{same_number}
-
-no_both : {A : Type 0} {b : Bool} → b ≡ true → b ≡ false → A
-no_both e f = absurd (cc)
 
 form_piece : List ℕ → FormatPiece
 form_piece [] = piece.Any
@@ -140,7 +137,7 @@ spelled_all (escape b ∷ es) text h k =
 spelled_all (field w ∷ es) text h k =
     h.1 ∙ ap (λ (t : List ℕ). element_text (field w) ++ t) (spelled_all es h.0 h.3 (clean_rest (field w) es k))
     ∙ ap (λ (t : List ℕ). t ++ spelling (pieces_of es)) (sym (spelled_form w (good_form w (neither (not (is_form w)) (list_any is_other es) k.0).0)))
-spelled_all (lone b ∷ es) text h k = no_both refl k.1
+spelled_all (lone b ∷ es) text h k = not_both refl k.1
 
 whole_all : (es : List Element) → are_whole false (pieces_of es) ≡ true
 unfolding pieces_of
@@ -176,7 +173,7 @@ fits_one v (field w ∷ es) k h (inl o) =
     let z : length (fields_of es) ≡ 0 = omega (arith, h) in
     let good = good_form w (neither (not (is_form w)) (list_any is_other es) k.0).0 in
     form_takes w v (pieces_of es) (inl (plain_form w good (o 0 w refl))) (fits_none es z)
-fits_one v (lone b ∷ es) k h o = no_both refl k.1
+fits_one v (lone b ∷ es) k h o = not_both refl k.1
 
 -- ---- one value for each field
 
@@ -214,7 +211,7 @@ module _ {A : Type 0} (NoInteger : A → Type 0) where
       let good = good_form w (neither (not (is_form w)) (list_any is_other es) k.0).0 in
       agree_form w (pieces_of es) x xs (λ e. o 0 w x refl (number_form w good e) refl)
       (agree_all es xs (clean_rest (field w) es k) (omega (arith, h)) (λ j. o (suc j)))
-  agree_all (lone b ∷ es) xs k h o = no_both refl k.1
+  agree_all (lone b ∷ es) xs k h o = not_both refl k.1
 
 pub format_of : (es : List Element) (text : List ℕ) → IsReading es text → IsClean es → IsFormat text (pieces_of es)
 format_of es text h k = record { spells = spelled_all es text h k; whole = whole_all es }

@@ -1,10 +1,12 @@
 -- Formats that break no rule are readable.
 use Rattle.std.proofs.Common.{◌≡◌, ℕ, inl, inr, Bool, true, false, ◌||◌, ◌==◌, List, length, slice_get, Option, Some, None, refl}
+use Rattle.std.proofs.lemmas.Bool.{false_from_ne_true}
 use Rattle.std.specs.List.{list_any}
 use Rattle.fp_base.specs.declared.place.Place.{Place}
 use Rattle.fp_base.specs.declared.rule.Rule.TheVariants.{FieldCount, FieldKind, LoneBrace}
 use Rattle.fp_base.specs.Least.{broken_at, IsUnbroken}
 use Rattle.fp_base.specs.declared.value.Value.{Int}
+use Rattle.fp_base.proofs.Numbers.{same_number}
 use Rattle.fp_tree.specs.declared.name.Str.{Str}
 use Rattle.fp_tree.specs.declared.definition.Def.{Def}
 use Rattle.fp_tree.specs.declared.definition.Def.TheVariants as def
@@ -22,18 +24,14 @@ use Rattle.fp_type_formats.specs.Broken.{BrokenByDefinition, BrokenByEvent, Brok
 use Rattle.fp_type_formats.specs.Elements.{Element, IsReading, fields_of, is_lone, is_malformed, is_other, prints_number}
 use Rattle.fp_type_formats.specs.Integers.{NamesNoInteger}
 use Rattle.fp_type_formats.specs.Readable.{AreReadable, HasReadable, HasReadablePart, HasReadableParts, IsReadable, IsReadableEvent, IsReadableIf}
-use Rattle.fp_type_formats.proofs.Existing.{other_number, reading_of, same_number}
+use Rattle.fp_type_formats.proofs.Existing.{other_number, reading_of}
 use Rattle.fp_type_formats.proofs.Pieced.{IsClean, agree_all, fits_one, format_of, pieces_of}
-
-not_true : (b : Bool) → (b ≡ true → ⊥) → b ≡ false
-not_true true h = absurd (h refl)
-not_true false h = refl
 
 module _ (text : List ℕ) (place : Place) (values : ℕ) (Unfit : ℕ → Type 0) (unbroken : IsUnbroken (BrokenByFields text place values Unfit)) (es : List Element) (read : IsReading es text) where
   is_clean : IsClean es
   is_clean = (
-    not_true (list_any is_other es) (λ e. unbroken (broken_at FieldKind place) (inr (inl (refl, (es, read, inl e))))),
-    not_true (list_any is_lone es) (λ e. unbroken (broken_at LoneBrace place) (inr (inr (refl, (es, read, e))))),
+    false_from_ne_true (list_any is_other es) (λ e. unbroken (broken_at FieldKind place) (inr (inl (refl, (es, read, inl e))))),
+    false_from_ne_true (list_any is_lone es) (λ e. unbroken (broken_at LoneBrace place) (inr (inr (refl, (es, read, e))))),
   )
 
   well_formed : is_malformed es ≡ false

@@ -1,12 +1,14 @@
 -- The least of what is broken in the parts of definitions, one part after another.
-use Rattle.std.proofs.Common.{◌≡◌, Bool, true, false, cond, is_none, ◌&&◌, ◌||◌, take, ℕ, zero, suc, ◌+◌, ◌≤◌, inl, inr, ℤ, List, [], ◌∷◌, ◌++◌, length, slice_get, Option, Some, None, refl, sym, ap, ◌∙◌, subst, arith}
+use Rattle.std.proofs.Common.{◌≡◌, Bool, true, false, cond, is_none, take, ℕ, ◌+◌, ◌≤◌, inl, inr, ℤ, List, [], ◌∷◌, ◌++◌, length, slice_get, Option, Some, None, refl, sym, ap, ◌∙◌, subst}
 use Rattle.std.specs.List.{list_all, list_any}
-use Rattle.std.proofs.lemmas.Option.{slice_get_within}
 use Rattle.std.proofs.lemmas.List.{take_all}
-use Rattle.fp_base.proofs.Calculus.{least_none, least_one, least_only, least_same, least_along, least_either, least_if}
-use Rattle.fp_base.proofs.Elements.{least_first_none, least_first_next, least_in_one}
+use Rattle.std.specs.Option.{option_flatten}
+use Rattle.fp_base.proofs.Calculus.{least_none, least_one, least_only, least_along, least_either, least_if}
+use Rattle.fp_base.proofs.Elements.{least_first_none, least_first_next, least_in_one, least_of_all}
 use Rattle.fp_base.proofs.Lists.{all_get}
-use Rattle.fp_base.proofs.Options.{same_some}
+use Rattle.fp_base.proofs.Options.{same_some, no_some}
+use Rattle.fp_base.proofs.Bools.{not_both}
+use Rattle.fp_base.proofs.Passing.{any_at, any_found, some_fails}
 use Rattle.fp_base.specs.Least.{broken_at, Either, InFirst, InSome, IsLeast, lesser_of}
 use Rattle.fp_base.specs.declared.place.Place.{Place}
 use Rattle.fp_base.specs.declared.refusal.Refusal.{Refusal}
@@ -31,13 +33,9 @@ use Rattle.fp_tree.specs.declared.name.Qual.{Qual}
 use Rattle.fp_type_forms.specs.declared.resolving.Resolution.{Resolution}
 use Rattle.fp_type_forms.specs.Broken.{BrokenByForm, BrokenByNumber, BrokenBySize, ByOptional, HasBoth, IsMixed, IsNoNumber, LeastOfAll, is_size, no_number, number_fault, size_fault, value_fault, written_fault}
 use Rattle.fp_type_forms.specs.Written.{IsOnly, primitive}
-use Rattle.fp_type_forms.specs.Resolved.{IsMarkOf, AreResolved, Moves, Takes, marked_value, parts_of_item, value_resolved}
-use Rattle.fp_type_sizes.proofs.Places.{no_some}
+use Rattle.fp_type_forms.specs.Resolved.{IsMarkOf, AreResolved, Moves, Takes, parts_of_item, value_resolved}
 use Rattle.fp_type_forms.proofs.Taking.{items_from, items_next, taken_as, taken_expression, taken_nothing, taken_then}
 use Rattle.fp_type_forms.proofs.Adding.{parts_resolved}
-
-pub not_both : {A : Type 0} {b : Bool} → b ≡ true → b ≡ false → A
-not_both e f = absurd (cc)
 
 -- ---- one expression
 
@@ -119,7 +117,7 @@ module _ (source : Source) (marks : List (Option Value)) (rs : List Resolution) 
       → IsLeast (ByOptional (IsNoNumber source scope) v) (written_fault v (value_resolved marks (slice_get rs a)))
   listed_least scope None r a at mark = least_none (λ f h. h)
   listed_least scope (Some e) r a at mark =
-      least_along (ap (value_fault e.at.first) (sym (ap (value_resolved marks) (at ∙ ap (λ (x : Resolution). Some x) mark.1) ∙ ap marked_value mark.2.1)))
+      least_along (ap (value_fault e.at.first) (sym (ap (value_resolved marks) (at ∙ ap (λ (x : Resolution). Some x) mark.1) ∙ ap option_flatten mark.2.1)))
       (least_number source scope e mark.2.0 (record { holds = mark.2.2.holds; only = mark.2.2.only }))
 
   pub listed_taken_least : (scope : Path) (d : Enum) (position : ℕ) (c : EnumConst) (a b : ℕ) (r : Option Refusal) → Moves rs a b
@@ -129,10 +127,6 @@ module _ (source : Source) (marks : List (Option Value)) (rs : List Resolution) 
       (least_along (sym is) (listed_least scope c.value h.0.0 a h.0.1 h.0.2), subst (λ (n : ℕ). AreResolved source marks rs others n) (sym (moves h.0.0 h.0.1)) h.1)
 
 -- ---- parts that follow one another
-
-pub least_of_all : {A : Type 0} (P : ℕ → A → Refusal → Type 0) (xs : List A) (k : ℕ) (o : Option Refusal) → length xs ≤ k → IsLeast (InFirst k P xs) o → IsLeast (InSome P xs) o
-least_of_all P xs k o past l =
-    least_same (λ f t. (t.0, t.1, t.3, t.4)) (λ f t. let low = slice_get_within xs t.0 t.1 t.2 in (t.0, t.1, omega (arith, low, past), t.2, t.3)) l
 
 module _ {A : Type 0} (P : ℕ → A → Refusal → Type 0) (g : ℕ → A → List Item) (source : Source) (marks : List (Option Value)) (rs : List Resolution) (xs : List A) where
   -- in the first so many
@@ -157,31 +151,6 @@ module _ {A : Type 0} (P : ℕ → A → Refusal → Type 0) (g : ℕ → A → 
 
 -- ---- enumerations in which some values are written
 
-all_fails : {A : Type 0} (p : A → Bool) (xs : List A) → list_all p xs ≡ false → (k : ℕ) × (x : A) × (slice_get xs k ≡ Some x) × (p x ≡ false)
-all_fails p [] h = not_both refl h
-all_fails {A = A} p (x ∷ xs) h = go (p x) refl (all_fails p xs)
-  where
-    go : (b : Bool) → p x ≡ b → (list_all p xs ≡ false → (k : ℕ) × (y : A) × (slice_get xs k ≡ Some y) × (p y ≡ false)) → (k : ℕ) × (y : A) × (slice_get (x ∷ xs) k ≡ Some y) × (p y ≡ false)
-    go false is rest = (0, x, refl, is)
-    go true is rest = let t = rest (sym (ap (λ (b : Bool). b && list_all p xs) is) ∙ h) in (suc t.0, t.1, t.2, t.3)
-
-pub any_holds : {A : Type 0} (p : A → Bool) (xs : List A) → list_any p xs ≡ true → (k : ℕ) × (x : A) × (slice_get xs k ≡ Some x) × (p x ≡ true)
-any_holds p [] h = not_both h refl
-any_holds {A = A} p (x ∷ xs) h = go (p x) refl (any_holds p xs)
-  where
-    go : (b : Bool) → p x ≡ b → (list_any p xs ≡ true → (k : ℕ) × (y : A) × (slice_get xs k ≡ Some y) × (p y ≡ true)) → (k : ℕ) × (y : A) × (slice_get (x ∷ xs) k ≡ Some y) × (p y ≡ true)
-    go true is rest = (0, x, refl, is)
-    go false is rest = let t = rest (sym (ap (λ (b : Bool). b || list_any p xs) is) ∙ h) in (suc t.0, t.1, t.2, t.3)
-
-any_there : {A : Type 0} (p : A → Bool) (xs : List A) (k : ℕ) (x : A) → slice_get xs k ≡ Some x → p x ≡ true → list_any p xs ≡ true
-any_there p [] k x at is = absurd (cc)
-any_there p (y ∷ xs) zero x at is = ap (λ (b : Bool). b || list_any p xs) (ap p (same_some at) ∙ is)
-any_there p (y ∷ xs) (suc k) x at is = ap (λ (b : Bool). p y || b) (any_there p xs k x at is) ∙ or_true (p y)
-  where
-    or_true : (b : Bool) → (b || true) ≡ true
-    or_true true = refl
-    or_true false = refl
-
 module _ (d : Enum) where
   abbrev lacks : EnumConst → Bool
   lacks c = is_none c.value
@@ -189,12 +158,12 @@ module _ (d : Enum) where
   both_when : (x y : Bool) → list_all lacks d.constants ≡ x → list_any lacks d.constants ≡ y → cond x false y ≡ true → HasBoth d
   both_when true y all any h = not_both h refl
   both_when false false all any h = not_both h refl
-  both_when false true all any h = (all_fails lacks d.constants all, any_holds lacks d.constants any)
+  both_when false true all any h = (some_fails lacks d.constants all, any_found lacks d.constants any)
 
   both_never : (x y : Bool) → list_all lacks d.constants ≡ x → list_any lacks d.constants ≡ y → cond x false y ≡ false → HasBoth d → ⊥
   both_never true y all any h t = not_both (all_get lacks d.constants t.0.0 t.0.1 all t.0.2) t.0.3
   both_never false true all any h t = not_both refl h
-  both_never false false all any h t = not_both (any_there lacks d.constants t.1.0 t.1.1 t.1.2 t.1.3) any
+  both_never false false all any h t = not_both (any_at lacks d.constants t.1.0 t.1.1 t.1.2 t.1.3) any
 
   pub least_mixed : (b : Bool) (r : Option Refusal) → b ≡ cond (is_implied d) false (list_any lacks d.constants)
       → r ≡ cond b (Some (broken_at EnumValuesAllOrNone d.name.at.first)) None → IsLeast (IsMixed d) r

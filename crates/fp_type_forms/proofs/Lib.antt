@@ -9,5 +9,6 @@ pub mod Breaking
 pub mod Repeating
 mod Noting
 mod Parted
-mod Represented
+pub mod Represented
 mod Uniting
+pub mod Sized

@@ -2,6 +2,7 @@
 use Rattle.std.proofs.Common.{◌≡◌, ℕ, List, Option, Some, None, refl, sym, ap, ◌∙◌}
 use Rattle.std.specs.Prelude.{ℤ, pos}
 use Rattle.fp_base.proofs.Options.{same_some}
+use Rattle.fp_base.proofs.Numbers.{pos_same}
 use Rattle.fp_base.specs.declared.value.Value.{Value}
 use Rattle.fp_tree.specs.declared.source.Source.{Source}
 use Rattle.fp_tree.specs.declared.definition.Def.{Def}
@@ -30,15 +31,12 @@ use Rattle.fp_type_sizes.specs.declared.written.Own.TheVariants as own
 use Rattle.fp_type_forms.specs.Written.{IsOnly, TypeHere, types_before, text_in, field_with, NumberIs, IsSizeTo, KindIs, SizeIs, FieldIs, ConstantIs, EnumeratedIs, ReprIs, FormIs, OwnIs, IsWritten, AreWritten, types}
 use Rattle.fp_type_forms.proofs.Only.{all_one}
 
-same_pos : {a b : ℕ} → pos a ≡ pos b → a ≡ b
-same_pos e = cc
-
 module _ (source : Source) (scope : Path) where
   pub one_number : (e : Expr) (m n : ℤ) → NumberIs source scope e m → NumberIs source scope e n → m ≡ n
   one_number e m n h k = same_some (sym h.2 ∙ ap number_in (one_value h.1 k.1) ∙ k.2)
 
   one_size : (most : ℕ) (e : Expr) (m n : ℕ) → IsSizeTo source scope most e m → IsSizeTo source scope most e n → m ≡ n
-  one_size most e m n h k = same_pos (one_number e (pos m) (pos n) h.number k.number)
+  one_size most e m n h k = pos_same _ _ (one_number e (pos m) (pos n) h.number k.number)
 
   pub one_kind : (t : TypeForm) (k l : Kind) → KindIs source scope t k → KindIs source scope t l → k ≡ l
   one_kind (type.Text None) k l h g = h ∙ sym g

@@ -1,8 +1,7 @@
 -- What there is only one of, put together from its parts; and lists that are related place by place.
 use Rattle.std.proofs.Common.{◌≡◌, ℕ, suc, ◌+◌, List, [], ◌∷◌, ◌++◌, length, Option, Some, None, option_map, refl, sym, ap, ◌∙◌, subst, arith}
 use Rattle.std.specs.Prelude.{option_and_then}
-use Rattle.fp_base.proofs.Options.{same_some}
-use Rattle.fp_type_sizes.proofs.Places.{no_some}
+use Rattle.fp_base.proofs.Options.{same_some, no_some}
 use Rattle.fp_type_forms.specs.Written.{IsOnly, AllAt}
 use Rattle.fp_type_forms.specs.Resolved.{both_there, one_more}
 

@@ -2,10 +2,9 @@
 use Rattle.std.proofs.Common.{◌≡◌, ℕ, zero, suc, ℤ, Bool, List, [], ◌∷◌, slice_get, Option, Some, None, option_map, refl, inl, inr, sym, ap, ◌∙◌, subst}
 use Rattle.std.proofs.lemmas.Option.{slice_get-map}
 use Rattle.fp_base.proofs.Calculus.{least_along, least_either, least_none, least_same}
-use Rattle.fp_base.proofs.Options.{mapped_some, same_some}
+use Rattle.fp_base.proofs.Options.{mapped_some, same_some, no_some}
 use Rattle.fp_base.specs.Least.{Either, InSome, IsLeast, lesser_of}
 use Rattle.fp_base.specs.declared.refusal.Refusal.{Refusal}
-use Rattle.fp_consts.proofs.Arms.{opened_by}
 use Rattle.fp_tree.specs.declared.name.Qual.{Qual}
 use Rattle.fp_tree.specs.declared.expression.Operator.{Operator}
 use Rattle.fp_tree.specs.declared.expression.Expr.{Expr}
@@ -14,8 +13,8 @@ use Rattle.fp_tree.specs.declared.expression.Form.TheOpen as form
 use Rattle.fp_tree.specs.declared.expression.Form.TheVariants.{Number, rolls-Number, Float, rolls-Float, Text, rolls-Text, Truth, rolls-Truth, Use, rolls-Use, Minus, rolls-Minus, Parentheses, rolls-Parentheses, Binary, rolls-Binary, Array, rolls-Array, Struct, rolls-Struct}
 use Rattle.fp_meaning.specs.ConstantFaults.{parts_of}
 use Rattle.fp_meaning.specs.Values.{Opened, opened, values_in}
+use Rattle.fp_meaning.proofs.Opened.{opened_by}
 use Rattle.fp_type_forms.specs.Broken.{RepeatsIn, RepeatsName, itself, within}
-use Rattle.fp_type_sizes.proofs.Places.{no_some}
 
 abbrev Within : List Expr → Refusal → Type 0
 Within parts = InSome (λ k. RepeatsIn) parts

@@ -1,10 +1,10 @@
 -- Items are resolved one after another, from what uses mean and the numbers of expressions.
 use Rattle.std.proofs.Common.{◌≡◌, ℕ, zero, suc, ◌+◌, ◌<◌, ◌≤◌, min, max, List, [], ◌∷◌, ◌++◌, length, flat_map, take, slice_get, get_or, Option, Some, None, refl, sym, ap, ◌∙◌, subst, arith, length-append}
-use Rattle.std.proofs.lemmas.List.{append-nil, take_all}
-use Rattle.std.proofs.lemmas.Grind.{flat_map-append}
+use Rattle.std.proofs.lemmas.List.{take_all}
 use Rattle.std.proofs.lemmas.Option.{slice_get_within, slice_get-get_or}
 use Rattle.fp_base.proofs.Lists.{get_front, get_last, take_next}
 use Rattle.fp_base.proofs.Options.{same_some}
+use Rattle.fp_base.proofs.Mapped.{flat_next}
 use Rattle.fp_base.specs.declared.value.Value.{Value}
 use Rattle.fp_tree.specs.declared.source.Source.{Source}
 use Rattle.fp_tree.specs.declared.expression.Expr.{Expr}
@@ -40,15 +40,11 @@ flat_there f (z ∷ xs) (suc k) x y ys at is =
     get_behind (f z) (flat_map f xs) (length (flat_map f (take k xs))) (length (f z ++ flat_map f (take k xs))) (length-append (f z) (flat_map f (take k xs)))
     ∙ flat_there f xs k x y ys at is
 
-flat_more : {A B : Type 0} (f : A → List B) (xs : List A) (k : ℕ) (x : A) → slice_get xs k ≡ Some x → flat_map f (take (k + 1) xs) ≡ flat_map f (take k xs) ++ f x
-flat_more f xs k x at =
-    ap (flat_map f) (take_next xs k x at) ∙ flat_map-append f (take k xs) (x ∷ []) ∙ ap (λ l. flat_map f (take k xs) ++ l) (append-nil (f x))
-
 past_more : {A B : Type 0} (f : A → List B) (xs : List A) (k : ℕ) (x : A) (limit b c : ℕ) → slice_get xs k ≡ Some x → b ≡ past (length (flat_map f (take k xs))) limit 0
     → c ≡ past (length (f x)) limit b → c ≡ past (length (flat_map f (take (k + 1) xs))) limit 0
 past_more f xs k x limit b c at h g =
     past_twice (length (flat_map f (take k xs))) (length (f x)) (length (flat_map f (take (k + 1) xs))) limit 0 b c
-    (ap length (flat_more f xs k x at) ∙ length-append (flat_map f (take k xs)) (f x)) h g
+    (ap length (flat_next f xs k x at) ∙ length-append (flat_map f (take k xs)) (f x)) h g
 
 reached : (n limit j : ℕ) → j ≡ max 0 (min (0 + n) limit) → n < limit → j ≡ n
 reached n limit j e low = omega arith

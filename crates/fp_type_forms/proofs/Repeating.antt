@@ -4,10 +4,11 @@ use Rattle.std.specs.BTreeSet.{contains_by}
 use Rattle.std.specs.Ordering.{int_cmp}
 use Rattle.std.proofs.lemmas.Bool.Decides.{Decides-int_eq}
 use Rattle.std.proofs.lemmas.List.{take_all}
-use Rattle.fp_base.proofs.Bools.{or_cases, or_left, or_right}
+use Rattle.fp_base.proofs.Bools.{or_cases, or_left, or_right, not_both}
 use Rattle.fp_base.proofs.Calculus.{least_none, least_only, least_along}
-use Rattle.fp_base.proofs.Elements.{least_first_none, least_first_next, least_in_one}
-use Rattle.fp_base.proofs.Options.{same_some}
+use Rattle.fp_base.proofs.Elements.{least_first_none, least_first_next, least_in_one, least_of_all}
+use Rattle.fp_base.proofs.Options.{same_some, no_some}
+use Rattle.fp_base.proofs.Spots.{below_or_at}
 use Rattle.fp_base.specs.Least.{broken_at, InFirst, InSome, IsLeast, lesser_of}
 use Rattle.fp_base.specs.declared.refusal.Refusal.{Refusal}
 use Rattle.fp_base.specs.declared.rule.Rule.TheVariants.{EnumValueRepeated}
@@ -23,12 +24,7 @@ use Rattle.fp_type_forms.specs.declared.resolving.Resolution.{Resolution}
 use Rattle.fp_type_forms.specs.Broken.{IsRepeated, is_number, repeat_of}
 use Rattle.fp_type_forms.specs.Written.{ConstantIs, IsOnly}
 use Rattle.fp_type_forms.specs.Resolved.{Takes}
-use Rattle.fp_type_sizes.proofs.Places.{no_some}
 use Rattle.fp_type_forms.proofs.Taking.{items_from, items_next, taken_as, taken_nothing, taken_then}
-use Rattle.fp_type_forms.proofs.Breaking.{least_of_all, not_both}
-
-below_or_last : (i k : ℕ) → i < k + 1 → (i < k) ⊎ (i ≡ k)
-below_or_last i k h = grind arith
 
 module _ (source : Source) (scope : Path) (d : Enum) where
   -- one of the first so many has the number
@@ -69,7 +65,7 @@ module _ (source : Source) (scope : Path) (d : Enum) where
       → ((q : ℤ) → contains_by (int_cmp q) new ≡ (contains_by (int_cmp q) old || is_number q o)) → HasSeen k old → HasSeen (k + 1) new
   more_seen k c o old new at only adds has = record {
     to = λ q h. earlier q (or_cases (contains_by (int_cmp q) old) (is_number q o) (sym (adds q) ∙ h));
-    from = λ q e. adds q ∙ there q e (below_or_last e.index k e.below);
+    from = λ q e. adds q ∙ there q e (below_or_at e.index k e.below);
   }
     where
       earlier : (q : ℤ) → (contains_by (int_cmp q) old ≡ true) ⊎ (is_number q o ≡ true) → Earlier (k + 1) q

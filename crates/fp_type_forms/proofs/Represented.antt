@@ -1,8 +1,8 @@
 -- Representations, and the numbers outside them, by what is found of types.
 use Rattle.std.proofs.Common.{◌≡◌, ℕ, Bool, true, false, cond, is_none, ◌||◌, ◌⊎◌, inl, inr, ℤ, List, [], ◌∷◌, Option, Some, None, refl, sym, ap, ◌∙◌, subst}
-use Rattle.fp_base.proofs.Bools.{neither, or_cases}
+use Rattle.fp_base.proofs.Bools.{neither, or_cases, not_both}
 use Rattle.fp_base.proofs.Calculus.{least_along, least_either, least_none, least_only, least_same}
-use Rattle.fp_base.proofs.Options.{same_some}
+use Rattle.fp_base.proofs.Options.{same_some, none_is, no_some}
 use Rattle.fp_base.specs.Least.{broken_at, InSome, IsLeast, lesser_of}
 use Rattle.fp_base.specs.declared.refusal.Refusal.{Refusal}
 use Rattle.fp_base.specs.declared.rule.Rule.TheVariants.{BadConversion, OutsideType}
@@ -28,13 +28,7 @@ use Rattle.fp_type_forms.specs.declared.ranges.Range.{Range}
 use Rattle.fp_type_forms.specs.Broken.{BrokenByEnum, HasRange, IsBadRepr, IsFloat, IsNoInteger, IsOutside, constant_place}
 use Rattle.fp_type_forms.specs.Tested.{IsBeyond, beyond_fault, extent_of, is_float, is_no_integer, is_within, range_in, range_of, range_with, repr_fault}
 use Rattle.fp_type_forms.specs.Written.{ConstantIs, IsOnly, KindIs, ReprIs}
-use Rattle.fp_type_forms.proofs.Breaking.{not_both}
 use Rattle.fp_type_forms.proofs.Only.{only_same}
-use Rattle.fp_type_sizes.proofs.Places.{no_some}
-
-none_is : {A : Type 0} (o : Option A) → is_none o ≡ true → o ≡ None
-none_is None h = refl
-none_is (Some x) h = not_both h refl
 
 -- ---- integer types
 
@@ -46,7 +40,7 @@ with_range : (s : Shape) (r : Range) → range_with s ≡ Some r → s ≡ integ
 with_range (integer low high) r h = ap (λ (x : Range). integer x.low x.high) (same_some h)
 with_range s r h = no_some h
 
-measured : {ws : List WrittenType} {k e : Kind} → EndsAs ws k e → IsPlain e → Measures ws k 1 1
+pub measured : {ws : List WrittenType} {k e : Kind} → EndsAs ws k e → IsPlain e → Measures ws k 1 1
 measured (at_plain p) h = plain p
 measured (at_form f n) h = absurd h
 measured (behind_alias f r) h = named f (alias (measured r h))

@@ -3,8 +3,9 @@ use Rattle.std.proofs.Common.{◌≡◌, Bool, true, false, cond, ℕ, suc, ◌+
 use Rattle.std.specs.Prelude.{option_and_then}
 use Rattle.std.proofs.lemmas.List.{append-nil, take_all, length-take-le}
 use Rattle.std.proofs.lemmas.Option.{slice_get_within}
+use Rattle.std.specs.Option.{option_flatten}
 use Rattle.fp_base.proofs.Lists.{take_next}
-use Rattle.fp_base.proofs.Options.{same_some}
+use Rattle.fp_base.proofs.Options.{same_some, no_some}
 use Rattle.fp_base.specs.declared.value.Value.{Value}
 use Rattle.fp_tree.specs.declared.source.Source.{Source}
 use Rattle.fp_tree.specs.declared.name.Name.{Name}
@@ -35,9 +36,8 @@ use Rattle.fp_type_sizes.specs.declared.written.Own.{Own}
 use Rattle.fp_type_forms.specs.declared.resolving.Resolution.{Resolution}
 use Rattle.fp_type_forms.specs.declared.resolving.Resolution.TheVariants as resolution
 use Rattle.fp_type_forms.specs.Written.{IsOnly, AllAt, TypeHere, is_kind, types_before, primitive, NumberIs, IsSizeTo, IsStringSize, KindIs, ConstantIs, EnumeratedIs, FormIs, OwnIs, IsWritten}
-use Rattle.fp_type_forms.specs.Resolved.{IsMarkOf, AreResolved, AreWrittenIn, Takes, Moves, UseMeans, constant_with, kind_resolved, marked_value, number_given, number_meant, use_resolved, value_resolved, own_with, one_more, both_there}
+use Rattle.fp_type_forms.specs.Resolved.{IsMarkOf, AreResolved, AreWrittenIn, Takes, Moves, UseMeans, constant_with, kind_resolved, number_given, number_meant, use_resolved, value_resolved, own_with, one_more, both_there}
 use Rattle.fp_type_forms.proofs.Only.{only_same, only_mapped, only_then, only_both, only_nothing, only_more}
-use Rattle.fp_type_sizes.proofs.Places.{no_some}
 
 -- the use of anything but a type
 meant_by : (g : Group) (ds : List Definition) (number : ℕ) → is_kind g ≡ false → use_resolved g ds number ≡ resolution.Meant number
@@ -74,7 +74,7 @@ module _ (source : Source) (marks : List (Option Value)) (rs : List Resolution) 
       let at : slice_get rs a ≡ Some r = h.0.1 in
       let mark = h.0.2.2 in
       let is : value_resolved marks (slice_get rs a) ≡ mark.0 =
-      ap (value_resolved marks) (at ∙ ap (λ (x : Resolution). Some x) h.0.2.1) ∙ ap marked_value mark.1 in
+      ap (value_resolved marks) (at ∙ ap (λ (x : Resolution). Some x) h.0.2.1) ∙ ap option_flatten mark.1 in
       (to mark.0 is (record { holds = mark.2.holds; only = mark.2.only }), subst (λ (n : ℕ). AreResolved source marks rs others n) (sym (moves r at)) h.1)
 
   pub number_valued : (scope : Path) (e : Expr) (o : Option Value) (n : Option ℤ) (v : Option Value) → v ≡ o → n ≡ option_and_then number_in v → IsOnly (Val source scope (opened e)) o
@@ -221,7 +221,7 @@ module _ (source : Source) (marks : List (Option Value)) (rs : List Resolution) 
   number_listed a implied None r written same at is mark = position_given implied same
   number_listed a implied (Some e) r written same at is mark =
       number_valued source marks rs scope e mark.2.0 written (value_resolved marks (slice_get rs a))
-      (ap (value_resolved marks) (at ∙ ap (λ (x : Resolution). Some x) mark.1) ∙ ap marked_value mark.2.1) is
+      (ap (value_resolved marks) (at ∙ ap (λ (x : Resolution). Some x) mark.1) ∙ ap option_flatten mark.2.1) is
       (record { holds = mark.2.2.holds; only = mark.2.2.only })
 
   pub taken_number : (c : EnumConst) (a b : ℕ) (implied : Bool) (written number : Option ℤ) → implied ≡ is_implied d

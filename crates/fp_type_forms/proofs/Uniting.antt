@@ -2,7 +2,7 @@
 use Rattle.std.proofs.Common.{◌≡◌, ℕ, zero, suc, ◌⊎◌, inl, inr, List, [], ◌∷◌, ◌++◌, flat_map, Option, Some, None, refl, sym, subst}
 use Rattle.fp_base.proofs.Calculus.{least_along, least_either, least_same}
 use Rattle.fp_base.proofs.Lists.{get_front}
-use Rattle.fp_base.proofs.Options.{same_some}
+use Rattle.fp_base.proofs.Options.{same_some, no_some}
 use Rattle.fp_base.specs.Least.{Either, InSome, IsLeast, lesser_of}
 use Rattle.fp_base.specs.declared.refusal.Refusal.{Refusal}
 use Rattle.fp_tree.specs.declared.source.Source.{Source}
@@ -19,7 +19,6 @@ use Rattle.fp_type_sizes.specs.declared.written.WrittenType.{WrittenType}
 use Rattle.fp_type_forms.specs.Broken.{BrokenByEnum, BrokenByType, ByOptional, FormsBroken, NumbersRepeated, RepeatsIn, RepeatsMember, TypePartsBroken}
 use Rattle.fp_type_forms.specs.Tested.{EnumByItem, NamesByDefinition, NamesByItem}
 use Rattle.fp_type_forms.specs.Written.{TypeHere, type_here, types_in, types_of}
-use Rattle.fp_type_sizes.proofs.Places.{no_some}
 
 -- ---- lists that are put together
 

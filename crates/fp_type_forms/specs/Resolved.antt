@@ -1,5 +1,6 @@
 -- What the items of a source are resolved to: what its uses mean, and its expressions, by their numbers.
 use Rattle.std.specs.Prelude.{◌≡◌, ℕ, ◌+◌, Bool, cond, ℤ, pos, List, [], ◌∷◌, ◌++◌, length, map, slice_get, Option, Some, None}
+use Rattle.std.specs.Option.{option_flatten}
 use Rattle.fp_base.specs.declared.value.Value.{Value, Enumerated}
 use Rattle.fp_tree.specs.declared.source.Source.{Source}
 use Rattle.fp_tree.specs.declared.name.Name.{Name}
@@ -133,12 +134,8 @@ abbrev pub number_meant : Option Resolution → Option ℕ
 number_meant (Some (resolution.Meant number)) = Some number
 number_meant _ = None
 
-abbrev pub marked_value : Option (Option Value) → Option Value
-marked_value None = None
-marked_value (Some o) = o
-
 abbrev pub value_resolved : List (Option Value) → Option Resolution → Option Value
-value_resolved marks (Some (resolution.Expression number)) = marked_value (slice_get marks number)
+value_resolved marks (Some (resolution.Expression number)) = option_flatten (slice_get marks number)
 value_resolved marks _ = None
 
 abbrev pub own_with : Option Value → Own

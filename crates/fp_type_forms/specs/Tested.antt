@@ -1,9 +1,5 @@
 -- What is found of names that stood before, and of the type that represents an enumeration.
 use Rattle.std.specs.Prelude.{◌≡◌, ℕ, ℤ, Bool, true, false, ◌||◌, ◌&&◌, cond, is_none, int_le, List, [], Option, Some, None, option_and_then}
-use Rattle.std.specs.Ordering.{nat_cmp}
-use Rattle.std.specs.Cmp.Lexicographic.{slice_cmp}
-use Rattle.std.specs.BTreeSet.{BTreeSet, contains_by}
-use denote.Ref.{Bor}
 use Rattle.fp_base.specs.declared.place.Place.{Place}
 use Rattle.fp_base.specs.declared.refusal.Refusal.{Refusal}
 use Rattle.fp_base.specs.declared.rule.Rule.TheVariants.{BadConversion, BadMember, OutsideType}
@@ -34,10 +30,6 @@ use Rattle.fp_type_forms.specs.Resolved.{AreResolved}
 use Rattle.fp_type_forms.specs.Written.{ConstantIs}
 
 -- ---- names
-
--- a name stands in the set
-abbrev pub has_name : BTreeSet (Bor (List ℕ)) → List ℕ → Bool
-has_name seen name = contains_by (λ (k : Bor (List ℕ)). slice_cmp nat_cmp name k.now) seen
 
 abbrev pub name_fault : Bool → Place → Option Refusal
 name_fault again place = cond again (Some (broken_at BadMember place)) None

@@ -1,10 +1,11 @@
 ghost use Rattle.std.specs.Prelude.{◌≡◌, ◌||◌, ℕ, List, IfOk, OnOk};
 ghost use Rattle.std.specs.Str.{bytes_eq};
 ghost use Rattle.fp_base.specs.Least.{InSome, IsLeast};
+ghost use Rattle.fp_base.specs.NameSets.{has_name};
 ghost use Rattle.fp_tree.specs.declared.expression.Assignment.{Assignment as Given};
 ghost use Rattle.fp_tree.specs.declared.part.Field.{Field as Member};
 ghost use Rattle.fp_type_forms.specs.Broken.{RepeatsName};
-ghost use Rattle.fp_type_forms.specs.Tested.{has_name, name_fault};
+ghost use Rattle.fp_type_forms.specs.Tested.{name_fault};
 
 use fp_base::{NoMemory, Refusal, Rule, lesser, refusal_if};
 use fp_tree::{Assignment, Field, Name};

@@ -1,5 +1,5 @@
 ghost use Rattle.std.specs.Prelude.{◌≡◌, ℕ, ◌≤◌, false, pos, List, [], ◌∷◌, Option, Some, slice_get, option_and_then, IfOk};
-ghost use Rattle.std.specs.Option.{option_copied};
+ghost use Rattle.std.specs.Option.{option_copied, option_flatten};
 ghost use Rattle.fp_base.specs.declared.value.Value.{Value as Data};
 ghost use Rattle.fp_tree.specs.declared.expression.Expr.{Expr as Whole};
 ghost use Rattle.fp_tree.specs.declared.source.Source.{Source};
@@ -8,7 +8,7 @@ ghost use Rattle.fp_meaning.specs.Layout.{expression_items};
 ghost use Rattle.fp_meaning.specs.Names.{Path, in_optional};
 ghost use Rattle.fp_meaning.specs.Sites.{Naming};
 ghost use Rattle.fp_meaning.specs.Values.{number_in};
-ghost use Rattle.fp_type_forms.specs.Resolved.{Moves, Takes, UseMeans, marked_value, number_meant, own_with, value_resolved};
+ghost use Rattle.fp_type_forms.specs.Resolved.{Moves, Takes, UseMeans, number_meant, own_with, value_resolved};
 ghost use Rattle.fp_type_forms.specs.Written.{IsOnly, IsSizeTo, NumberIs, OwnIs, is_kind};
 
 use crate::resolving::Resolution;
@@ -46,7 +46,7 @@ pub fn value_of(found: Option<Resolution>, marks: &[Option<Value>]) -> Option<&V
 }
 
 fn marked(number: usize, marks: &[Option<Value>]) -> Option<&Value>
-    ensures { option_copied result ≡ marked_value (slice_get marks.now number) }
+    ensures { option_copied result ≡ option_flatten (slice_get marks.now number) }
 {
     match marks.get(number) {
         Some(mark) => mark.as_ref(),

@@ -3,7 +3,7 @@ use Rattle.std.proofs.Common.{◌≡◌, ◌≢◌, ℕ, zero, suc, ◌+◌, ◌
 use Rattle.std.specs.Prelude.{ℤ, min, max, option_map}
 use Rattle.std.proofs.lemmas.List.{at_drop_more}
 use Rattle.std.proofs.lemmas.Option.{slice_get_within, slice_get_read}
-use Rattle.fp_base.proofs.Options.{same_some}
+use Rattle.fp_base.proofs.Options.{same_some, no_some}
 use Rattle.fp_tables.specs.Types as types
 use Rattle.fp_tables.specs.Types.{kinds_in}
 use Rattle.fp_tables.specs.declared.kind.Kind.{Kind}
@@ -20,12 +20,9 @@ use Rattle.fp_type_sizes.specs.Found.{IsTypeOrder, IsSize, IsExtent, AreExtents}
 use Rattle.fp_type_sizes.specs.Sized.{joined, leaf, kind_extent, is_integer_kind, ends_in_integer, times, beside, within, with_end, size_in, member_size, AreSoundExtents, MissesNone, MissesNoUse, FindsSize, FindsExtent, SizedFirst}
 use Rattle.fp_type_sizes.proofs.OneSize.{one_form}
 use Rattle.fp_base.proofs.Spots.{get_set_same, get_set_other, same_or_other, before_or_not}
-use Rattle.fp_type_sizes.proofs.Places.{no_some}
+use Rattle.fp_base.proofs.Numbers.{suc_times}
 
 -- ---- numbers that stop
-
-suc_times : (n a : ℕ) → suc n * a ≡ a + n * a
-suc_times n a = grind arith
 
 times_small : (n a : ℕ) → a ≤ 65537 → min (n * min a 65537) 65537 ≡ min (n * a) 65537
 times_small n a h = ap (λ (x : ℕ). min (n * x) 65537) (omega arith)
@@ -174,7 +171,7 @@ integer_end kind.Bool e = absurd (cc)
 integer_end (kind.Str size) e = absurd (cc)
 integer_end (kind.Named i) e = absurd (cc)
 
-end_integer : (k : Kind) (low high : ℤ) → types.shape [] k ≡ types.integer low high → is_integer_kind k ≡ true
+pub end_integer : (k : Kind) (low high : ℤ) → types.shape [] k ≡ types.integer low high → is_integer_kind k ≡ true
 end_integer kind.U8 low high e = refl
 end_integer kind.U16 low high e = refl
 end_integer kind.U32 low high e = refl

@@ -5,7 +5,7 @@ use Rattle.std.specs.List.{list_all}
 use Rattle.std.proofs.lemmas.Bool.Decides.{nat_tests}
 use Rattle.std.proofs.lemmas.Option.{slice_get_within}
 use Rattle.fp_base.proofs.Bools.{both}
-use Rattle.fp_base.proofs.Options.{same_some}
+use Rattle.fp_base.proofs.Options.{same_some, no_some}
 use Rattle.fp_tables.specs.Lists.{all_from, if_some}
 use Rattle.fp_tables.specs.Types.{kinds_in}
 use Rattle.fp_tables.specs.declared.kind.Kind.{Kind}
@@ -19,7 +19,6 @@ use Rattle.fp_type_sizes.specs.Found as found
 use Rattle.fp_type_sizes.specs.Earlier.{is_not_later, form_uses_earlier, uses_earlier, AreNumbers}
 use Rattle.fp_type_sizes.proofs.NoCycle.{no_cycle}
 use Rattle.fp_base.proofs.Spots.{item_below, get_push, before_or_not}
-use Rattle.fp_type_sizes.proofs.Places.{no_some}
 
 -- ---- numbers
 

@@ -1,6 +1,5 @@
 pub mod OneSize
 pub mod NoCycle
-pub mod Places
 pub mod Counted
 pub mod Limits
 pub mod TooLarge

@@ -3,7 +3,7 @@ use Rattle.std.proofs.Common.{◌≡◌, ℕ, zero, suc, ◌+◌, ◌<◌, ◌�
 use Rattle.std.proofs.lemmas.Bool.Decides.{nat_tests}
 use Rattle.std.proofs.lemmas.Option.{slice_get_within}
 use Rattle.std.specs.Prelude.{min, nat_lt, ◌&&◌}
-use Rattle.fp_base.proofs.Options.{same_some}
+use Rattle.fp_base.proofs.Options.{same_some, no_some}
 use Rattle.fp_base.proofs.Bools.{both}
 use Rattle.fp_tables.specs.Types.{kinds_in}
 use Rattle.fp_tables.specs.declared.kind.Kind.{Kind}
@@ -20,7 +20,6 @@ use Rattle.fp_type_sizes.specs.Sized.{kind_extent, is_few, is_few_if, AreSoundEx
 use Rattle.fp_type_sizes.proofs.OneSize.{one_form, one_size}
 use Rattle.fp_type_sizes.proofs.Counted.{kind_holds, kind_only, formed}
 use Rattle.fp_base.proofs.Spots.{item_below}
-use Rattle.fp_type_sizes.proofs.Places.{no_some}
 
 -- ---- at least one level
 

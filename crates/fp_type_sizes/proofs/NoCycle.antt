@@ -21,7 +21,7 @@ pub turned : {ws : List WrittenType} {i : ℕ} → LeadsTo ws i i → (j : ℕ) 
 turned {i = i} (found.one u) = (i, u, found.one u)
 turned (found.more {j = j} u l) = (j, u, rotated l u)
 
-same_named : {i j : ℕ} → kind.Named i ≡ kind.Named j → i ≡ j
+pub same_named : {i j : ℕ} → kind.Named i ≡ kind.Named j → i ≡ j
 same_named e = cc
 
 not_plain : {k : Kind} {i : ℕ} → IsPlain k → k ≡ kind.Named i → ⊥

@@ -18,7 +18,7 @@ use Rattle.fp_type_sizes.proofs.NoCycle.{apart}
 use Rattle.fp_type_sizes.proofs.Counted.{kind_holds, kind_only}
 use Rattle.fp_type_sizes.proofs.Limits.{is_sound, misses_none, few_of, of_few}
 use Rattle.fp_base.proofs.Spots.{before_or_not}
-use Rattle.fp_type_sizes.proofs.Places.{no_some}
+use Rattle.fp_base.proofs.Options.{no_some}
 
 module _ (ws : List WrittenType) (table : List (Option TypeExtent)) (are : AreExtents ws table) (k : Kind) where
   flag_of : (x : TypeExtent) (b : Bool) → is_few x.size ≡ b → kind_extent table k ≡ Some x → MatchBool (not b) (IsTooLarge ws k) (IsTooLarge ws k → ⊥)

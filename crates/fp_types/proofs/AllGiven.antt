@@ -1,10 +1,9 @@
 -- The types of a list in which each is given.
-use Rattle.std.proofs.Common.{◌≡◌, ℕ, zero, suc, ◌<◌, Bool, true, false, ◌||◌, List, [], ◌∷◌, map, length, Option, Some, None, slice_get, refl, sym, ap, ◌∙◌, subst}
+use Rattle.std.proofs.Common.{◌≡◌, ℕ, suc, ◌<◌, Bool, true, false, ◌||◌, List, [], ◌∷◌, length, Option, Some, None, slice_get, refl, sym, ap, ◌∙◌, subst}
 use Rattle.std.specs.Prelude.{option_map}
 use Rattle.std.specs.List.{list_any}
 use Rattle.std.proofs.lemmas.List.{length-map}
 use Rattle.std.proofs.lemmas.Option.{slice_get_within}
-use Rattle.fp_base.proofs.Options.{same_some}
 use Rattle.fp_base.proofs.Sameness.{nat_same}
 use Rattle.fp_tables.specs.Lists.{some_and}
 use Rattle.fp_tables.specs.Types.{Leads, once, again, is_use, is_named, kinds_in, form_at}
@@ -19,17 +18,12 @@ use Rattle.fp_type_sizes.specs.Found as found
 use Rattle.fp_type_sizes.proofs.OneSize.{one_form}
 use Rattle.fp_type_sizes.proofs.NoCycle.{no_cycle}
 use Rattle.fp_base.proofs.Spots.{item_below}
-use Rattle.fp_type_sizes.proofs.Places.{no_some}
+use Rattle.fp_base.proofs.Mapped.{map_get}
 use Rattle.fp_types.specs.Converting.{DefaultIs}
 use Rattle.fp_types.specs.WellWritten.{AllGiven}
 use Rattle.fp_types.proofs.Passed.{default_of_size}
 
-get_map : (ds : List TypeDef) (i : ℕ) (d : TypeDef) → slice_get ds i ≡ Some d → slice_get (map (λ (x : TypeDef). Some x) ds) i ≡ Some (Some d)
-get_map [] i d e = no_some e
-get_map (x ∷ xs) zero d e = ap (λ (y : TypeDef). Some (Some y)) (same_some e)
-get_map (x ∷ xs) (suc i) d e = get_map xs i d e
-
-named_is : (j : ℕ) (k : Kind) → is_named j k ≡ true → k ≡ kind.Named j
+pub named_is : (j : ℕ) (k : Kind) → is_named j k ≡ true → k ≡ kind.Named j
 named_is j (kind.Named i) e = ap (λ (n : ℕ). kind.Named n) (nat_same.equal i j e)
 named_is j kind.U8 e = absurd (cc)
 named_is j kind.U16 e = absurd (cc)
@@ -53,10 +47,10 @@ any_named j (k ∷ ks) e = go (is_named j k) refl e (λ h. any_named j ks h)
 
 module _ (ws : List WrittenType) (types : List TypeDef) (are : AllGiven ws types) where
   pub given_at : (i : ℕ) (d : TypeDef) → slice_get types i ≡ Some d → HasForm ws i d.form × DefaultIs ws (kind.Named i) d.default
-  given_at i d e = (are.at i (Some d) (get_map types i d e)).holds d refl
+  given_at i d e = (are.at i (Some d) (map_get (λ (x : TypeDef). Some x) types i d e)).holds d refl
 
   pub named_at : (i : ℕ) (d : TypeDef) (w : WrittenType) → slice_get types i ≡ Some d → slice_get ws i ≡ Some w → d.name ≡ w.name
-  named_at i d w e h = ((are.at i (Some d) (get_map types i d e)).names d w refl h).0
+  named_at i d w e h = ((are.at i (Some d) (map_get (λ (x : TypeDef). Some x) types i d e)).names d w refl h).0
 
   pub type_there : (i : ℕ) (f : Form) → HasForm ws i f → (d : TypeDef) × (slice_get types i ≡ Some d) × (d.form ≡ f)
   type_there i f h =

@@ -5,6 +5,7 @@ use Rattle.std.specs.List.{list_all}
 use Rattle.std.specs.Str.{bytes_eq}
 use Rattle.std.proofs.lemmas.Bool.Decides.{nat_tests}
 use Rattle.fp_base.proofs.Bools.{both, join}
+use Rattle.fp_base.proofs.Numbers.{suc_times}
 use Rattle.fp_base.specs.declared.value.Value.{Value, Int, Bool as Truth, Text, Enumerated, Array', Struct', Opaque, Row_of-Value, more_of-Value, end_of-Value}
 use Rattle.fp_base.specs.declared.value.Value.TheBlock as block
 use Rattle.fp_tables.specs.Lists.{if_some}
@@ -34,9 +35,6 @@ pub record IsBounded (v : Value) (a b : ℕ) : Type 0 where
 
 leaf_bounded : (v : Value) → leaves v ≡ 1 → levels v ≡ 1 → IsBounded v 1 1
 leaf_bounded v e d = record { few = omega arith; low = omega arith }
-
-suc_times : (n a : ℕ) → suc n * a ≡ a + n * a
-suc_times n a = grind arith
 
 some_times : (n a : ℕ) → 1 ≤ n → 1 ≤ a → 1 ≤ n * a
 some_times zero a p q = absurd (omega arith)

@@ -3,11 +3,11 @@ use Rattle.std.proofs.Common.{◌≡◌, ℕ, zero, suc, ◌+◌, ◌<◌, ◌�
 use Rattle.std.specs.Prelude.{option_map, find}
 use Rattle.std.specs.Str.{bytes_eq}
 use Rattle.std.proofs.lemmas.List.{take_more, take_all}
+use Rattle.std.specs.Option.{option_flatten}
 use Rattle.fp_base.specs.declared.value.Value.{Value}
 use Rattle.fp_base.specs.declared.value.Value.TheOpen as value
 use Rattle.fp_base.specs.declared.value.MemberValue.{MemberValue}
-use Rattle.fp_base.proofs.Options.{same_some}
-use Rattle.fp_type_sizes.proofs.Places.{no_some}
+use Rattle.fp_base.proofs.Options.{same_some, no_some}
 use Rattle.fp_tables.specs.declared.kind.Kind.{Kind}
 use Rattle.fp_tables.specs.declared.kind.Kind.TheVariants as kind
 use Rattle.fp_tables.specs.declared.kind.Field.{Field}
@@ -16,7 +16,7 @@ use Rattle.fp_types.specs.declared.target.Rest.{Rest}
 use Rattle.fp_types.specs.declared.target.Rest.TheVariants.{OfStruct, OfMembers}
 use Rattle.fp_types.specs.Converting.{Target, of_kind, array, struct, member, part_for, parts_in, value_named, member_by_member, MembersBecome, Completes, no_field, given_here, left_out, Rests, in_struct, in_type, Default, zero as zero_default, untrue, empty, repeated as repeated_default, plainly}
 use Rattle.fp_types.specs.Making.{AreSoundDefaults, HasDefault, HasDefaultsIn, itself, SufficesEach, SufficesForRest, SufficesForStruct, IsMade, IsDefault, AreMadeOfMembers, AreCompleted, repeated, structured}
-use Rattle.fp_types.specs.Completing.{joined, default_at, left_part, position_in, plain_default, SufficesForLeft, SufficesForLefts, MemberIs, IsRest, IsMember}
+use Rattle.fp_types.specs.Completing.{default_at, left_part, position_in, plain_default, SufficesForLeft, SufficesForLefts, MemberIs, IsRest, IsMember}
 use Rattle.fp_types.specs.Completing as complete
 use Rattle.fp_types.proofs.Inverting.{struct_back}
 use Rattle.fp_types.proofs.OneResult.{member_results}
@@ -24,7 +24,7 @@ use Rattle.fp_types.proofs.OneResult.{member_results}
 -- ---- defaults of types
 
 module _ (ws : List WrittenType) (defaults : List (Option Value)) (sound : AreSoundDefaults ws defaults) where
-  named_from : (i : ℕ) (o : Option (Option Value)) → slice_get defaults i ≡ o → IsDefault ws (HasDefaultsIn ws defaults (kind.Named i)) (of_kind (kind.Named i)) (joined o)
+  named_from : (i : ℕ) (o : Option (Option Value)) → slice_get defaults i ≡ o → IsDefault ws (HasDefaultsIn ws defaults (kind.Named i)) (of_kind (kind.Named i)) (option_flatten o)
   named_from i None is = λ knows w d. no_some (sym is ∙ knows i itself w d)
   named_from i (Some None) is = λ knows w d. no_some (same_some (sym is ∙ knows i itself w d))
   named_from i (Some (Some w)) is = sound i w is
@@ -33,7 +33,7 @@ module _ (ws : List WrittenType) (defaults : List (Option Value)) (sound : AreSo
   named_default i = named_from i (slice_get defaults i) refl
 
   left_from : (i : ℕ) (f : Field) (o : Option (Option Value)) → slice_get defaults i ≡ o
-      → IsRest ws (HasDefault ws defaults i) (OfStruct i) f (left_part f (joined o))
+      → IsRest ws (HasDefault ws defaults i) (OfStruct i) f (left_part f (option_flatten o))
   left_from i f None is = λ has w r. none_of r has is
     where
       none_of : {w : Value} → Rests ws (OfStruct i) f w → HasDefault ws defaults i → slice_get defaults i ≡ None → ⊥

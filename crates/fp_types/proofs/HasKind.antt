@@ -1,5 +1,5 @@
 -- What a value becomes in a type, and the default of a type, are values of the type.
-use Rattle.std.proofs.Common.{◌≡◌, ℕ, zero, suc, Bool, true, false, not, cond, ◌&&◌, List, [], ◌∷◌, map, length, replicate, eqb, slice_get, Option, Some, None, refl, sym, ap, ◌∙◌, subst}
+use Rattle.std.proofs.Common.{◌≡◌, ℕ, zero, suc, Bool, true, false, not, cond, ◌&&◌, List, [], ◌∷◌, map, length, replicate, slice_get, Option, Some, None, refl, sym, ap, ◌∙◌, subst}
 use Rattle.std.specs.Prelude.{ℤ, pos, int_le, find, option_map}
 use Rattle.std.specs.List.{list_all, list_any}
 use Rattle.std.specs.Str.{bytes_eq}
@@ -8,7 +8,9 @@ use Rattle.std.proofs.lemmas.List.{length-replicate}
 use Rattle.fp_base.specs.Same.{same}
 use Rattle.fp_base.proofs.Bools.{both, neither, join, not_true}
 use Rattle.fp_base.proofs.Options.{same_some}
-use Rattle.fp_base.proofs.Sameness.{nat_same, value_same}
+use Rattle.fp_base.proofs.Sameness.{value_same}
+use Rattle.fp_base.proofs.Bytes.{bytes_itself}
+use Rattle.fp_base.proofs.Numbers.{number_same}
 use Rattle.fp_base.specs.declared.value.Value.{Value, Enumerated, out-Value, roll-Value, roll-out-Value}
 use Rattle.fp_base.specs.declared.value.Value.TheOpen as value
 use Rattle.fp_base.specs.declared.value.Value.TheVariants as rolled
@@ -33,9 +35,6 @@ use Rattle.fp_types.specs.declared.target.Rest.TheVariants.{OfStruct, OfMembers}
 use Rattle.fp_types.specs.Converting.{Opened, Target, integer, truth, words, array, struct, constants, opaque, of_kind, plain_target, form_target, member_target, member, member_named, parts_in, part_for, value_named, Becomes, number, numbered, truth_value, text, constant, part_by_part, member_by_member, in_each_part, in_each_member, in_plain, in_named, EachBecomes, none, more, MembersBecome, no_part, part, BecomesInEach, no_member, in_member, Completes, no_field, given_here, left_out, Rests, in_struct, in_type, Default, zero as zero_default, untrue, empty, repeated, of_each, first, the_one, plainly, by_form, by_value, Converts, DefaultIs}
 use Rattle.fp_types.specs.WellWritten.{AreWellWritten, AllGiven}
 use Rattle.fp_types.proofs.AllGiven.{form_in, no_self}
-
-same_name : (a : List ℕ) → bytes_eq a a ≡ true
-same_name a = (bytes_eq-Decides a a).1 refl
 
 all_copies : {A : Type 0} (p : A → Bool) (n : ℕ) (x : A) → p x ≡ true → list_all p (replicate n x) ≡ true
 all_copies p zero x h = refl
@@ -64,7 +63,7 @@ pub all_meant : (fields : List Field) → texts_differ (names fields) ≡ true �
 all_meant [] e = tt
 all_meant (f ∷ fs) e =
     let p = both (not (list_any (bytes_eq f.name) (names fs))) (texts_differ (names fs)) e in
-    (rw (same_name f.name) refl, lifted f fs fs (not_true _ p.0) (all_meant fs p.1))
+    (rw (bytes_itself f.name) refl, lifted f fs fs (not_true _ p.0) (all_meant fs p.1))
 
 module _ (types : List TypeDef) where
   -- ---- the shape of a target
@@ -107,7 +106,7 @@ module _ (types : List TypeDef) where
   member_has f w h = ap (λ (s : Shape). has types s w) (sized_shape f f.size refl) ∙ h
 
   part_for_has : (f : Field) (w : Value) → has types (member_shape types f) w ≡ true → part_has types f (part_for f w) ≡ true
-  part_for_has f w h = join (bytes_eq f.name f.name) (has types (member_shape types f) w) (same_name f.name) h
+  part_for_has f w h = join (bytes_eq f.name f.name) (has types (member_shape types f) w) (bytes_itself f.name) h
 
   -- ---- values given for members
 
@@ -181,9 +180,6 @@ each_length : {ws : List WrittenType} {k : Kind} {vs xs : List Value} → EachBe
 each_length none = refl
 each_length (more h hs) = ap suc (each_length hs)
 
-nat_same_of : {m n : ℕ} → m ≡ n → eqb m n ≡ true
-nat_same_of {m = m} e = subst (λ (x : ℕ). eqb m x ≡ true) e (nat_same.itself m)
-
 module _ (ws : List WrittenType) (types : List TypeDef) (well : AreWellWritten ws) (are : AllGiven ws types) where
   -- a target that is one of a type
   abbrev IsEnumerated : Value → Type 0
@@ -248,9 +244,9 @@ module _ (ws : List WrittenType) (types : List TypeDef) (well : AreWellWritten w
     has_target good text = refl
     has_target good (constant h) = h
     has_target good (part_by_part {made = made} {size = size} {k = k} long h) =
-        array_has types size k made ∙ join _ _ (nat_same_of (each_length h ∙ long)) (each_has h)
+        array_has types size k made ∙ join _ _ (number_same _ _ (each_length h ∙ long)) (each_has h)
     has_target good (in_each_part {size = size} {k = k} {w = w} s h) =
-        array_has types size k (replicate size w) ∙ join _ _ (nat_same_of (length-replicate size w)) (all_copies (has types (shape types k)) size w (has_target tt h))
+        array_has types size k (replicate size w) ∙ join _ _ (number_same _ _ (length-replicate size w)) (all_copies (has types (shape types k)) size w (has_target tt h))
     has_target good (member_by_member {made = made} {fields = fields} h c) =
         struct_has types fields made ∙ completes_has fields good (all_meant fields good.0) (are_given h) c
     has_target good (in_each_member {fields = fields} {made = made} s h) = struct_has types fields made ∙ each_member_has h
@@ -289,7 +285,7 @@ module _ (ws : List WrittenType) (types : List TypeDef) (well : AreWellWritten w
     default_has good untrue = refl
     default_has good empty = refl
     default_has good (repeated {size = size} {k = k} {w = w} h) =
-        array_has types size k (replicate size w) ∙ join _ _ (nat_same_of (length-replicate size w)) (all_copies (has types (shape types k)) size w (default_has tt h))
+        array_has types size k (replicate size w) ∙ join _ _ (number_same _ _ (length-replicate size w)) (all_copies (has types (shape types k)) size w (default_has tt h))
     default_has good (of_each {fields = fields} {made = made} c) = struct_has types fields made ∙ completes_has fields good (all_meant fields good.0) (no_given types fields) c
     default_has good (first {c = c} {cs = cs}) = first_has cs c (good c refl)
     default_has good the_one = refl

@@ -10,7 +10,7 @@ mod Meetings
 mod Causes
 mod Quiet
 mod Example
-mod AllGiven
+pub mod AllGiven
 pub mod HasKind
 mod Bounded
 mod SoundTypes

@@ -1,17 +1,15 @@
 -- What is made of lists, an item at a time.
 use Rattle.std.proofs.Common.{◌≡◌, ℕ, zero, suc, ◌+◌, ◌<◌, ◌≤◌, List, [], ◌∷◌, ◌++◌, length, take, get_or, slice_get, Some, refl, sym, ap, ◌∙◌, subst}
-use Rattle.std.proofs.lemmas.List.{take_more, take_all}
+use Rattle.std.proofs.lemmas.List.{take_all}
 use Rattle.std.proofs.lemmas.Option.{slice_get_read}
 use Rattle.fp_base.specs.declared.value.Value.{Value}
 use Rattle.fp_base.specs.declared.value.MemberValue.{MemberValue}
 use Rattle.fp_base.proofs.Options.{same_some}
+use Rattle.fp_base.proofs.Lists.{taken_next}
 use Rattle.fp_tables.specs.declared.kind.Kind.{Kind}
 use Rattle.fp_tables.specs.declared.kind.Field.{Field}
 use Rattle.fp_type_sizes.specs.declared.written.WrittenType.{WrittenType}
 use Rattle.fp_types.specs.Converting.{Opened, opened, of_kind, member, member_named, Becomes, EachBecomes, none, more, MembersBecome, no_part, part, BecomesInEach, no_member, in_member}
-
-pushed : {A : Type 0} (xs : List A) (i : ℕ) (x : A) → i < length xs → x ≡ get_or xs i x → take (i + 1) xs ≡ take i xs ++ x ∷ []
-pushed xs i x lt is = take_more xs i x lt ∙ ap (λ y. take i xs ++ y ∷ []) (sym is)
 
 abbrev pub made_part : List ℕ → Value → MemberValue
 made_part n v = record { name = n; value = v }
@@ -31,7 +29,7 @@ module _ (types : List WrittenType) where
       → EachBecomes types k (take i items) made → Becomes types (opened item) (of_kind k) value → more_made ≡ made ++ value ∷ []
       → EachBecomes types k (take (i + 1) items) more_made
   each_next k items i item v made more_made lt is h g e =
-      subst (λ (vs : List Value). EachBecomes types k vs more_made) (sym (pushed items i item lt is))
+      subst (λ (vs : List Value). EachBecomes types k vs more_made) (sym (taken_next items i item lt is))
       (subst (λ (ws : List Value). EachBecomes types k (take i items ++ item ∷ []) ws) (sym e) (each_add k item v h g))
 
   pub each_last : (k : Kind) (items : List Value) (i : ℕ) (made : List Value) → length items ≤ i → EachBecomes types k (take i items) made → EachBecomes types k items made
@@ -62,7 +60,7 @@ module _ (types : List WrittenType) where
       → more_given ≡ given ++ made_part name value ∷ []
       → MembersBecome types fields (take (i + 1) parts) more_given
   members_next fields parts i p name v given more_given lt is h named g e =
-      subst (λ (ps : List MemberValue). MembersBecome types fields ps more_given) (sym (pushed parts i p lt is))
+      subst (λ (ps : List MemberValue). MembersBecome types fields ps more_given) (sym (taken_next parts i p lt is))
       (subst (λ (qs : List MemberValue). MembersBecome types fields (take i parts ++ p ∷ []) qs) (sym (e ∙ ap (λ (n : List ℕ). given ++ made_part n v ∷ []) named)) (members_add fields p g.0 v h g.1 g.2))
 
   pub members_last : (fields : List Field) (parts : List MemberValue) (i : ℕ) (given : List MemberValue) → length parts ≤ i → MembersBecome types fields (take i parts) given → MembersBecome types fields parts given
@@ -95,7 +93,7 @@ module _ (types : List WrittenType) where
       → BecomesInEach types o (take i fields) made → name ≡ f.name → Becomes types o (member f) value → more_made ≡ made ++ made_part name value ∷ []
       → BecomesInEach types o (take (i + 1) fields) more_made
   in_each_next o fields i f name v made more_made lt is h named g e =
-      subst (λ (fs : List Field). BecomesInEach types o fs more_made) (sym (pushed fields i f lt is))
+      subst (λ (fs : List Field). BecomesInEach types o fs more_made) (sym (taken_next fields i f lt is))
       (subst (λ (qs : List MemberValue). BecomesInEach types o (take i fields ++ f ∷ []) qs) (sym (e ∙ ap (λ (n : List ℕ). made ++ made_part n v ∷ []) named)) (in_each_add o f v h g))
 
   pub in_each_last : (o : Opened) (fields : List Field) (i : ℕ) (made : List MemberValue) → length fields ≤ i → BecomesInEach types o (take i fields) made → BecomesInEach types o fields made

@@ -7,7 +7,8 @@ use Rattle.fp_base.specs.Same.{same}
 use Rattle.fp_base.specs.declared.value.Value.{Value, Int, Enumerated}
 use Rattle.fp_base.specs.declared.value.Value.TheOpen as value
 use Rattle.fp_base.specs.declared.value.MemberValue.{MemberValue}
-use Rattle.fp_base.proofs.Options.{same_some}
+use Rattle.fp_base.proofs.Options.{same_some, none_some}
+use Rattle.fp_base.proofs.Bools.{not_both}
 use Rattle.fp_tables.specs.declared.kind.Kind.{Kind}
 use Rattle.fp_tables.specs.declared.kind.Field.{Field}
 use Rattle.fp_tables.specs.declared.kind.Constant.{Constant}
@@ -16,9 +17,6 @@ use Rattle.fp_types.specs.declared.target.Rest.{Rest}
 use Rattle.fp_types.specs.Converting.{Opened, opened, IsSingle, Target, integer, truth, words, array, struct, constants, opaque, of_kind, member, member_named, Becomes, number, numbered, truth_value, text, constant, part_by_part, in_each_part, in_each_member, BecomesInEach}
 use Rattle.fp_types.specs.Making.{as_integer, as_truth, as_words, as_constant, items_of, parts_of, listed, structured, repeated, Suffices, SufficesEach, SufficesIn, OpensTo, IsTargetOf, IsMade, IsMadeOfEach, IsMadeOfPart, AreMadeInEach}
 use Rattle.fp_types.proofs.Inverting.{integer_back, truth_back, words_back, constants_back, nothing_back, array_back, struct_back}
-
-not_both : {A : Type 0} {b : Bool} → b ≡ true → b ≡ false → A
-not_both e f = let both : true ≡ false = sym e ∙ f in cc
 
 -- what steps reach enough for one
 pub carried : (types : List WrittenType) (r s : Type 0) (o : Opened) (t : Target) (m : Option Value) → (s → r) → IsMade types r o t m → IsMade types s o t m
@@ -185,9 +183,6 @@ pub part_none : (types : List WrittenType) (r : Type 0) (fields : List Field) (p
     → r → (f : Field) (w : Value) → member_named fields p.name ≡ Some f → Becomes types (opened p.value) (member f) w → ⊥
 part_none types r fields p m e h = subst (λ (x : Option Value). IsMadeOfPart types r fields p x) e h
 
-none_some : {A B : Type 0} {x : A} {o : Option A} → None ≡ o → o ≡ Some x → B
-none_some e d = let both : None ≡ Some _ = e ∙ d in cc
-
 full_at : {ws : List WrittenType} {defaults : List (Option Value)} (n : ℕ) (fields : List Field) (name : List ℕ) (f : Field) → member_named fields name ≡ Some f → SufficesEach ws defaults n fields → Suffices ws defaults n f.kind
 full_at n [] name f e h = none_some refl e
 full_at {ws = ws} {defaults = defaults} n (g ∷ gs) name f e h = go (bytes_eq g.name name) e (λ is. full_at n gs name f is h.1)
@@ -208,7 +203,7 @@ named_made types defaults n fields p f None is h =
     λ reached g w e k. h (full_at n fields p.name f (sym is) reached) w (subst (λ (x : Field). Becomes types (opened p.value) (member x) w) (same_some (sym e ∙ sym is)) k)
 
 pub unnamed_made : (types : List WrittenType) (r : Type 0) (fields : List Field) (p : MemberValue) → None ≡ member_named fields p.name → IsMadeOfPart types r fields p None
-unnamed_made types r fields p is = λ reached f w e h. none_some is e
+unnamed_made types r fields p is = λ reached f w e h. none_some (sym is) e
 
 pub member_sized : (f : Field) (n : ℕ) → f.size ≡ Some n → member f ≡ array n f.kind
 member_sized f n is = rw is refl

@@ -1,9 +1,9 @@
 -- A value becomes one value of a type at most, and a type has one default at most.
-use Rattle.std.proofs.Common.{◌≡◌, ℕ, List, ◌∷◌, Option, Some, None, refl, sym, ap, ◌∙◌, subst}
+use Rattle.std.proofs.Common.{◌≡◌, ℕ, List, ◌∷◌, Some, refl, sym, ap, ◌∙◌, subst}
 use Rattle.std.specs.Prelude.{replicate}
 use Rattle.fp_base.specs.declared.value.Value.{Value, Array, Struct}
 use Rattle.fp_base.specs.declared.value.MemberValue.{MemberValue}
-use Rattle.fp_base.proofs.Options.{same_some}
+use Rattle.fp_base.proofs.Options.{same_some, none_some}
 use Rattle.fp_tables.specs.declared.kind.Kind.{Kind}
 use Rattle.fp_tables.specs.declared.kind.Form.{Form}
 use Rattle.fp_tables.specs.declared.kind.Field.{Field}
@@ -46,9 +46,6 @@ same_own e = cc
 
 pub unwritten : {A : Type 0} {v : Value} → own.Unwritten ≡ own.Has v → A
 unwritten e = absurd (cc)
-
-none_some : {A B : Type 0} {x : A} → {o : Option A} → o ≡ None → o ≡ Some x → B
-none_some e d = let both : None ≡ Some _ = sym e ∙ d in absurd (cc)
 
 same_named : {d e w x : Value} (f : Field) → d ≡ e → value_named (parts_in d) f.name ≡ Some w → value_named (parts_in e) f.name ≡ Some x → w ≡ x
 same_named f e h k = same_some (sym h ∙ ap (λ (y : Value). value_named (parts_in y) f.name) e ∙ k)

@@ -4,7 +4,7 @@ use Rattle.std.specs.Prelude.{option_map}
 use Rattle.std.proofs.lemmas.Option.{slice_get_within}
 use Rattle.fp_base.specs.declared.value.Value.{Value}
 use Rattle.fp_base.specs.declared.value.MemberValue.{MemberValue}
-use Rattle.fp_base.proofs.Options.{same_some}
+use Rattle.fp_base.proofs.Options.{same_some, no_some}
 use Rattle.fp_tables.specs.Types.{kinds_in}
 use Rattle.fp_tables.specs.declared.kind.Kind.{Kind}
 use Rattle.fp_tables.specs.declared.kind.Kind.TheVariants as kind
@@ -34,7 +34,6 @@ use Rattle.fp_type_sizes.proofs.Counted.{formed}
 use Rattle.fp_type_sizes.proofs.Limits.{HasSize, used_sized, sized_is, form_measured, of_struct, of_alias}
 use Rattle.fp_types.proofs.Opening.{each_full, result_of_size}
 use Rattle.fp_base.proofs.Spots.{get_set_same, get_set_other, same_or_other, item_below, get_push}
-use Rattle.fp_type_sizes.proofs.Places.{no_some}
 
 -- ---- what leads to what
 

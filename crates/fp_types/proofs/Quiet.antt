@@ -9,8 +9,8 @@ use Rattle.fp_base.specs.declared.refusal.Refusal.{Refusal}
 use Rattle.fp_base.specs.declared.value.Value.{Value, Enumerated}
 use Rattle.fp_base.specs.declared.value.Value.TheOpen as value
 use Rattle.fp_base.specs.declared.value.MemberValue.{MemberValue}
-use Rattle.fp_base.proofs.Options.{same_some}
-use Rattle.fp_type_sizes.proofs.Places.{no_some}
+use Rattle.fp_base.proofs.Options.{same_some, no_some}
+use Rattle.fp_base.proofs.Bools.{not_both}
 use Rattle.fp_tables.specs.declared.kind.Kind.{Kind}
 use Rattle.fp_tables.specs.declared.kind.Kind.TheVariants as kind
 use Rattle.fp_tables.specs.declared.kind.Form.{Form}
@@ -24,9 +24,6 @@ use Rattle.fp_types.specs.Faults.{Meets, lacks_member, is_outside, differs, Misf
 use Rattle.fp_types.specs.Faults as meet
 use Rattle.fp_type_sizes.proofs.OneSize.{one_form}
 use Rattle.fp_types.proofs.Passed.{by_value_back}
-
-clash : {A : Type 0} {b : Bool} → b ≡ true → b ≡ false → A
-clash e h = let both : true ≡ false = sym e ∙ h in absurd (cc)
 
 -- a test holds of nothing where a rule of conversion applies
 pub record IsSilent (ws : List WrittenType) (test : Opened → Target → Bool) : Type 0 where
@@ -55,27 +52,27 @@ module _ (ws : List WrittenType) (test : Opened → Target → Bool) where
   module _ (silent : IsSilent ws test) where
     mutual
       pub quiet : {v : Opened} {t : Target} {w : Value} → Becomes ws v t w → Meets ws test v t → ⊥
-      quiet (number h) (meet.here e) = clash e (silent.of_number _ _ _ h)
-      quiet (numbered h) (meet.here e) = clash e (silent.of_constant _ _ _ _ _ h)
-      quiet truth_value (meet.here e) = clash e (silent.of_truth _)
-      quiet text (meet.here e) = clash e (silent.of_text _)
-      quiet (constant h) (meet.here e) = clash e (silent.of_own _ _ _ _ h)
-      quiet (part_by_part l hs) (meet.here e) = clash e (silent.of_items _ _ _ l)
+      quiet (number h) (meet.here e) = not_both e (silent.of_number _ _ _ h)
+      quiet (numbered h) (meet.here e) = not_both e (silent.of_constant _ _ _ _ _ h)
+      quiet truth_value (meet.here e) = not_both e (silent.of_truth _)
+      quiet text (meet.here e) = not_both e (silent.of_text _)
+      quiet (constant h) (meet.here e) = not_both e (silent.of_own _ _ _ _ h)
+      quiet (part_by_part l hs) (meet.here e) = not_both e (silent.of_items _ _ _ l)
       quiet (part_by_part l hs) (meet.in_part i d g m) = quiet_each hs i g m
       quiet (part_by_part l hs) (meet.single_in_part s m) = absurd s
-      quiet (member_by_member hs c) (meet.here e) = clash e (silent.of_parts _ _ _ _ hs)
+      quiet (member_by_member hs c) (meet.here e) = not_both e (silent.of_parts _ _ _ _ hs)
       quiet (member_by_member hs c) (meet.in_member i g n m) = quiet_members hs i g n m
       quiet (member_by_member hs c) (meet.single_in_member i s g m) = absurd s
-      quiet (in_each_part s h) (meet.here e) = clash e (silent.of_single _ _ _ s)
+      quiet (in_each_part s h) (meet.here e) = not_both e (silent.of_single _ _ _ s)
       quiet (in_each_part s h) (meet.in_part i d g m) = absurd s
       quiet (in_each_part s h) (meet.single_in_part r m) = quiet h m
-      quiet (in_each_member s hs) (meet.here e) = clash e (silent.of_each _ _ _ s)
+      quiet (in_each_member s hs) (meet.here e) = not_both e (silent.of_each _ _ _ s)
       quiet (in_each_member s hs) (meet.in_member i g n m) = absurd s
       quiet (in_each_member s hs) (meet.single_in_member i r g m) = quiet_in_each hs i g m
-      quiet (in_plain p h) (meet.here e) = clash e (silent.of_type _ _)
+      quiet (in_plain p h) (meet.here e) = not_both e (silent.of_type _ _)
       quiet (in_plain p h) (meet.in_plain q m) = quiet h m
       quiet (in_plain p h) (meet.in_named g s m) = absurd p
-      quiet (in_named f s h) (meet.here e) = clash e (silent.of_type _ _)
+      quiet (in_named f s h) (meet.here e) = not_both e (silent.of_type _ _)
       quiet (in_named f s h) (meet.in_plain q m) = absurd q
       quiet (in_named f s h) (meet.in_named g r m) = quiet h (moved (OfStruct _) (one_form g f) m)
 

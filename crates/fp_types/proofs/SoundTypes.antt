@@ -1,12 +1,11 @@
 -- Types that are given of a well written list are sound.
-use Rattle.std.proofs.Common.{◌≡◌, ℕ, suc, Bool, true, ◌&&◌, List, [], ◌∷◌, Some, None, slice_get, refl, sym, ap, ◌∙◌, subst}
+use Rattle.std.proofs.Common.{◌≡◌, ℕ, Bool, true, ◌&&◌, List, [], Some, None, slice_get, refl, sym, ap, ◌∙◌, subst}
 use Rattle.std.specs.Prelude.{ℤ}
-use Rattle.std.specs.List.{list_all}
 use Rattle.std.specs.Str.{bytes_eq}
-use Rattle.std.proofs.lemmas.Slice.Eq.{bytes_eq-Decides}
 use Rattle.fp_base.proofs.Bools.{join}
+use Rattle.fp_base.proofs.Passing.{all_items}
+use Rattle.fp_base.proofs.Bytes.{bytes_itself}
 use Rattle.fp_base.specs.declared.value.Value.{Value, Int}
-use Rattle.fp_type_sizes.proofs.Places.{no_some}
 use Rattle.fp_tables.specs.Sound.{form_differs, form_is_of_size}
 use Rattle.fp_tables.specs.Types as shapes
 use Rattle.fp_tables.specs.Types.{Shape, has, has_kind, shape, of_form, is_constant_of, form_has_values, type_has_values, is_of_size}
@@ -25,13 +24,6 @@ use Rattle.fp_types.proofs.AllGiven.{given_at, named_at, form_in, no_self}
 use Rattle.fp_types.proofs.Passed.{default_of_size}
 use Rattle.fp_types.proofs.HasKind.{named_shape, default_has_kind}
 use Rattle.fp_types.proofs.Bounded.{kind_is_of_size}
-
-same_name : (a : List ℕ) → bytes_eq a a ≡ true
-same_name a = (bytes_eq-Decides a a).1 refl
-
-all_of_each : {A : Type 0} (p : A → Bool) (xs : List A) → ((i : ℕ) (x : A) → slice_get xs i ≡ Some x → p x ≡ true) → list_all p xs ≡ true
-all_of_each p [] each = refl
-all_of_each p (x ∷ xs) each = join (p x) (list_all p xs) (each 0 x refl) (all_of_each p xs (λ i y e. each (suc i) y e))
 
 plain_integer : (types : List TypeDef) (e : Kind) (low high : ℤ) → shape [] e ≡ shapes.integer low high → shape types e ≡ shapes.integer low high
 plain_integer types kind.U8 low high is = is
@@ -58,7 +50,7 @@ module _ (ws : List WrittenType) (types : List TypeDef) (well : AreWellWritten w
   constant_of : (name : List ℕ) (repr : Kind) (c : Constant) → IsOwnConstant ws name repr c → is_constant_of types name repr c ≡ true
   constant_of name repr c own =
       ap (λ (v : Value). is_constant_of types name repr (record { name = c.name; value = v; note = c.note })) own.value
-      ∙ join (bytes_eq name name && bytes_eq c.name c.name) (has_kind types repr (Int own.number)) (join (bytes_eq name name) (bytes_eq c.name c.name) (same_name name) (same_name c.name))
+      ∙ join (bytes_eq name name && bytes_eq c.name c.name) (has_kind types repr (Int own.number)) (join (bytes_eq name name) (bytes_eq c.name c.name) (bytes_itself name) (bytes_itself c.name))
       (ap (λ (s : Shape). has types s (Int own.number)) (integer_shape repr own.low own.high own.integer) ∙ own.within)
 
   form_values : (name : List ℕ) (f : Form) → HasOwnConstants ws name f → form_has_values types name f ≡ true
@@ -66,7 +58,7 @@ module _ (ws : List WrittenType) (types : List TypeDef) (well : AreWellWritten w
   form_values name (form.Alias k) own = refl
   form_values name (form.Array size k format) own = refl
   form_values name (form.Struct fields) own = refl
-  form_values name (form.Enum repr cs) own = all_of_each (is_constant_of types name repr) cs (λ j c e. constant_of name repr c (own j c e))
+  form_values name (form.Enum repr cs) own = all_items (is_constant_of types name repr) cs (λ j c e. constant_of name repr c (own j c e))
 
   values_at : (i : ℕ) (d : TypeDef) → slice_get types i ≡ Some d → type_has_values types d ≡ true
   values_at i d e =
@@ -85,8 +77,8 @@ module _ (ws : List WrittenType) (types : List TypeDef) (well : AreWellWritten w
   pub sound_types : AreSoundTypes types
   sound_types = record {
     no_type_uses_itself = no_self ws types are;
-    types_have_their_values = all_of_each (type_has_values types) types values_at;
-    members_differ = all_of_each (λ (d : TypeDef). form_differs d.form) types (λ i d e. well.members_differ i d.form (given_at ws types are i d e).0);
-    arrays_are_of_size = all_of_each (λ (d : TypeDef). form_is_of_size d.form) types (λ i d e. well.arrays_are_of_size i d.form (given_at ws types are i d e).0);
-    defaults_are_of_size = all_of_each (λ (d : TypeDef). is_of_size d.default) types size_at;
+    types_have_their_values = all_items (type_has_values types) types values_at;
+    members_differ = all_items (λ (d : TypeDef). form_differs d.form) types (λ i d e. well.members_differ i d.form (given_at ws types are i d e).0);
+    arrays_are_of_size = all_items (λ (d : TypeDef). form_is_of_size d.form) types (λ i d e. well.arrays_are_of_size i d.form (given_at ws types are i d e).0);
+    defaults_are_of_size = all_items (λ (d : TypeDef). is_of_size d.default) types size_at;
   }

@@ -1,8 +1,8 @@
 -- What a type is for all that a value and it meet.
 use Rattle.std.proofs.Common.{◌≡◌, ℕ, zero, suc, ◌+◌, ◌-◌, ◌*◌, ◌≤◌, Bool, true, false, cond, List, [], ◌∷◌, Option, Some, None, refl, sym, ◌∙◌, subst, slice_get, arith}
 use Rattle.std.specs.Str.{bytes_eq}
-use Rattle.fp_base.proofs.Options.{same_some}
-use Rattle.fp_type_sizes.proofs.Places.{no_some}
+use Rattle.fp_base.proofs.Options.{same_some, no_some}
+use Rattle.fp_base.proofs.Bools.{not_both}
 use Rattle.fp_tables.specs.declared.kind.Kind.{Kind}
 use Rattle.fp_tables.specs.declared.kind.Kind.TheVariants as kind
 use Rattle.fp_tables.specs.declared.kind.Form.{Form}
@@ -24,13 +24,10 @@ use Rattle.fp_types.specs.Meeting.{IsReachedBy}
 use Rattle.fp_types.specs.Read.{end_target}
 use Rattle.fp_types.proofs.Opening.{plain_end, named_end}
 
-clash : {A : Type 0} {b : Bool} → b ≡ true → b ≡ false → A
-clash e h = let both : true ≡ false = sym e ∙ h in absurd (cc)
-
 -- ---- what is met has a size
 
 pub met_of_size : {ws : List WrittenType} {test : Opened → Target → Bool} {k : Kind} {v : Opened} → PassesKinds test → Meets ws test v (of_kind k) → IsOfSize ws k
-met_of_size {k = k} {v = v} passes (here e) = clash e (passes v k)
+met_of_size {k = k} {v = v} passes (here e) = not_both e (passes v k)
 met_of_size passes (in_plain p m) = (1, 1, plain p, omega arith, omega arith)
 met_of_size passes (in_named f s m) = s
 
@@ -92,13 +89,13 @@ module _ (ws : List WrittenType) where
   -- ---- a type and what it is
 
   plain_down : (k : Kind) → IsPlain k → (test : Opened → Target → Bool) (v : Opened) → PassesKinds test → Meets ws test v (of_kind k) → Meets ws test v (plain_target k)
-  plain_down k p test v passes (here e) = clash e (passes v k)
+  plain_down k p test v passes (here e) = not_both e (passes v k)
   plain_down k p test v passes (in_plain q m) = m
   plain_down k p test v passes (in_named f s m) = absurd p
 
   named_down : (i : ℕ) (f : Form) → HasForm ws i f → (test : Opened → Target → Bool) (v : Opened) → PassesKinds test → Meets ws test v (of_kind (kind.Named i))
       → Meets ws test v (form_target (OfStruct i) f)
-  named_down i f h test v passes (here e) = clash e (passes v (kind.Named i))
+  named_down i f h test v passes (here e) = not_both e (passes v (kind.Named i))
   named_down i f h test v passes (in_plain q m) = absurd q
   named_down i f h test v passes (in_named g s m) = subst (λ (x : Form). Meets ws test v (form_target (OfStruct i) x)) (one_form g h) m
 
@@ -142,7 +139,7 @@ module _ (ws : List WrittenType) where
         let same = one_size found.measures size.2 in
         let l : found.leaves ≤ 65536 = at_most same.leaves size.3 in
         let h : found.levels ≤ 64 = at_most same.levels size.4 in
-        clash (of_few ws table are found.leaves found.levels x.size found.size l h) is
+        not_both (of_few ws table are found.leaves found.levels x.size found.size l h) is
       where
         at_most : {m n most : ℕ} → m ≡ n → n ≤ most → m ≤ most
         at_most e d = omega arith

@@ -1,11 +1,11 @@
 -- Where each type is given, a value that breaks no rule in a type becomes something.
-use Rattle.std.proofs.Common.{◌≡◌, ◌⊎◌, inl, inr, ℕ, zero, suc, Bool, true, false, not, cond, ◌&&◌, ◌||◌, List, [], ◌∷◌, length, replicate, slice_get, Option, Some, None, refl, sym, ap, ◌∙◌, subst}
+use Rattle.std.proofs.Common.{◌≡◌, ◌⊎◌, inl, inr, ℕ, zero, suc, Bool, true, false, cond, ◌&&◌, ◌||◌, List, [], ◌∷◌, length, replicate, slice_get, Option, Some, None, refl, sym, ap, ◌∙◌, subst}
 use Rattle.std.specs.Prelude.{ℤ, int_le, nat_eq, is_none, find, option_map}
 use Rattle.std.specs.List.{list_any}
 use Rattle.std.specs.Str.{bytes_eq}
-use Rattle.std.proofs.lemmas.Slice.Eq.{bytes_eq-Decides}
 use Rattle.std.proofs.lemmas.Bool.Decides.{nat_tests}
 use Rattle.std.proofs.Common.{arith}
+use Rattle.std.proofs.lemmas.Bool.{not_from_false}
 use Rattle.fp_base.specs.Same.{same}
 use Rattle.fp_base.specs.declared.place.Place.{Place}
 use Rattle.fp_base.specs.declared.refusal.Refusal.{Refusal}
@@ -13,8 +13,8 @@ use Rattle.fp_base.specs.declared.value.Value.{Value, Int, Bool as Truth, Text, 
 use Rattle.fp_base.specs.declared.value.Value.TheVariants.{rolls-Struct}
 use Rattle.fp_base.specs.declared.value.Value.TheOpen as value
 use Rattle.fp_base.specs.declared.value.MemberValue.{MemberValue}
-use Rattle.fp_base.proofs.Options.{same_some}
-use Rattle.fp_type_sizes.proofs.Places.{no_some}
+use Rattle.fp_base.proofs.Options.{same_some, no_some}
+use Rattle.fp_base.proofs.Bytes.{bytes_itself}
 use Rattle.fp_tables.specs.declared.kind.Kind.{Kind}
 use Rattle.fp_tables.specs.declared.kind.Kind.TheVariants as kind
 use Rattle.fp_tables.specs.declared.kind.Form.{Form}
@@ -36,12 +36,6 @@ use Rattle.fp_types.proofs.AllGiven.{given_at, type_there}
 use Rattle.fp_types.proofs.Complete.{plain_default_is}
 use Rattle.fp_types.proofs.Passed.{default_of_size}
 
-same_name : (a : List ℕ) → bytes_eq a a ≡ true
-same_name a = (bytes_eq-Decides a a).1 refl
-
-not_of : (b : Bool) → b ≡ false → not b ≡ true
-not_of b e = ap not e
-
 -- ---- the parts of what is made of a struct
 
 parts_are : (v : Value) (made : List MemberValue) → out-Value v ≡ value.Struct made → parts_in v ≡ made
@@ -62,7 +56,7 @@ named_first g w made f later = go (bytes_eq g.name f.name) refl
 
 not_itself : {A : Type 0} (g f : Field) → g ≡ f → bytes_eq g.name f.name ≡ false → A
 not_itself g f e h =
-    let both : true ≡ false = sym (same_name f.name) ∙ ap (λ (x : Field). bytes_eq x.name f.name) (sym e) ∙ h in
+    let both : true ≡ false = sym (bytes_itself f.name) ∙ ap (λ (x : Field). bytes_eq x.name f.name) (sym e) ∙ h in
     absurd (cc)
 
 module _ (ws : List WrittenType) where
@@ -129,12 +123,12 @@ module _ (ws : List WrittenType) where
     where
       go : (b : Bool) → (int_le low n && int_le n high) ≡ b → Made (value.Int n) (integer low high) ⊎ Unfits (value.Int n) (integer low high)
       go true e = inl (Int n, number e)
-      go false e = inr (range (not_of _ e))
+      go false e = inr (range (not_from_false _ e))
   total_integer low high (value.Enumerated of name n) = go (int_le low n && int_le n high) refl
     where
       go : (b : Bool) → (int_le low n && int_le n high) ≡ b → Made (value.Enumerated of name n) (integer low high) ⊎ Unfits (value.Enumerated of name n) (integer low high)
       go true e = inl (Int n, numbered e)
-      go false e = inr (range (not_of _ e))
+      go false e = inr (range (not_from_false _ e))
   total_integer low high (value.Bool b) = inr (shape refl)
   total_integer low high (value.Text t) = inr (shape refl)
   total_integer low high (value.Array items) = inr (shape refl)
@@ -164,7 +158,7 @@ module _ (ws : List WrittenType) where
     where
       go : (b : Bool) → list_any (λ (x : Constant). same x.value (Enumerated of name n)) cs ≡ b → Made (value.Enumerated of name n) (constants cs) ⊎ Unfits (value.Enumerated of name n) (constants cs)
       go true e = inl (Enumerated of name n, constant e)
-      go false e = inr (shape (not_of _ e))
+      go false e = inr (shape (not_from_false _ e))
   total_constants cs (value.Int n) = inr (shape refl)
   total_constants cs (value.Bool b) = inr (shape refl)
   total_constants cs (value.Text t) = inr (shape refl)
@@ -214,7 +208,7 @@ module _ (ws : List WrittenType) where
   total_array size k each (value.Array items) = go (nat_eq (length items) size) refl (total_items k each items)
     where
       go : (b : Bool) → nat_eq (length items) size ≡ b → ((xs : List Value) × EachBecomes ws k items xs) ⊎ UnfitsIn k items → Made (value.Array items) (convert.array size k) ⊎ Unfits (value.Array items) (convert.array size k)
-      go false e rest = inr (shape (not_of _ e))
+      go false e rest = inr (shape (not_from_false _ e))
       go true e (inl (xs, hs)) = inl (Array xs, part_by_part (equal_of _ _ e) hs)
       go true e (inr (i, v, at, u)) = inr (record { test = u.test; one_of = u.one_of; met = fault.in_part i (equal_of _ _ e) at u.met })
   total_array size k each (value.Struct parts) = inr (shape refl)

@@ -1,5 +1,6 @@
 -- The members of a struct from what is given and the rest, and what isn't missed of the rest.
 use Rattle.std.specs.Prelude.{◌≡◌, ℕ, pos, false, List, [], ◌∷◌, Option, Some, None, slice_get}
+use Rattle.std.specs.Option.{option_flatten}
 use Rattle.fp_base.specs.declared.value.Value.{Value, Int, Bool as Truth, Text}
 use Rattle.fp_tables.specs.declared.kind.Kind.{Kind}
 use Rattle.fp_tables.specs.declared.kind.Kind.TheVariants as kind
@@ -11,12 +12,8 @@ use Rattle.fp_types.specs.declared.target.Rest.TheVariants.{OfStruct, OfMembers}
 use Rattle.fp_types.specs.Converting.{parts_in, value_named, Rests}
 use Rattle.fp_types.specs.Making.{HasDefault, HasDefaultsIn}
 
-abbrev pub joined : Option (Option Value) → Option Value
-joined None = None
-joined (Some o) = o
-
 abbrev pub default_at : List (Option Value) → ℕ → Option Value
-default_at defaults i = joined (slice_get defaults i)
+default_at defaults i = option_flatten (slice_get defaults i)
 
 abbrev pub position_in : Kind → Option ℕ
 position_in (kind.Named i) = Some i

@@ -1,4 +1,4 @@
-mod Counts
+pub mod Counts
 mod Giving
 mod UsesListed
 mod Along

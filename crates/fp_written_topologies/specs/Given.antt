@@ -1,13 +1,11 @@
 -- Where each expression in whose place a number is wanted has one.
-use Rattle.std.specs.Prelude.{◌≡◌, ℕ, ℤ, slice_get, Option, Some}
+use Rattle.std.specs.Prelude.{◌≡◌, ℕ, slice_get, Option, Some}
 use Rattle.fp_written_parts.specs.declared.port.Given.{Given}
+use Rattle.fp_written_parts.specs.Numbered.{HasNumber}
 use Rattle.fp_written_topologies.specs.declared.instance.WrittenInstance.{WrittenInstance}
 use Rattle.fp_written_topologies.specs.declared.topology.WrittenConnection.{WrittenConnection}
 use Rattle.fp_written_topologies.specs.declared.topology.WrittenDeployment.{WrittenDeployment}
 use Rattle.fp_written_topologies.specs.declared.topology.WrittenTopology.{WrittenTopology}
-
-abbrev pub HasNumber : Given → Type 0
-HasNumber g = (n : ℤ) × (g.number ≡ Some n)
 
 -- one that may be left out
 abbrev pub HasNumberWhereGiven : Option Given → Type 0

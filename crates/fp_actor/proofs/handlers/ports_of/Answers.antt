@@ -2,9 +2,10 @@ use Rattle.std.proofs.Common.{◌≡◌, ◌∙◌, ap, sym, subst, ℕ, Bool, N
 use Rattle.std.specs.BTreeMap.{get_by, is_at as is_key}
 use Rattle.fp_tables.specs.declared.program.Handler.{Handler}
 use Rattle.fp_tables.specs.declared.program.Spot.TheVariants as spot
-use Rattle.fp_actor.specs.Found.{is_at, pair_cmp}
+use Rattle.fp_actor.specs.Found.{is_at}
 use Rattle.fp_base.proofs.Options.{none_of}
 use Rattle.fp_tables.proofs.Firsts.{position_at, filled, kept}
+use Rattle.fp_tables.specs.Found.{pair_cmp}
 use Rattle.fp_actor.proofs.Finding.{same_port, pair_key, other_port}
 use Rattle.fp_actor.proofs.handlers.ports_of.Goals as goal
 use Rattle.fp_actor.proofs.handlers.ports_of.Goals.{in-Port+then-not-contains_key+in_ok-insert, in-Port+else-not-contains_key, in_default}

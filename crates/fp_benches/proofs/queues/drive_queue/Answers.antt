@@ -1,6 +1,6 @@
 use Rattle.std.proofs.Common.{◌≡◌, ℤ, ◌%◌, FitsSigned, w32, length, get_or, pos, ap, ◌∙◌, arith, rules}
 use Rattle.std.proofs.lemmas.Int.{to_z-of_z}
-use Rattle.fp_benches.proofs.Known.{known_at}
+use Rattle.fp_queue.proofs.Known.{known_at}
 use Rattle.fp_benches.proofs.queues.drive_queue.Goals.{then-is_full, else-is_full}
 use Rattle.fp_benches.proofs.queues.drive_queue.Goals as goal
 

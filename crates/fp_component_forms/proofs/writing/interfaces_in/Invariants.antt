@@ -1,9 +1,9 @@
 use Rattle.fp_tree.specs.declared.source.Source.{Source}
 use Rattle.fp_component_forms.specs.Positions.{ArePositions}
-use Rattle.fp_component_forms.specs.Written.{InterfaceIs, interface_of}
+use Rattle.fp_component_forms.specs.Written.{InterfaceIs, interface_declared}
 use Rattle.fp_component_forms.proofs.Lists.{GivesFirst}
 use Rattle.fp_component_forms.proofs.writing.interfaces_in.Given as goal
 
 abbrev pub invariant-loop-index : goal.invariant-loop-index
 invariant-loop-index l =
-    GivesFirst InterfaceIs interface_of (λ (source : Source). ArePositions source l.positions) l.marks l.resolutions l.items l.index l.written
+    GivesFirst InterfaceIs interface_declared (λ (source : Source). ArePositions source l.positions) l.marks l.resolutions l.items l.index l.written

@@ -1,8 +1,7 @@
 use Rattle.std.proofs.Common.{◌≡◌, Some, length, slice_get, refl}
 use Rattle.std.proofs.lemmas.Option.{slice_get_read}
-use Rattle.fp_base.proofs.Elements.{least_first_none}
+use Rattle.fp_base.proofs.Elements.{least_first_none, least_next, least_of_all}
 use Rattle.fp_component_rules.specs.Broken.{ComponentBroken}
-use Rattle.fp_component_rules.proofs.Folding.{least_next, least_of_all}
 use Rattle.fp_component_rules.proofs.faults.each_component_fault.Goals as goal
 
 pub loop-component-init : goal.loop-component-init

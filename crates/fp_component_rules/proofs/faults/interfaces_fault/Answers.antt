@@ -1,11 +1,10 @@
 use Rattle.std.proofs.Common.{◌≡◌, List, Some, length, slice_get, refl, subst, sym}
 use Rattle.std.proofs.lemmas.Option.{slice_get_read}
 use Rattle.fp_base.specs.Least.{IsLeast}
-use Rattle.fp_base.proofs.Elements.{least_first_none}
+use Rattle.fp_base.proofs.Elements.{least_first_none, least_next, least_of_all}
 use Rattle.fp_written_parts.specs.declared.member.WrittenMember.{WrittenMember}
 use Rattle.fp_written_parts.specs.Giving.{ImportsWithin}
 use Rattle.fp_component_rules.specs.Broken.{InterfaceBroken, RepeatsBroken}
-use Rattle.fp_component_rules.proofs.Folding.{least_next, least_of_all}
 use Rattle.fp_component_rules.proofs.faults.interfaces_fault.Goals as goal
 
 pub loop-interface-init : goal.loop-interface-init

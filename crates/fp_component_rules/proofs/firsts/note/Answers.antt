@@ -1,4 +1,4 @@
-use Rattle.fp_component_rules.proofs.Adding.{name_added}
+use Rattle.fp_base.proofs.KeySets.{name_added}
 use Rattle.fp_component_rules.proofs.firsts.note.Goals as goal
 
 pub returns-clause-names : goal.returns-clause-names

@@ -2,7 +2,7 @@ use Rattle.std.proofs.Common.{◌≡◌, ◌||◌, Bool, ℕ, List, Some, None, 
 use Rattle.std.proofs.lemmas.Option.{slice_get_read}
 use Rattle.fp_base.specs.declared.rule.Rule.TheVariants.{ParameterRepeated}
 use Rattle.fp_base.specs.Least.{broken_at}
-use Rattle.fp_component_rules.specs.Seen.{has_name}
+use Rattle.fp_base.specs.NameSets.{has_name}
 use Rattle.fp_component_rules.proofs.PortNaming.{names_none, names_next, names_all}
 use Rattle.fp_component_rules.proofs.formals.repeated_formal.Goals as goal
 

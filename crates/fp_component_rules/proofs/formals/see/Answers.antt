@@ -1,4 +1,4 @@
-use Rattle.fp_component_rules.proofs.PortNaming.{name_added}
+use Rattle.fp_base.proofs.KeySets.{name_added}
 use Rattle.fp_component_rules.proofs.formals.see.Goals as goal
 
 pub returns-clause-seen : goal.returns-clause-seen

@@ -1,5 +1,5 @@
 use Rattle.std.proofs.Common.{◌∙◌, None, Some, slice_get, sym, ap}
-use Rattle.fp_component_rules.proofs.Listed.{not_some}
+use Rattle.fp_base.proofs.Options.{no_some}
 use Rattle.fp_component_rules.proofs.Summed.{if_served}
 use Rattle.fp_component_rules.proofs.gift.with_import.Goals as goal
 
@@ -9,4 +9,4 @@ returns-in-Some c fs before i is h served =
     c.with_gift.ensures.leads
 
 pub returns-in-None : goal.returns-in-None
-returns-in-None c fs before i is h served = not_some (c.in-None.ensures ∙ ap (slice_get c.args.gifts.now) (sym is) ∙ served.here)
+returns-in-None c fs before i is h served = no_some (c.in-None.ensures ∙ ap (slice_get c.args.gifts.now) (sym is) ∙ served.here)

@@ -2,10 +2,10 @@ use Rattle.std.proofs.Common.{◌≡◌, ◌∙◌, ◌++◌, [], ◌∷◌, Lis
 use Rattle.std.proofs.lemmas.Option.{slice_get_read}
 use Rattle.std.proofs.lemmas.List.{append-nil}
 use denote.Ref.{Bor}
+use Rattle.fp_base.proofs.Mapped.{mapped_next}
 use Rattle.fp_written_parts.specs.declared.port.WrittenPort.{WrittenPort}
 use Rattle.fp_component_rules.specs.Firsts.{of_each_name, with_port}
 use Rattle.fp_component_rules.proofs.Named.{each_pushed}
-use Rattle.fp_component_rules.proofs.Sorting.{mapped_next}
 use Rattle.fp_component_rules.proofs.gift.with_ports.Goals as goal
 
 abbrev behind : Bor WrittenPort → WrittenPort

@@ -1,9 +1,9 @@
 use Rattle.std.proofs.Common.{◌≡◌, ◌∙◌, ◌++◌, [], ◌∷◌, List, ℕ, Some, length, map, slice_get, take, refl, sym, ap}
 use Rattle.std.proofs.lemmas.Option.{slice_get_read}
+use Rattle.fp_base.proofs.Mapped.{mapped_next}
 use Rattle.fp_written_parts.specs.declared.member.WrittenInterface.{WrittenInterface}
 use Rattle.fp_written_parts.specs.declared.member.WrittenMember.{WrittenMember}
 use Rattle.fp_component_rules.specs.Links.{imported_in}
-use Rattle.fp_component_rules.proofs.Sorting.{mapped_next}
 use Rattle.fp_component_rules.proofs.imports.imported_of_each.Goals as goal
 
 abbrev row_of : WrittenInterface → List ℕ

@@ -1,12 +1,13 @@
 use Rattle.std.proofs.Common.{◌∙◌, List, ℕ, length, map, subst}
 use Rattle.fp_base.proofs.Options.{if_ok_then}
+use Rattle.fp_base.proofs.Mapped.{many_mapped}
 use Rattle.fp_graph.specs.Chains.{AreFlags, IsOnCycle, IsOrder}
 use Rattle.fp_graph.specs.Rows.{IsListed}
 use Rattle.fp_graph.proofs.Alike.{cyclic_alike, order_alike}
 use Rattle.fp_written_parts.specs.declared.member.WrittenInterface.{WrittenInterface}
 use Rattle.fp_written_parts.specs.Giving.{Imports}
 use Rattle.fp_component_rules.specs.Links.{imported_in}
-use Rattle.fp_component_rules.proofs.Sorting.{many_mapped, same_imports}
+use Rattle.fp_component_rules.proofs.Sorting.{same_imports}
 use Rattle.fp_component_rules.proofs.imports.sorted_interfaces.Goals as goal
 
 abbrev row_of : WrittenInterface → List ℕ

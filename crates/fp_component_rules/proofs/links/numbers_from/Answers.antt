@@ -1,4 +1,4 @@
-use Rattle.fp_component_rules.proofs.Linking.{numbers_more}
+use Rattle.fp_base.proofs.Numbers.{numbers_more}
 use Rattle.fp_component_rules.proofs.links.numbers_from.Goals as goal
 
 pub loop-at-preserved : goal.loop-at-preserved

@@ -1,5 +1,5 @@
 use Rattle.std.proofs.Common.{◌≡◌}
-use Rattle.fp_component_rules.specs.Links.{numbers_from}
+use Rattle.fp_base.specs.Numbers.{numbers_from}
 use Rattle.fp_component_rules.proofs.links.numbers_from.Given as goal
 
 abbrev pub invariant-loop-at : goal.invariant-loop-at

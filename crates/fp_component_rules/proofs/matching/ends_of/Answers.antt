@@ -4,10 +4,10 @@ use Rattle.std.specs.List.{find}
 use Rattle.std.proofs.lemmas.List.{take_all}
 use Rattle.std.proofs.lemmas.Option.{slice_get_read}
 use denote.Ref.{Bor}
+use Rattle.fp_base.proofs.Mapped.{mapped_next}
 use Rattle.fp_written_parts.specs.declared.port.WrittenPort.{WrittenPort}
 use Rattle.fp_component_rules.specs.Firsts.{is_named}
 use Rattle.fp_component_rules.specs.Tested.{end_of, find_end}
-use Rattle.fp_component_rules.proofs.Passing.{mapped_next}
 use Rattle.fp_component_rules.proofs.Noting.{end_added, no_ends}
 use Rattle.fp_component_rules.proofs.matching.ends_of.Goals as goal
 

@@ -3,12 +3,11 @@ use Rattle.std.specs.Prelude.{option_map}
 use Rattle.std.specs.List.{find}
 use Rattle.std.proofs.lemmas.Option.{slice_get_read}
 use Rattle.fp_base.proofs.Calculus.{least_along}
-use Rattle.fp_base.proofs.Elements.{least_first_none}
+use Rattle.fp_base.proofs.Elements.{least_first_none, least_next, least_of_all}
 use Rattle.fp_written_parts.specs.declared.port.WrittenPort.{WrittenPort}
 use Rattle.fp_component_rules.specs.Firsts.{is_named}
 use Rattle.fp_component_rules.specs.Broken.{MatchAt}
 use Rattle.fp_component_rules.specs.Tested.{end_of, find_end}
-use Rattle.fp_component_rules.proofs.Folding.{least_next, least_of_all}
 use Rattle.fp_component_rules.proofs.Pairing.{match_least}
 use Rattle.fp_component_rules.proofs.matching.matches_fault.Goals as goal
 

@@ -1,7 +1,7 @@
 use Rattle.std.proofs.Common.{◌≡◌, Some, true, is_some, refl, sym, ◌∙◌, subst, bytes_eq, ℕ, List, None}
 use Rattle.std.proofs.lemmas.Map.Text.{btree_map_updates_str}
+use Rattle.fp_base.proofs.Bytes.{same_bytes, bytes_turned}
 use Rattle.fp_tables.proofs.Firsts.{filled, kept}
-use Rattle.fp_component_rules.proofs.Named.{bytes_turned, same_bytes}
 use Rattle.fp_component_rules.specs.Tested.{find_end}
 use Rattle.fp_component_rules.proofs.Noting.{not_there}
 use Rattle.fp_component_rules.proofs.matching.note.Goals as goal

@@ -3,10 +3,10 @@ use Rattle.std.specs.List.{list_any}
 use Rattle.std.proofs.lemmas.List.{take_all}
 use Rattle.std.proofs.lemmas.Option.{slice_get_read}
 use Rattle.fp_base.proofs.Lists.{take_next}
+use Rattle.fp_base.proofs.Passing.{any_pushed}
 use Rattle.fp_written_parts.specs.declared.member.WrittenMember.{WrittenMember}
 use Rattle.fp_component_rules.specs.Broken.{needs}
 use Rattle.fp_component_rules.proofs.Meeting.{joined_as}
-use Rattle.fp_component_rules.proofs.Passing.{any_pushed}
 use Rattle.fp_component_rules.proofs.needing.needed_in.Goals as goal
 
 pub loop-member-init : goal.loop-member-init

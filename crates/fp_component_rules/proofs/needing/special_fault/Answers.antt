@@ -1,8 +1,9 @@
 use Rattle.fp_base.specs.declared.rule.Rule.TheVariants.{SpecialPortMissing}
 use Rattle.fp_base.specs.Least.{broken_at}
+use Rattle.fp_base.proofs.Calculus.{least_told}
 use Rattle.fp_component_rules.specs.Gifts.{LeadsAmong}
 use Rattle.fp_component_rules.specs.Broken.{IsMissing}
-use Rattle.fp_component_rules.proofs.Folding.{but_told, flag_told, least_told, told_along}
+use Rattle.fp_component_rules.proofs.Folding.{but_told, flag_told, told_along}
 use Rattle.fp_component_rules.proofs.Lacking.{missing_told}
 use Rattle.fp_component_rules.proofs.needing.special_fault.Goals as goal
 

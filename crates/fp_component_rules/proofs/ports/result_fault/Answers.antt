@@ -1,7 +1,7 @@
 use Rattle.fp_base.specs.declared.rule.Rule.TheVariants.{AsyncWithReturn}
 use Rattle.fp_base.specs.Least.{broken_at}
+use Rattle.fp_base.proofs.Calculus.{least_told}
 use Rattle.fp_component_rules.specs.PortBroken.{HasResult}
-use Rattle.fp_component_rules.proofs.PortFolding.{least_told}
 use Rattle.fp_component_rules.proofs.ports.result_fault.Goals as goal
 
 pub returns : goal.returns

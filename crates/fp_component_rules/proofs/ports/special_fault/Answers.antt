@@ -1,7 +1,8 @@
 use Rattle.std.proofs.Common.{◌≡◌, None}
 use Rattle.fp_base.specs.declared.rule.Rule.TheVariants.{SpecialPort}
 use Rattle.fp_base.specs.Least.{broken_at}
-use Rattle.fp_component_rules.proofs.PortFolding.{least_told, none_told}
+use Rattle.fp_base.proofs.Calculus.{least_told}
+use Rattle.fp_base.proofs.Options.{none_told}
 use Rattle.fp_component_rules.proofs.ports.special_fault.Goals as goal
 
 pub returns : goal.returns

@@ -1,10 +1,9 @@
 use Rattle.std.proofs.Common.{◌≡◌, List, Some, length, slice_get, refl, subst}
 use Rattle.std.proofs.lemmas.Option.{slice_get_read}
 use Rattle.fp_base.specs.Least.{IsLeast}
-use Rattle.fp_base.proofs.Elements.{least_first_none}
+use Rattle.fp_base.proofs.Elements.{least_first_none, least_next, least_of_all}
 use Rattle.fp_written_parts.specs.declared.member.WrittenMember.{WrittenMember}
 use Rattle.fp_component_rules.specs.PortBroken.{BrokenMembers, ComponentBroken}
-use Rattle.fp_component_rules.proofs.PortFolding.{least_next, least_of_all}
 use Rattle.fp_component_rules.proofs.ports_broken.components_fault.Goals as goal
 
 pub loop-component-init : goal.loop-component-init

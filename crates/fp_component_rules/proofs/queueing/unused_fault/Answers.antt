@@ -1,9 +1,10 @@
 use Rattle.std.proofs.Common.{◌||◌, Bool, ap}
 use Rattle.fp_base.specs.declared.rule.Rule.TheVariants.{QueueWithoutUse}
 use Rattle.fp_base.specs.Least.{broken_at}
+use Rattle.fp_base.proofs.Calculus.{least_told}
 use Rattle.fp_component_rules.specs.Gifts.{LeadsAmong}
 use Rattle.fp_component_rules.specs.Broken.{WaitsAmong}
-use Rattle.fp_component_rules.proofs.Folding.{flag_told, least_told, neither_told, told_along}
+use Rattle.fp_component_rules.proofs.Folding.{flag_told, neither_told, told_along}
 use Rattle.fp_component_rules.proofs.Waiting.{among_told}
 use Rattle.fp_component_rules.proofs.queueing.unused_fault.Goals as goal
 

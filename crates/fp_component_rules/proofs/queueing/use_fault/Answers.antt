@@ -1,9 +1,8 @@
 use Rattle.std.proofs.Common.{◌≡◌, Some, length, slice_get, refl}
 use Rattle.std.proofs.lemmas.Option.{slice_get_read}
-use Rattle.fp_base.proofs.Elements.{least_first_none}
+use Rattle.fp_base.proofs.Elements.{least_first_none, least_next, least_of_all}
 use Rattle.fp_component_rules.specs.Broken.{UseAt}
 use Rattle.fp_component_rules.proofs.Clashing.{within_one}
-use Rattle.fp_component_rules.proofs.Folding.{least_next, least_of_all}
 use Rattle.fp_component_rules.proofs.Waiting.{use_least}
 use Rattle.fp_component_rules.proofs.queueing.use_fault.Goals as goal
 

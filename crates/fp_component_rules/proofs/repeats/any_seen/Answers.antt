@@ -4,10 +4,10 @@ use Rattle.std.proofs.lemmas.List.{take_all}
 use Rattle.std.proofs.lemmas.Option.{slice_get_read}
 use denote.Ref.{Bor}
 use Rattle.fp_base.proofs.Lists.{take_next}
+use Rattle.fp_base.proofs.Passing.{any_pushed}
 use Rattle.fp_written_parts.specs.declared.port.WrittenPort.{WrittenPort}
 use Rattle.fp_component_rules.specs.Firsts.{has_port}
 use Rattle.fp_component_rules.proofs.Meeting.{joined_as}
-use Rattle.fp_component_rules.proofs.Passing.{any_pushed}
 use Rattle.fp_component_rules.proofs.repeats.any_seen.Goals as goal
 
 abbrev was_seen : List WrittenPort → Bor WrittenPort → Bool

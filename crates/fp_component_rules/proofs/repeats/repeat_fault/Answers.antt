@@ -1,10 +1,10 @@
 use Rattle.std.proofs.Common.{◌≡◌, ◌∙◌, ◌||◌, List, Some, length, slice_get, refl, ap}
 use Rattle.std.proofs.lemmas.Option.{slice_get_read}
+use Rattle.fp_base.proofs.Elements.{least_of_all}
 use Rattle.fp_written_parts.specs.declared.port.WrittenPort.{WrittenPort}
 use Rattle.fp_component_rules.specs.Firsts.{has_port}
 use Rattle.fp_component_rules.specs.Broken.{RepeatsAt}
 use Rattle.fp_component_rules.proofs.Clashing.{repeats_next, repeats_none, within_one}
-use Rattle.fp_component_rules.proofs.Folding.{least_of_all}
 use Rattle.fp_component_rules.proofs.repeats.repeat_fault.Goals as goal
 
 pub loop-member-init : goal.loop-member-init

@@ -1,17 +1,21 @@
 use Rattle.std.proofs.Common.{◌≡◌, ◌≤◌, ◌∙◌, ◌||◌, Bool, List, Some, length, map, slice_get, take, refl, sym, ap}
 use Rattle.std.proofs.lemmas.List.{take_all}
 use Rattle.std.proofs.lemmas.Option.{slice_get_read}
+use Rattle.std.proofs.Math.Bool.{or-false}
 use denote.Ref.{Bor}
+use Rattle.fp_base.proofs.Bools.{or_assoc}
+use Rattle.fp_base.proofs.Mapped.{mapped_next}
+use Rattle.fp_base.proofs.Passing.{any_pushed}
 use Rattle.fp_written_parts.specs.declared.port.WrittenPort.{WrittenPort}
 use Rattle.fp_component_rules.specs.Firsts.{has_port, is_named}
-use Rattle.fp_component_rules.proofs.Passing.{any_pushed, has_with, mapped_next, or_assoc, or_false}
+use Rattle.fp_component_rules.proofs.Passing.{has_with}
 use Rattle.fp_component_rules.proofs.repeats.with_ports.Goals as goal
 
 abbrev behind : Bor WrittenPort → WrittenPort
 behind port = port.now
 
 pub loop-port-init : goal.loop-port-init
-loop-port-init c name = sym (or_false (has_port name c.args.before))
+loop-port-init c name = sym (or-false (has_port name c.args.before))
 
 pub loop-port-preserved : goal.loop-port-preserved
 loop-port-preserved c name =

@@ -1,8 +1,8 @@
 use Rattle.std.proofs.Common.{◌∙◌, length}
+use Rattle.fp_base.proofs.Options.{on_ok_then}
 use Rattle.fp_components.specs.Resolved.{IsCommand, written}
 use Rattle.fp_components.proofs.Each.{each_push}
 use Rattle.fp_components.proofs.Known.{id_known}
-use Rattle.fp_components.proofs.Noted.{on_ok_then}
 use Rattle.fp_components.proofs.parts.note_command.Goals as goal
 
 pub returns : goal.returns

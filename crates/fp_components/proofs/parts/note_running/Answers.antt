@@ -1,6 +1,6 @@
+use Rattle.fp_base.proofs.Options.{on_ok_then}
 use Rattle.fp_components.specs.Resolved.{IsRunning}
 use Rattle.fp_components.proofs.Each.{each_push}
-use Rattle.fp_components.proofs.Noted.{on_ok_then}
 use Rattle.fp_components.proofs.parts.note_running.Goals as goal
 
 pub returns : goal.returns

@@ -4,9 +4,9 @@ use Rattle.fp_tree.specs.declared.expression.Expr.{Expr}
 use Rattle.fp_tree.specs.declared.expression.Assignment.{Assignment}
 use Rattle.fp_tree.specs.declared.expression.Form.TheVariants.{Number, Float, Text, Truth, Minus, Parentheses, Binary, Array, Struct}
 use Rattle.fp_meaning.specs.Values.{values_in}
-use Rattle.fp_consts.proofs.Walks.{number_uses, float_uses, text_uses, truth_uses}
-use Rattle.fp_consts.proofs.Arms.{member_at}
-use Rattle.fp_consts.proofs.Counted.{past_leaf, past_name, past_minus, past_parentheses, past_binary, past_array, past_struct, past_first, past_next, past_last, values_past}
+use Rattle.fp_meaning.proofs.Opened.{member_at, values_past}
+use Rattle.fp_meaning.proofs.UseWalks.{number_uses, float_uses, text_uses, truth_uses}
+use Rattle.fp_consts.proofs.Counted.{past_leaf, past_name, past_minus, past_parentheses, past_binary, past_array, past_struct, past_first, past_next, past_last}
 use Rattle.fp_consts.proofs.counting.+counting.Goals as goal
 
 pub past_expression-returns-in-Number : goal.past_expression-returns-in-Number

@@ -5,8 +5,8 @@ use Rattle.fp_tree.specs.declared.expression.Expr.{Expr}
 use Rattle.fp_tree.specs.declared.expression.Form.TheVariants.{Minus, Parentheses, Binary, Array, Struct}
 use Rattle.fp_tree.specs.declared.expression.Assignment.{Assignment}
 use Rattle.fp_meaning.specs.Values.{values_in}
-use Rattle.fp_consts.proofs.Arms.{number_arm, float_arm, text_arm, truth_arm, use_arm, minus_arm, parentheses_arm, binary_arm, list_made, struct_made, gathers_none, gathers_next, gathers_all, member_at}
-use Rattle.fp_consts.proofs.Counted.{values_past}
+use Rattle.fp_meaning.proofs.Opened.{member_at, values_past}
+use Rattle.fp_consts.proofs.Arms.{number_arm, float_arm, text_arm, truth_arm, use_arm, minus_arm, parentheses_arm, binary_arm, list_made, struct_made, gathers_none, gathers_next, gathers_all}
 use Rattle.fp_consts.proofs.examining.+examine.Goals as goal
 
 pub examine-returns-in-Number : goal.examine-returns-in-Number

@@ -1,8 +1,7 @@
 use Rattle.std.proofs.Common.{◌≡◌, ℕ, Some, length, slice_get, refl}
 use Rattle.std.proofs.lemmas.Option.{slice_get_read}
-use Rattle.fp_base.proofs.Elements.{least_first_none}
+use Rattle.fp_base.proofs.Elements.{least_first_none, least_next, least_of_all}
 use Rattle.fp_dictdefs.specs.Broken.{BrokenMember}
-use Rattle.fp_dictdefs.proofs.Folding.{least_next, least_of_all}
 use Rattle.fp_dictdefs.proofs.faults.members_fault.Goals as goal
 
 pub loop-member-init : goal.loop-member-init

@@ -3,9 +3,9 @@ use Rattle.std.proofs.lemmas.Option.{slice_get_read}
 use Rattle.fp_base.specs.Least.{broken_at}
 use Rattle.fp_base.specs.declared.rule.Rule.TheVariants.{RefParameter}
 use Rattle.fp_base.proofs.Calculus.{least_along, least_if}
-use Rattle.fp_base.proofs.Elements.{least_first_none}
-use Rattle.fp_dictdefs.proofs.Folding.{RefAt, least_next, least_of_all}
-use Rattle.fp_dictdefs.proofs.Noting.{not_both}
+use Rattle.fp_base.proofs.Elements.{least_first_none, least_next, least_of_all}
+use Rattle.fp_base.proofs.Bools.{not_both}
+use Rattle.fp_dictdefs.proofs.Folding.{RefAt}
 use Rattle.fp_dictdefs.proofs.formals.ref_formal.Goals as goal
 
 pub loop-formal-init : goal.loop-formal-init

@@ -2,8 +2,8 @@ use Rattle.std.proofs.Common.{◌≡◌, ◌||◌, Bool, ℕ, List, Some, None, 
 use Rattle.std.proofs.lemmas.Option.{slice_get_read}
 use Rattle.fp_base.specs.declared.rule.Rule.TheVariants.{NameRepeated}
 use Rattle.fp_base.specs.Least.{broken_at}
+use Rattle.fp_base.specs.NameSets.{has_name}
 use Rattle.fp_dictdefs.specs.declared.listed.Listed.{Listed}
-use Rattle.fp_dictdefs.specs.Tested.{has_name}
 use Rattle.fp_dictdefs.proofs.Naming.{names_none, names_next, names_all}
 use Rattle.fp_dictdefs.proofs.names.name_fault.Goals as goal
 

@@ -1,8 +1,9 @@
 use Rattle.std.proofs.Common.{rules, sym, subst, List, ℕ}
 use Rattle.std.specs.List.Sorted.{IsSorted}
 use Rattle.std.specs.Ordering.{is_lt}
+use Rattle.fp_base.proofs.Comparing.{compares}
 use Rattle.fp_dictionary.specs.Sorting.{AreByName, type_cmp}
-use Rattle.fp_dictionary.proofs.UsedOrdering.{compares, type_ranks}
+use Rattle.fp_dictionary.proofs.UsedOrdering.{type_ranks}
 use Rattle.fp_dictionary.proofs.sorting.by_name.Goals as goal
 
 pub returns : goal.returns

@@ -1,6 +1,6 @@
 use Rattle.fp_base.specs.declared.rule.Rule.TheVariants.{NumberOutOfRange}
 use Rattle.fp_base.specs.Least.{broken_at}
-use Rattle.fp_instances.proofs.Folding.{least_told}
+use Rattle.fp_base.proofs.Calculus.{least_told}
 use Rattle.fp_instances.specs.InstanceBroken.{IsBaseOutside}
 use Rattle.fp_instances.proofs.instance_numbers.base_fault.Goals as goal
 

@@ -1,7 +1,6 @@
 use Rattle.std.proofs.Common.{ℕ}
 use Rattle.std.proofs.lemmas.Option.{slice_get-get_or}
-use Rattle.fp_base.proofs.Elements.{least_first_none}
-use Rattle.fp_instances.proofs.Folding.{least_next, least_of_all}
+use Rattle.fp_base.proofs.Elements.{least_first_none, least_next, least_of_all}
 use Rattle.fp_instances.specs.InstanceBroken.{BrokenInstance}
 use Rattle.fp_instances.proofs.instances_broken.instance_faults.Goals as goal
 

@@ -1,7 +1,7 @@
 use Rattle.std.proofs.Common.{◌≡◌, ◌↔◌, true, sym, subst}
+use Rattle.fp_base.proofs.Options.{none_told}
 use Rattle.fp_tables.specs.declared.component.Queueing.{Queueing}
 use Rattle.fp_instances.specs.InstanceBroken.{IsQueueWrong}
-use Rattle.fp_instances.proofs.Folding.{none_told}
 use Rattle.fp_instances.proofs.instances_broken.is_queue_wrong.Goals as goal
 
 pub returns-in-Active : goal.returns-in-Active

@@ -1,8 +1,7 @@
 use Rattle.std.proofs.Common.{sym}
 use Rattle.fp_base.specs.declared.rule.Rule.TheVariants.{ForActiveAlone, QueueSize}
 use Rattle.fp_base.specs.Least.{broken_at}
-use Rattle.fp_base.proofs.Calculus.{least_along, least_either}
-use Rattle.fp_instances.proofs.Folding.{least_told}
+use Rattle.fp_base.proofs.Calculus.{least_along, least_either, least_told}
 use Rattle.fp_instances.specs.InstanceBroken.{HasWordsOfActive, IsQueueWrong}
 use Rattle.fp_instances.proofs.instances_broken.words_fault.Goals as goal
 

@@ -1,5 +1,5 @@
 use Rattle.std.proofs.lemmas.Option.{slice_get-get_or}
-use Rattle.fp_machine_rules.proofs.Deciding.{told_true, told_false}
+use Rattle.fp_base.proofs.Bools.{told_true, told_false}
 use Rattle.fp_machine_rules.proofs.Laid.{laid_not, laid_more, laid_ends}
 use Rattle.fp_machine_rules.proofs.laying.is_laid.Goals as goal
 

@@ -1,5 +1,5 @@
 use Rattle.std.proofs.Common.{arith}
-use Rattle.fp_machine_rules.proofs.Deciding.{told_false}
+use Rattle.fp_base.proofs.Bools.{told_false}
 use Rattle.fp_machine_rules.proofs.Depths.{nests_none, nests_more}
 use Rattle.fp_machine_rules.proofs.nesting.nests_too_deep.Goals as goal
 

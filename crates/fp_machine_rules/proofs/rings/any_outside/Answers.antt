@@ -1,6 +1,6 @@
 use Rattle.std.proofs.Common.{arith}
 use Rattle.std.proofs.lemmas.Option.{slice_get-get_or}
-use Rattle.fp_machine_rules.proofs.Deciding.{told_false}
+use Rattle.fp_base.proofs.Bools.{told_false}
 use Rattle.fp_machine_rules.proofs.Choices.{outside_more, outside_none}
 use Rattle.fp_machine_rules.proofs.rings.any_outside.Goals as goal
 

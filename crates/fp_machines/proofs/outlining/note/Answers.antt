@@ -1,9 +1,10 @@
 use Rattle.std.proofs.Common.{◌≡◌, ◌∙◌, ap, sym, List, ℕ, Option}
 use Rattle.std.specs.Prelude.{option_copied}
 use Rattle.std.specs.BTreeMap.{get_by_text}
+use Rattle.fp_base.proofs.Options.{on_ok_then}
 use Rattle.fp_machines.specs.Found.{or_first}
 use Rattle.fp_machines.specs.Outline.{is_text}
-use Rattle.fp_machines.proofs.Found.{left_free, on_ok_then}
+use Rattle.fp_machines.proofs.Found.{left_free}
 use Rattle.fp_machines.proofs.outlining.note.Goals as goal
 
 pub returns-in-None : goal.returns-in-None

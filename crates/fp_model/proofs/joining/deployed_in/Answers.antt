@@ -1,5 +1,5 @@
 use Rattle.std.proofs.Common.{List, inl, inr, subst, sym, ◌∙◌}
-use Rattle.fp_consts.specs.Answered.{IsStop}
+use Rattle.fp_base.specs.Least.{IsStop}
 use Rattle.fp_instances.specs.Resolved.{AreInstances}
 use Rattle.fp_tables.specs.declared.topology.Instance.{Instance}
 use Rattle.fp_topologies.specs.Resolved.{AreTopologies}

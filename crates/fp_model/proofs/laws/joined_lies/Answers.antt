@@ -1,7 +1,8 @@
+use Rattle.fp_base.proofs.Passing.{all_items}
 use Rattle.fp_model.proofs.Deploying.{deployed_one}
 use Rattle.fp_model.proofs.Judged.{constants_unbroken, definitions_once, types_unbroken, valued_with}
 use Rattle.fp_model.proofs.Lengths.{types_long}
-use Rattle.fp_model.proofs.Lying.{all_by_place, types_lie}
+use Rattle.fp_model.proofs.Lying.{types_lie}
 use Rattle.fp_model.proofs.Matching.{matched}
 use Rattle.fp_model.proofs.Sounds.{components_short}
 use Rattle.fp_model.proofs.Stopping.{machines_hold, running_hold}
@@ -29,7 +30,7 @@ returns-clause-positions c source values resolutions model resolved valued named
     hold.before.parts (running_hold source hold.before) joined.machines parts.2 (components_short model short))
     (c.machines_are_sound.ensures source values resolutions parts.0 model.types model.machines right_values named own ordered (machines_hold source hold.before) joined.machines)
     (c.instances_lie.ensures model one.written.instances one.instances one.lies.instances)
-    (all_by_place (topology_lies model) model.topologies
+    (all_items (topology_lies model) model.topologies
     (c.topologies_lie.ensures model model.ports one.written.topologies model.topologies one.closures (λ t o at. at_written model one.written one.instances one.lies t o at) one.topologies bare))
 
 pub returns-clause-sizes : goal.returns-clause-sizes

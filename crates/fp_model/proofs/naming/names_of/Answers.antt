@@ -1,7 +1,7 @@
 use Rattle.std.proofs.Common.{subst}
 use Rattle.fp_base.specs.declared.refusal.Stop.{Stop}
+use Rattle.fp_base.specs.Least.{IsStop}
 use Rattle.fp_meaning.specs.Broken.{BrokenByDefinitions}
-use Rattle.fp_names.specs.Answers.{IsStop}
 use Rattle.fp_model.proofs.Stopping.{twice_broken}
 use Rattle.fp_model.proofs.naming.names_of.Goals as goal
 

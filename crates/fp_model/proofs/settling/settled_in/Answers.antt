@@ -1,6 +1,6 @@
 use Rattle.std.proofs.Common.{List, Option, sym, subst}
 use Rattle.fp_base.specs.declared.value.Value.{Value}
-use Rattle.fp_consts.specs.Answered.{IsStop}
+use Rattle.fp_base.specs.Least.{IsStop}
 use Rattle.fp_meaning.specs.declared.item.Item.{Item}
 use Rattle.fp_meaning.specs.Layout.{items}
 use Rattle.fp_type_forms.specs.declared.resolving.Resolution.{Resolution}

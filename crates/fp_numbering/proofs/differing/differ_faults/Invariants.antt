@@ -1,7 +1,7 @@
 use Rattle.std.proofs.Common.{◌≡◌, ℕ, List, take}
 use Rattle.std.specs.BTreeMap.{get_by}
+use Rattle.fp_tables.specs.Found.{key_cmp}
 use Rattle.fp_base.specs.Least.{IsLeast, InFirst}
-use Rattle.fp_numbering.specs.Walks.{key_cmp}
 use Rattle.fp_numbering.specs.Broken.{AreDifferent}
 use Rattle.fp_numbering.specs.Origins.{AreLanes}
 use Rattle.fp_numbering.specs.Looks.{said_in, noted, AreLooks}

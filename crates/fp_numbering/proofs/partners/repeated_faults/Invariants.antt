@@ -1,9 +1,9 @@
 use Rattle.std.proofs.Common.{◌≡◌, ℕ, take}
 use Rattle.std.specs.List.{list_any}
 use Rattle.std.specs.BTreeSet.{contains_by}
+use Rattle.fp_tables.specs.Found.{key_cmp}
 use Rattle.fp_base.specs.Least.{IsLeast, InFirst}
 use Rattle.fp_numbering.specs.Ends.{matches_of}
-use Rattle.fp_numbering.specs.Walks.{key_cmp}
 use Rattle.fp_numbering.specs.Partners.{is_seen}
 use Rattle.fp_numbering.specs.Broken.{IsRepeated}
 use Rattle.fp_numbering.proofs.partners.repeated_faults.Given as goal

@@ -1,9 +1,9 @@
 use Rattle.std.proofs.Common.{rules, List, Some, ap, subst}
 use Rattle.fp_base.specs.declared.refusal.Stop.{Stop}
-use Rattle.fp_base.specs.Least.{lesser_of}
+use Rattle.fp_base.specs.Least.{lesser_of, IsStop}
 use Rattle.fp_base.specs.declared.refusal.Refusal.{Refusal}
 use Rattle.fp_tables.specs.declared.topology.Wire.{Wire}
-use Rattle.fp_numbering.specs.Answers.{IsStop, links_of}
+use Rattle.fp_numbering.specs.Answers.{links_of}
 use Rattle.fp_numbering.specs.Broken.{Breaks}
 use Rattle.fp_numbering.specs.Ends.{matches_of, tips_of}
 use Rattle.fp_numbering.specs.declared.wiring.WiresFound.{WiresFound}

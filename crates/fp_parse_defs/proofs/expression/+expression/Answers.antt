@@ -1,5 +1,6 @@
 use Rattle.std.proofs.Common.{rules, ◌≡◌, ◌<◌, ◌≤◌, ◌-◌, suc, arith, refl, sym, ap, subst, ◌∙◌, ◌∷◌, []}
 use Rattle.std.proofs.lemmas.Bool.{lt-ltb, le-ltb}
+use Rattle.fp_base.proofs.Numbers.{max_within}
 use Rattle.fp_grammar.specs.Grammar.Grammar.{alt}
 use Rattle.fp_grammar.proofs.Answering.{passing, handing, absent_now, refused_later, as_value, absent_map, absent_both}
 use Rattle.fp_grammar.proofs.Choices.{absent_beside, absent_unless}
@@ -16,7 +17,7 @@ use Rattle.fp_parse_defs.specs.Language
 use Rattle.fp_parse_defs.specs.Language.{with_item, with_member}
 use Rattle.fp_parse_pieces.proofs.WordsFit.{each_kind, building_as}
 use Rattle.fp_parse_defs.proofs.Levels.{factor_fits, term_fits, expr_fits, product_fits, sum_fits, negated_fits, group_fits, noted_expr_fits, items_fits, array_fits, setting_fits, noted_setting_fits, some_members_fits, structure_fits, inside_fits, nested_closed, nested_open, low_factor_accepts, low_factor_refuses, low_term_accepts, low_term_refuses}
-use Rattle.fp_parse_defs.proofs.Parts.{absent_seq, separator_accepts, separator_refuses, combined_low, both_low}
+use Rattle.fp_parse_defs.proofs.Parts.{absent_seq, separator_accepts, separator_refuses, combined_low}
 use Rattle.fp_parse_defs.proofs.expression.+expression.Goals as goal
 
 pub negated-returns-in_err-minus-clause-parses : goal.negated-returns-in_err-minus-clause-parses
@@ -237,7 +238,7 @@ items-separators-preserved t c =
     let r = turn_next (turn_next c.separators.invariant.0 (separator_accepts c.if-not-comma_at.ensures c.in_ok-more.ensures)) (map_accepts c.in-Ok.ensures.parses) in
     let e = (c.in_ok-items.ensures ∙ ap (λ l. with_item c.separators.items c.separators.item l) c.in_ok-lines.ensures) in (
       as_made (λ rest. ap (λ z. gathered with_item z (element c.in-Ok.next.0 c.in-Ok.next.1 ∷ rest)) (sym e)) r,
-      subst (λ z. z.height ≤ c.args.depth) (sym e) (both_low _ _ _ c.separators.invariant.1 c.separators.invariant.2),
+      subst (λ z. z.height ≤ c.args.depth) (sym e) (max_within _ _ _ c.separators.invariant.1 c.separators.invariant.2),
       c.in-Ok.ensures.within,
     )
 
@@ -272,7 +273,7 @@ some_members-separators-preserved t c =
     let r = turn_next (turn_next c.separators.invariant.0 (separator_accepts c.if-not-comma_at.ensures c.in_ok-more.ensures)) (map_accepts c.in-Ok.ensures.parses) in
     let e = (c.in_ok-members.ensures ∙ ap (λ l. with_member c.separators.members c.separators.current l) c.in_ok-lines.ensures) in (
       as_made (λ rest. ap (λ z. gathered with_member z (element c.in-Ok.next.0 c.in-Ok.next.1 ∷ rest)) (sym e)) r,
-      subst (λ z. z.height ≤ c.args.depth) (sym e) (both_low _ _ _ c.separators.invariant.1 c.separators.invariant.2),
+      subst (λ z. z.height ≤ c.args.depth) (sym e) (max_within _ _ _ c.separators.invariant.1 c.separators.invariant.2),
       c.in-Ok.ensures.within,
     )
 

@@ -1,10 +1,11 @@
 use Rattle.std.proofs.Common.{refl, ◌∷◌, []}
+use Rattle.fp_parse_defs.specs.Specifiers.{k_include}
 use Rattle.fp_grammar.specs.Grammar.Grammar.{alt}
 use Rattle.fp_grammar.proofs.Answering.{handing}
 use Rattle.fp_grammar.proofs.Choices.{absent_beside, absent_unless}
 use Rattle.fp_grammar.proofs.Steps.{alt_first_accepts, alt_first_refuses, alt_second_accepts, alt_second_refuses}
 use Rattle.fp_parse_parts.specs.Members as M
-use Rattle.fp_parse_parts.specs.Members.{k_include, k_locate}
+use Rattle.fp_parse_parts.specs.Members.{k_locate}
 use Rattle.fp_parse_parts.proofs.MembersFit.{include_fits, locate_fits, definition_or_model_good, other_member_good}
 use Rattle.fp_parse_parts.proofs.members.other_member.Goals as goal
 

@@ -1,6 +1,6 @@
 use Rattle.std.proofs.Common.{sym, ◌∙◌}
 use Rattle.fp_tables.specs.Lookup.{placed}
-use Rattle.fp_plant.proofs.Placing.{place_holds, has_place}
+use Rattle.fp_tables.proofs.Indexed.{has_place, place_holds}
 use Rattle.fp_plant.proofs.plant.place_of.Goals as goal
 
 pub returns : goal.returns

@@ -1,6 +1,6 @@
 use Rattle.std.proofs.Common.{ℤ, ◌%◌, FitsSigned, w32, length, get_or, pos, arith, rules}
 use Rattle.std.proofs.lemmas.Int.{to_z-of_z}
-use Rattle.fp_plant_tests.proofs.Known.{known_at}
+use Rattle.fp_queue.proofs.Known.{known_at}
 use Rattle.fp_plant_tests.proofs.queues.answer_alike.Goals as goal
 
 pub put-requires : goal.put-requires

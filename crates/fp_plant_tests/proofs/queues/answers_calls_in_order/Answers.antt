@@ -1,6 +1,7 @@
 use Rattle.std.proofs.Common.{pos, [], ◌∷◌, lit<, refl, ap, ◌∙◌}
 use Rattle.std.specs.Prelude.{negsuc}
-use Rattle.fp_plant_tests.proofs.Known.{known_at, known_all}
+use Rattle.fp_queue.proofs.Known.{known_at}
+use Rattle.fp_plant_tests.proofs.Known.{known_all}
 use Rattle.fp_plant_tests.proofs.queues.answers_calls_in_order.Goals as goal
 
 pub answer_all-requires : goal.answer_all-requires

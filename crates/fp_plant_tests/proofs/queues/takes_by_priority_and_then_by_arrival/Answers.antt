@@ -1,5 +1,5 @@
 use Rattle.std.proofs.Common.{pos, [], ◌∷◌, lit<, refl, ap, ◌∙◌}
-use Rattle.fp_plant_tests.proofs.Known.{known_at}
+use Rattle.fp_queue.proofs.Known.{known_at}
 use Rattle.fp_plant_tests.proofs.queues.takes_by_priority_and_then_by_arrival.Goals as goal
 
 pub put-requires-2 : goal.put-requires-2

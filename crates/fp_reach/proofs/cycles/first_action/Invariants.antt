@@ -1,6 +1,6 @@
 use Rattle.std.proofs.Common.{take}
+use Rattle.fp_graph.specs.Visits.{Among}
 use Rattle.fp_reach.specs.declared.vertex.Vertex.{Vertex}
-use Rattle.fp_reach.specs.Reaching.{Among}
 use Rattle.fp_reach.proofs.Firsts.{IsAction}
 use Rattle.fp_reach.proofs.cycles.first_action.Given as goal
 

@@ -2,8 +2,9 @@ use Rattle.std.proofs.Common.{◌≡◌, ◌<◌, true, false, length, Some, ref
 use Rattle.std.specs.List.{slice_get}
 use Rattle.std.specs.Prelude.{vec_len}
 use Rattle.std.proofs.lemmas.Option.{slice_get_read}
+use Rattle.fp_run_laws.proofs.Apart.{placed_apart}
 use Rattle.fp_tables.specs.Lookup.{placed}
-use Rattle.fp_running.proofs.Placing.{place_below, instances_differ}
+use Rattle.fp_running.proofs.Placing.{place_below}
 use Rattle.fp_running.proofs.OneTurn.{is_actor, is_cell, fitting, failed, comes, stands_on}
 use Rattle.fp_running.proofs.turning.ask_cell.Goals as goal
 
@@ -49,7 +50,7 @@ returns-clause-comes c = λ w h.
     comes c.args.tables.now c.args.program.now c.args.number c.args.instance c.args.ask.now c.args.actor.now c.meet.new.actor c.in-Some.cell.now c.meet.new.cell c.args.done.now c.meet.new.done
     c.args.cells.now.items c.place_of-place.result c.place_of-place.ensures
     (slice_get_read c.args.cells.now.items (length c.args.cells.now.items) c.place_of-place.result c.in-Some.cell.now refl there c.in-Some.ensures.value) c.requires.due w h
-    (c.steps.ensures.taking c.args.tables.now c.args.program.now) (instances_differ c.args.tables.now c.requires.sound) c.waiting.ensures c.meet.result c.meet.ensures.met
+    (c.steps.ensures.taking c.args.tables.now c.args.program.now) (placed_apart c.args.tables.now c.requires.sound) c.waiting.ensures c.meet.result c.meet.ensures.met
 
 pub returns-clause-stands : goal.returns-clause-stands
 returns-clause-stands c = λ w h.
@@ -58,7 +59,7 @@ returns-clause-stands c = λ w h.
     stands_on c.args.tables.now c.args.program.now c.args.number c.args.instance c.args.ask.now c.args.actor.now c.meet.new.actor c.in-Some.cell.now c.meet.new.cell c.args.done.now c.meet.new.done
     c.args.cells.now.items c.place_of-place.result c.place_of-place.ensures
     (slice_get_read c.args.cells.now.items (length c.args.cells.now.items) c.place_of-place.result c.in-Some.cell.now refl there c.in-Some.ensures.value) c.requires.due w h
-    (c.steps.ensures.taking c.args.tables.now c.args.program.now) (instances_differ c.args.tables.now c.requires.sound) c.meet.result c.meet.ensures.met c.meet.ensures.failed
+    (c.steps.ensures.taking c.args.tables.now c.args.program.now) (placed_apart c.args.tables.now c.requires.sound) c.meet.result c.meet.ensures.met c.meet.ensures.failed
 
 pub returns-clause-failed : goal.returns-clause-failed
 returns-clause-failed c = failed c.args.tables.now c.args.program.now c.args.number c.args.instance c.args.ask.now c.meet.result

@@ -1,6 +1,6 @@
 use Rattle.std.proofs.Common.{sym, ap, ◌∙◌, Some, None, drop, ◌+◌, arith}
 use Rattle.std.proofs.lemmas.Str.Pattern.{rfind_char}
-use Rattle.fp_scenario_actions.proofs.Called.{front_of}
+use Rattle.fp_base.proofs.Lists.{front_of}
 use Rattle.fp_scenario_actions.proofs.Dotted.{dotted, undotted, input_there, input_unplaced, input_undotted}
 use Rattle.fp_scenario_actions.proofs.calling.input_named.Goals as goal
 

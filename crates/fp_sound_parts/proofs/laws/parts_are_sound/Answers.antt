@@ -13,7 +13,6 @@ returns c source values resolutions ws types machines parts valued once definiti
       has_kind = c.converted_has_kind.ensures;
       is_of_size = c.converted_is_of_size.ensures;
       has_form = c.default_has_form.ensures.form;
-      has_size = c.default_has_form.ensures.size;
       one_default = c.one_default.ensures;
     })
     source values resolutions ws types machines parts valued once definitions named unbroken running built of short

@@ -1,9 +1,8 @@
 use Rattle.std.proofs.Common.{sym}
 use Rattle.fp_base.specs.declared.rule.Rule.TheVariants.{TypesDiffer}
 use Rattle.fp_base.specs.Least.{broken_at}
-use Rattle.fp_base.proofs.Calculus.{least_along, least_either}
+use Rattle.fp_base.proofs.Calculus.{least_along, least_either, least_told}
 use Rattle.fp_topologies.specs.ConnectionBroken.{Differ}
-use Rattle.fp_topologies.proofs.ConnectionFolding.{least_told}
 use Rattle.fp_topologies.proofs.connections_broken.connection_fault.Goals as goal
 
 pub returns : goal.returns

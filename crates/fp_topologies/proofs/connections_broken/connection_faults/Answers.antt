@@ -1,8 +1,7 @@
 use Rattle.std.proofs.Common.{ℕ}
 use Rattle.std.proofs.lemmas.Option.{slice_get-get_or}
-use Rattle.fp_base.proofs.Elements.{least_first_none}
+use Rattle.fp_base.proofs.Elements.{least_first_none, least_next, least_of_all}
 use Rattle.fp_topologies.specs.ConnectionBroken.{BrokenConnection}
-use Rattle.fp_topologies.proofs.ConnectionFolding.{least_next, least_of_all}
 use Rattle.fp_topologies.proofs.connections_broken.connection_faults.Goals as goal
 
 pub loop-connection-init : goal.loop-connection-init

@@ -1,10 +1,10 @@
 use Rattle.std.proofs.Common.{◌≡◌, None, sym}
 use Rattle.fp_base.specs.declared.rule.Rule.TheVariants.{BadDirection, PortMissing}
 use Rattle.fp_base.specs.Least.{broken_at}
-use Rattle.fp_base.proofs.Calculus.{least_along, least_either}
+use Rattle.fp_base.proofs.Calculus.{least_along, least_either, least_told}
+use Rattle.fp_base.proofs.Options.{none_told}
 use Rattle.fp_tables.specs.Lookup.{is_input}
 use Rattle.fp_topologies.specs.ConnectionBroken.{IsOther}
-use Rattle.fp_topologies.proofs.ConnectionFolding.{least_told, none_told}
 use Rattle.fp_topologies.proofs.connections_broken.to_fault.Goals as goal
 
 pub returns : goal.returns

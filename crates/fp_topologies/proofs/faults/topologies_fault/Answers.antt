@@ -1,7 +1,7 @@
 use Rattle.std.proofs.Common.{arith, length, refl}
 use Rattle.std.proofs.lemmas.Option.{slice_get_read}
+use Rattle.fp_base.proofs.Elements.{least_next, least_of_all}
 use Rattle.fp_topologies.specs.Broken.{TopologyBroken}
-use Rattle.fp_topologies.proofs.Folding.{least_next, least_of_all}
 use Rattle.fp_topologies.proofs.faults.topologies_fault.Goals as goal
 
 pub loop-at-preserved : goal.loop-at-preserved

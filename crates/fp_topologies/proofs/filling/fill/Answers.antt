@@ -1,17 +1,15 @@
-use Rattle.std.proofs.Common.{◌≡◌, ◌∙◌, ◌||◌, ℕ, ◌+◌, Bool, cond, List, Option, Some, None, length, flat_map, set, slice_get, sym, subst, ap, arith}
+use Rattle.std.proofs.Common.{◌∙◌, ◌||◌, ℕ, ◌+◌, Bool, cond, List, Option, Some, None, length, flat_map, set, sym, subst, ap, arith}
 use Rattle.fp_base.proofs.Spots.{item_below}
+use Rattle.fp_base.proofs.Lists.{get_along}
 use Rattle.fp_written_topologies.specs.declared.topology.ImportedTopology.{ImportedTopology}
 use Rattle.fp_topologies.specs.Filled.{AreFilled, imported_of, some_lacks_closure}
 use Rattle.fp_topologies.specs.Imports.{first_of_each, with_imports}
 use Rattle.fp_topologies.proofs.Orders.{filled_next}
 use Rattle.fp_topologies.proofs.filling.fill.Goals as goal
 
-at_in : {A : Type 0} {xs ys : List A} (k : ℕ) (x : A) → xs ≡ ys → slice_get xs k ≡ Some x → slice_get ys k ≡ Some x
-at_in {A = A} k x e h = subst (λ (l : List A). slice_get l k ≡ Some x) e h
-
 pub is_flagged-cyclic-requires : goal.is_flagged-cyclic-requires
 is_flagged-cyclic-requires c =
-    let here = at_in c.args.at c.vertex_at-vertex.result c.deref.ensures.value c.vertex_at-vertex.ensures in
+    let here = get_along c.args.at c.vertex_at-vertex.result c.deref.ensures.value c.vertex_at-vertex.ensures in
     let lt = c.requires.order.within c.args.at c.vertex_at-vertex.result here in
     let each = c.requires.cyclic.each in
     let same = ap (λ (l : List Bool). length l) c.deref-2.ensures.value in
@@ -19,12 +17,12 @@ is_flagged-cyclic-requires c =
 
 pub imports_at-imports-requires : goal.imports_at-imports-requires
 imports_at-imports-requires c =
-    let here = at_in c.args.at c.vertex_at-vertex.result c.deref.ensures.value c.vertex_at-vertex.ensures in
+    let here = get_along c.args.at c.vertex_at-vertex.result c.deref.ensures.value c.vertex_at-vertex.ensures in
     c.requires.order.within c.args.at c.vertex_at-vertex.result here
 
 pub note-requires : goal.note-requires
 note-requires c =
-    let here = at_in c.args.at c.vertex_at-vertex.result c.deref.ensures.value c.vertex_at-vertex.ensures in
+    let here = get_along c.args.at c.vertex_at-vertex.result c.deref.ensures.value c.vertex_at-vertex.ensures in
     let lt = c.requires.order.within c.args.at c.vertex_at-vertex.result here in
     let each = c.requires.before.each in
     omega arith
@@ -40,8 +38,8 @@ returns c =
     let closures = c.args.closures.now.items in
     let v = c.vertex_at-vertex.result in
     let flag = c.is_flagged-cyclic.result in
-    let here = at_in c.args.at v c.deref.ensures.value c.vertex_at-vertex.ensures in
-    let told = at_in v flag c.deref-2.ensures.value c.is_flagged-cyclic.ensures in
+    let here = get_along c.args.at v c.deref.ensures.value c.vertex_at-vertex.ensures in
+    let told = get_along v flag c.deref-2.ensures.value c.is_flagged-cyclic.ensures in
     let t = item_below ts v (c.requires.order.within c.args.at v here) in
     let found_is =
     c.in_ok-closure.ensures ∙ ap (λ (gs : List (Option (List ℕ))). found_by gs flag c.imports_at-imports.result.now) c.as_slice.ensures.value

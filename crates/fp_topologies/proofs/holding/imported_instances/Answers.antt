@@ -1,9 +1,9 @@
 use Rattle.std.proofs.Common.{◌+◌, List, ℕ, flat_map, take, sym, subst}
 use Rattle.std.proofs.lemmas.List.{take_all}
 use Rattle.std.proofs.lemmas.Option.{slice_get-get_or}
+use Rattle.fp_base.proofs.Mapped.{flat_next}
 use Rattle.fp_topologies.specs.ImportFirsts.{AreFirsts}
 use Rattle.fp_topologies.specs.Held.{public_at}
-use Rattle.fp_topologies.proofs.Lists.{flat_next}
 use Rattle.fp_topologies.proofs.ImportNoting.{along}
 use Rattle.fp_topologies.proofs.holding.imported_instances.Goals as goal
 

@@ -1,10 +1,10 @@
 use Rattle.std.proofs.Common.{◌+◌, ◌++◌, List, take, subst}
 use Rattle.std.proofs.lemmas.List.{take_all}
 use Rattle.std.proofs.lemmas.Option.{slice_get-get_or}
+use Rattle.fp_base.proofs.Mapped.{mapped_next}
 use Rattle.fp_written_topologies.specs.declared.topology.MemberInstance.{MemberInstance}
 use Rattle.fp_topologies.specs.ImportFirsts.{AreFirsts}
 use Rattle.fp_topologies.specs.Held.{instances_of}
-use Rattle.fp_topologies.proofs.Lists.{mapped_next}
 use Rattle.fp_topologies.proofs.ImportNoting.{none_more, some_more}
 use Rattle.fp_topologies.proofs.holding.with_own.Goals as goal
 

@@ -1,11 +1,11 @@
 use Rattle.std.proofs.Common.{◌∙◌, List, ℕ, length, map, subst}
 use Rattle.fp_base.proofs.Options.{if_ok_then}
+use Rattle.fp_base.proofs.Mapped.{many_mapped}
 use Rattle.fp_graph.specs.Chains.{AreFlags, IsOnCycle, IsOrder}
 use Rattle.fp_graph.specs.Rows.{IsListed}
 use Rattle.fp_graph.proofs.Alike.{cyclic_alike, order_alike}
 use Rattle.fp_topologies.specs.Imports.{imported_by, Imports}
 use Rattle.fp_topologies.proofs.Graph.{same_imports}
-use Rattle.fp_topologies.proofs.Lists.{many_mapped}
 use Rattle.fp_topologies.proofs.import_sorting.sorted_topologies.Goals as goal
 
 pub returns-clause-order : goal.returns-clause-order

@@ -1,36 +1,31 @@
-use Rattle.std.proofs.Common.{◌≡◌, ◌∙◌, ℕ, ◌+◌, List, Option, Some, None, length, set, slice_get, refl, sym, subst, ap, arith}
+use Rattle.std.proofs.Common.{◌≡◌, ◌∙◌, ℕ, ◌+◌, List, Option, Some, None, length, set, slice_get, sym, subst, ap, arith}
 use Rattle.std.specs.Prelude.{option_and_then}
 use Rattle.std.specs.Option.{option_copied}
 use denote.Ref.{Bor}
+use Rattle.fp_base.proofs.Lists.{get_along}
+use Rattle.fp_base.proofs.Options.{none_unless}
 use Rattle.fp_topologies.specs.declared.joining.Joined.{Joined}
 use Rattle.fp_topologies.specs.Joined.{AreJoinedTo, IsJoined}
 use Rattle.fp_topologies.proofs.FillingSteps.{joined_next, joined_passed}
 use Rattle.fp_topologies.proofs.joining.join_next.Goals as goal
 
-at_in : {A : Type 0} {xs ys : List A} (k : ℕ) (x : A) → xs ≡ ys → slice_get xs k ≡ Some x → slice_get ys k ≡ Some x
-at_in {A = A} k x e h = subst (λ (l : List A). slice_get l k ≡ Some x) e h
-
 pub written_at-topology_written-requires : goal.written_at-topology_written-requires
 written_at-topology_written-requires c =
-    let here = at_in c.args.at c.vertex_at-topology.result c.deref.ensures.value c.vertex_at-topology.ensures in
+    let here = get_along c.args.at c.vertex_at-topology.result c.deref.ensures.value c.vertex_at-topology.ensures in
     c.requires.order.within c.args.at c.vertex_at-topology.result here
 
 pub put-requires : goal.put-requires
 put-requires c =
-    let here = at_in c.args.at c.vertex_at-topology.result c.deref.ensures.value c.vertex_at-topology.ensures in
+    let here = get_along c.args.at c.vertex_at-topology.result c.deref.ensures.value c.vertex_at-topology.ensures in
     let lt = c.requires.order.within c.args.at c.vertex_at-topology.result here in
     let each = c.requires.before.each in
     omega arith
 
-no_some : {A : Type 0} (o : Option A) → ((x : A) → o ≡ Some x → ⊥) → o ≡ None
-no_some None h = refl
-no_some (Some x) h = absurd (h x refl)
-
 pub returns-in_default : goal.returns-in_default
 returns-in_default c =
     let v = c.vertex_at-topology.result in
-    let here = at_in c.args.at v c.deref.ensures.value c.vertex_at-topology.ensures in
-    let found : c.closure_at.result ≡ None = no_some c.closure_at.result c.in_default.not-Some in
+    let here = get_along c.args.at v c.deref.ensures.value c.vertex_at-topology.ensures in
+    let found : c.closure_at.result ≡ None = none_unless c.closure_at.result c.in_default.not-Some in
     let none : option_and_then (λ (d : Option (List ℕ)). d) (slice_get c.args.imported.now.closures.items v) ≡ None =
     sym (ap (λ (ds : List (Option (List ℕ))). option_and_then (λ (d : Option (List ℕ)). d) (slice_get ds v)) c.as_slice.ensures.value) ∙ sym c.closure_at.ensures
     ∙ ap (λ (o : Option (Bor (List ℕ))). option_copied o) found in
@@ -50,7 +45,7 @@ returns c =
     let o = c.written_at-topology_written.result.now in
     let one = c.in_ok-one.one in
     let closure = c.in-Some.closure.now in
-    let here = at_in c.args.at v c.deref.ensures.value c.vertex_at-topology.ensures in
+    let here = get_along c.args.at v c.deref.ensures.value c.vertex_at-topology.ensures in
     let some : option_and_then (λ (d : Option (List ℕ)). d) (slice_get closures v) ≡ Some closure =
     sym (ap (λ (xs : List (Option (List ℕ))). option_and_then (λ (d : Option (List ℕ)). d) (slice_get xs v)) c.as_slice.ensures.value) ∙ sym c.in-Some.ensures in
     let over : IsJoined ts ds cs is js c.as_slice-3.result.now o one = subst (λ (xs : List Joined). IsJoined ts ds cs is xs c.as_slice-3.result.now o one) c.as_slice-2.ensures.value c.in_ok-one.ensures in

@@ -2,9 +2,8 @@ use Rattle.std.proofs.Common.{ℕ}
 use Rattle.std.specs.Ordering.{nat_cmp}
 use Rattle.std.specs.BTreeSet.{contains}
 use Rattle.std.proofs.lemmas.Option.{slice_get-get_or}
-use Rattle.fp_base.proofs.Elements.{least_first_none}
+use Rattle.fp_base.proofs.Elements.{least_first_none, least_of_all}
 use Rattle.fp_topologies.specs.MemberBroken.{LackingAt}
-use Rattle.fp_topologies.proofs.MemberFolding.{least_of_all}
 use Rattle.fp_topologies.proofs.MembersNoted.{lacking_next}
 use Rattle.fp_topologies.proofs.members_broken.lacking_fault.Goals as goal
 

@@ -1,8 +1,7 @@
 use Rattle.std.proofs.Common.{length, refl}
 use Rattle.std.proofs.lemmas.Option.{slice_get_read}
-use Rattle.fp_base.proofs.Elements.{least_first_none}
+use Rattle.fp_base.proofs.Elements.{least_first_none, least_next, least_of_all}
 use Rattle.fp_topologies.specs.Broken.{PatternBroken}
-use Rattle.fp_topologies.proofs.Folding.{least_next, least_of_all}
 use Rattle.fp_topologies.proofs.rule_patterns.patterns_fault.Goals as goal
 
 pub loop-pattern-init : goal.loop-pattern-init

@@ -1,7 +1,7 @@
 use Rattle.std.proofs.lemmas.Option.{slice_get-get_or}
-use Rattle.fp_base.proofs.Elements.{least_first_none}
+use Rattle.fp_base.proofs.Elements.{least_first_none, least_next, least_of_all}
 use Rattle.fp_topologies.specs.Broken.{TargetBroken}
-use Rattle.fp_topologies.proofs.Folding.{least_next, least_of_all, least_where_false}
+use Rattle.fp_topologies.proofs.Folding.{least_where_false}
 use Rattle.fp_topologies.proofs.rule_patterns.targets_fault.Goals as goal
 
 pub loop-target-init : goal.loop-target-init

@@ -1,9 +1,10 @@
 use Rattle.std.proofs.Common.{◌≡◌, ◌∙◌, ap, rules, sym, subst, List}
 use Rattle.std.specs.List.Sorted.{IsPermutation, IsSorted, IsStable}
 use Rattle.std.specs.Ordering.{is_lt}
+use Rattle.fp_base.proofs.Comparing.{compares}
 use Rattle.fp_tables.specs.declared.topology.Link.{Link}
 use Rattle.fp_topologies.specs.Ordered.{AreInOrder, link_cmp}
-use Rattle.fp_topologies.proofs.Ordering.{compares, link_ranks}
+use Rattle.fp_topologies.proofs.Ordering.{link_ranks}
 use Rattle.fp_topologies.proofs.sorting.in_order.Goals as goal
 
 pub returns : goal.returns

@@ -1,9 +1,10 @@
 use Rattle.std.proofs.Common.{◌≡◌, length, slice_get, Some, refl}
 use Rattle.std.proofs.lemmas.Option.{slice_get_read}
+use Rattle.fp_component_forms.proofs.Lists.{EachIs}
 use Rattle.fp_meaning.specs.Layout.{target_items}
 use Rattle.fp_type_forms.proofs.Taking.{taken_as}
 use Rattle.fp_topology_forms.specs.Written.{TargetIs}
-use Rattle.fp_topology_forms.proofs.Growing.{EachIs, all_grown, next_grown, none_each, none_grown, one_more}
+use Rattle.fp_topology_forms.proofs.Growing.{all_grown, next_grown, none_each, none_grown, one_more}
 use Rattle.fp_topology_forms.proofs.patterns.listed_taken.Goals as goal
 
 pub loop-target-init : goal.loop-target-init

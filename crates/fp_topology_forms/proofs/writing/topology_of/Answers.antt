@@ -1,9 +1,9 @@
 use Rattle.std.proofs.Common.{sym, ap, subst}
+use Rattle.std.specs.Option.{option_to_list}
 use Rattle.fp_base.proofs.Options.{if_ok_then}
 use Rattle.fp_meaning.specs.declared.item.Item.{Item}
 use Rattle.fp_type_forms.specs.Resolved.{AreResolved, parts_of_item}
 use Rattle.fp_type_forms.specs.Written.{AllAt}
-use Rattle.fp_component_forms.specs.Taken.{row_of}
 use Rattle.fp_topology_forms.specs.Written.{TopologyIs, topology_of}
 use Rattle.fp_topology_forms.proofs.Items.{given_nothing}
 use Rattle.fp_topology_forms.proofs.writing.topology_of.Goals as goal
@@ -24,6 +24,6 @@ pub returns-in-Declared : goal.returns-in-Declared
 returns-in-Declared c =
     if_ok_then c.topology_among.result _ _
     (λ one g source ready h.
-    subst (λ (i : Item). AreResolved source c.args.marks.now c.args.resolutions.now (parts_of_item i) c.args.start → AllAt (λ position. TopologyIs source) 0 (topology_of i) (row_of one)) (sym c.in-Declared.is)
+    subst (λ (i : Item). AreResolved source c.args.marks.now c.args.resolutions.now (parts_of_item i) c.args.start → AllAt (λ position. TopologyIs source) 0 (topology_of i) (option_to_list one)) (sym c.in-Declared.is)
     (λ all. g source ready all) h)
     c.topology_among.ensures

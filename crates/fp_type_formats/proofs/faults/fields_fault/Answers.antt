@@ -1,9 +1,8 @@
 use Rattle.std.proofs.Common.{◌≡◌, ℕ, Some, length, slice_get, refl, sym}
 use Rattle.std.proofs.lemmas.Option.{slice_get_read}
 use Rattle.fp_base.proofs.Calculus.{least_along}
-use Rattle.fp_base.proofs.Elements.{least_first_none, least_first_next, least_in_one}
+use Rattle.fp_base.proofs.Elements.{least_first_none, least_first_next, least_in_one, least_of_all}
 use Rattle.fp_type_formats.specs.Broken.{BrokenByMember}
-use Rattle.fp_type_formats.proofs.Judged.{least_of_all}
 use Rattle.fp_type_formats.proofs.faults.fields_fault.Goals as goal
 
 pub loop-field-init : goal.loop-field-init

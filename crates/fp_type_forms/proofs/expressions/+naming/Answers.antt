@@ -1,14 +1,13 @@
 use Rattle.std.proofs.Common.{◌≡◌, ℕ, List, Some, length, slice_get, refl, sym, ap, ◌∙◌, subst}
 use Rattle.std.proofs.lemmas.Option.{slice_get_read}
 use Rattle.fp_base.proofs.Calculus.{least_along}
-use Rattle.fp_base.proofs.Elements.{least_first_none, least_first_next, least_in_one}
+use Rattle.fp_base.proofs.Elements.{least_first_none, least_first_next, least_in_one, least_of_all}
 use Rattle.fp_base.proofs.Options.{if_ok_then}
 use Rattle.fp_base.specs.Least.{InSome, IsLeast}
 use Rattle.fp_tree.specs.declared.expression.Expr.{Expr}
 use Rattle.fp_tree.specs.declared.expression.Form.TheVariants.{Minus, Parentheses, Binary, Array, Struct}
 use Rattle.fp_tree.specs.declared.expression.Assignment.{Assignment}
 use Rattle.fp_type_forms.specs.Broken.{RepeatsIn}
-use Rattle.fp_type_forms.proofs.Breaking.{least_of_all}
 use Rattle.fp_type_forms.proofs.Parted.{number_arm, float_arm, text_arm, truth_arm, use_arm, minus_arm, parentheses_arm, binary_arm, array_arm, struct_arm}
 use Rattle.fp_type_forms.proofs.expressions.+naming.Goals as goal
 

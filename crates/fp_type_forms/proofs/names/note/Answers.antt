@@ -1,6 +1,7 @@
 use Rattle.std.proofs.Common.{Bool, List, ℕ, ◌||◌, ap, ◌∙◌, bytes_eq}
 use Rattle.fp_base.specs.declared.place.Place.{Place}
-use Rattle.fp_type_forms.specs.Tested.{has_name, name_fault}
+use Rattle.fp_base.specs.NameSets.{has_name}
+use Rattle.fp_type_forms.specs.Tested.{name_fault}
 use Rattle.fp_type_forms.proofs.names.note.Goals as goal
 
 pub returns-clause-again : goal.returns-clause-again

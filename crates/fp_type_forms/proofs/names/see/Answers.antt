@@ -1,4 +1,4 @@
-use Rattle.fp_type_forms.proofs.Noting.{name_added}
+use Rattle.fp_base.proofs.KeySets.{name_added}
 use Rattle.fp_type_forms.proofs.names.see.Goals as goal
 
 pub returns-clause-seen : goal.returns-clause-seen

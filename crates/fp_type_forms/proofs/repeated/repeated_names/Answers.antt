@@ -1,9 +1,8 @@
 use Rattle.std.proofs.Common.{◌≡◌, ℕ, Some, length, slice_get, refl, sym}
 use Rattle.std.proofs.lemmas.Option.{slice_get_read}
 use Rattle.fp_base.proofs.Calculus.{least_along}
-use Rattle.fp_base.proofs.Elements.{least_first_none, least_first_next, least_in_one}
+use Rattle.fp_base.proofs.Elements.{least_first_none, least_first_next, least_in_one, least_of_all}
 use Rattle.fp_type_forms.specs.Tested.{NamesByItem}
-use Rattle.fp_type_forms.proofs.Breaking.{least_of_all}
 use Rattle.fp_type_forms.proofs.repeated.repeated_names.Goals as goal
 
 pub loop-item-init : goal.loop-item-init

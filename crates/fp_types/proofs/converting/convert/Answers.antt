@@ -1,5 +1,5 @@
 use Rattle.std.proofs.Common.{◌≡◌, None, Some, sym, ◌∙◌}
-use Rattle.fp_type_sizes.proofs.Places.{no_some}
+use Rattle.fp_base.proofs.Options.{no_some}
 use Rattle.fp_types.proofs.Passed.{are_sound, converts_if}
 use Rattle.fp_types.proofs.Causes.{nothing_for, no_memory}
 use Rattle.fp_types.proofs.converting.convert.Goals as goal

@@ -1,10 +1,11 @@
 use Rattle.std.proofs.Common.{◌≡◌, ◌<◌, List, [], ◌∷◌, ◌++◌, length, take, sym, ap, ◌∙◌, subst}
 use Rattle.std.proofs.Math.Seq.{take-append_seam}
 use Rattle.std.proofs.lemmas.Option.{slice_get_within}
+use Rattle.fp_base.proofs.Lists.{no_items}
 use Rattle.fp_actor.specs.declared.level.Base.{Base}
 use Rattle.fp_actor.specs.declared.level.Level.{Level}
 use Rattle.fp_actor.specs.Placed.{AreKept, IsBeginning}
-use Rattle.fp_actor.proofs.Bound.{some_of, nothing_in, returning_follows, returning_nowhere}
+use Rattle.fp_actor.proofs.Bound.{some_of, returning_follows, returning_nowhere}
 use Rattle.fp_actor.proofs.Keeping.{bindable, call_before, kept_taken, kept_bound}
 use Rattle.fp_actor.proofs.view.View.close_and_bind.Goals as goal
 
@@ -22,7 +23,7 @@ returns-in_default c = λ entry there o.
     (record {
       follow =
           λ x h. returning_nowhere v.tables.now v.program.now v.number v.trace.now bs c.args.call c.args.at ls c.args.bottom r.bottom r.base _ (some_of _ [] r.named) entry there x o h
-          (nothing_in _ none);
+          (no_items _ none);
       kept = kept_taken v.tables.now v.program.now v.number v.trace.now bs ls r.kept c.args.bottom.below;
     })
 

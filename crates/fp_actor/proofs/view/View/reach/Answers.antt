@@ -1,6 +1,7 @@
 use Rattle.std.proofs.Common.{◌<◌, ◌+◌, ◌-◌, length, sym, ◌∙◌, arith}
+use Rattle.fp_base.proofs.Options.{none_unless}
 use Rattle.fp_actor.specs.Stacked.{lists_in, actions_of, action_of}
-use Rattle.fp_actor.proofs.Reaching.{at_none, within, here, onward_one, not_some, mapped_none}
+use Rattle.fp_actor.proofs.Reaching.{at_none, within, here, onward_one, mapped_none}
 use Rattle.fp_actor.proofs.view.View.reach.Goals as goal
 
 pub returns-in-Some-get-clause-value : goal.returns-in-Some-get-clause-value
@@ -22,7 +23,7 @@ pub loop-list-preserved : goal.loop-list-preserved
 loop-list-preserved c =
     let v = c.args.self.now in
     let lists = lists_in v.tables.now v.program.now v.number v.trace.now c.args.next.source in
-    let none = not_some c.get.result c.in_default-get.not-Some in
+    let none = none_unless c.get.result c.in_default-get.not-Some in
     let end = mapped_none (action_of v.tables.now v.program.now v.number v.trace.now) c.get.result _ (c.get.ensures.value v.tables.now v.program.now v.number v.trace.now) none in
     sym (onward_one lists c.loop-list.list c.loop-list.action _ c.in-Some.ensures.value end) ∙ c.loop-list.invariant
 
@@ -30,6 +31,6 @@ pub returns-clause-value : goal.returns-clause-value
 returns-clause-value c =
     let v = c.args.self.now in
     let lists = lists_in v.tables.now v.program.now v.number v.trace.now c.args.next.source in
-    let none = not_some c.list.result c.in_default.not-Some in
+    let none = none_unless c.list.result c.in_default.not-Some in
     let end = mapped_none (actions_of v.tables.now v.program.now v.number v.trace.now) c.list.result _ c.list.ensures.value none in
     sym (at_none lists c.loop-list.list c.loop-list.list c.loop-list.action (sym end)) ∙ c.loop-list.invariant

@@ -1,6 +1,6 @@
 use Rattle.std.proofs.Common.{◌∙◌, ℕ, List, ap}
+use Rattle.fp_base.specs.NameSets.{has_name}
 use Rattle.fp_component_rules.specs.Firsts.{has_port}
-use Rattle.fp_component_rules.specs.Noted.{has_name}
 use Rattle.fp_component_rules.proofs.firsts.FirstPorts.has_name_of.Goals as goal
 
 pub returns : goal.returns

@@ -1,8 +1,8 @@
 use Rattle.std.proofs.Common.{◌∙◌, List, map, sym, ap}
 use denote.Ref.{Bor}
+use Rattle.fp_base.proofs.KeySets.{no_name}
 use Rattle.fp_written_parts.specs.declared.port.WrittenPort.{WrittenPort}
 use Rattle.fp_component_rules.specs.Firsts.{has_port}
-use Rattle.fp_component_rules.proofs.Adding.{no_name}
 use Rattle.fp_component_rules.proofs.firsts.FirstPorts.new.Goals as goal
 
 pub invariant_of-result : goal.invariant_of-result

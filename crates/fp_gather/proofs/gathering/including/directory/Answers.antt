@@ -1,7 +1,8 @@
 use Rattle.std.proofs.Common.{◌∙◌, arith}
 use Rattle.std.proofs.lemmas.Str.Pattern.{rfind_char}
 use Rattle.std.specs.Prelude.{None, Some}
-use Rattle.fp_gather.proofs.Directories.{no_directory, directory_before, front_of}
+use Rattle.fp_base.proofs.Lists.{front_of}
+use Rattle.fp_gather.proofs.Directories.{no_directory, directory_before}
 use Rattle.fp_gather.proofs.gathering.including.directory.Goals as goal
 
 pub returns-in-None : goal.returns-in-None

@@ -1,8 +1,9 @@
 use Rattle.std.proofs.Common.{ℕ, ◌+◌, ◌-◌, List, ◌∷◌, take, drop, refl, inl, ap, ◌∙◌, arith}
 use Rattle.std.proofs.lemmas.Bool.{MatchBool-at_true, MatchBool-at_false}
+use Rattle.fp_base.proofs.Lists.{taken_next}
 use Rattle.fp_gather.specs.FilesRun.{files_run}
 use Rattle.fp_gather.specs.gathering.Walks.{WalksEach, Reads, WalksFile, WalksInclude}
-use Rattle.fp_gather.proofs.WalkSteps.{comes_as, each_begins, each_ends, each_goes_on, each_stops_on, file_goes, file_stops_later, handed_on, include_at_end, include_bad, include_read, memory_refused, refused_comes, split_there, stops_first, taken_next}
+use Rattle.fp_gather.proofs.WalkSteps.{comes_as, each_begins, each_ends, each_goes_on, each_stops_on, file_goes, file_stops_later, handed_on, include_at_end, include_bad, include_read, memory_refused, refused_comes, split_there, stops_first}
 use Rattle.fp_gather.proofs.gathering.walking.+walk.Goals as goal
 
 pub walk_file-returns-in_err-own-clause-told : goal.walk_file-returns-in_err-own-clause-told

@@ -30,7 +30,7 @@ use denote.Triple.Spec.{Meets, triple_of}
 use denote.Triple.Table.{entered}
 use denote.Triple.Walked.{says, Stays, stay_dropped, walk_of, ends_at, walk_Meets, Goes-dropped}
 use Rattle.std.specs.contracts.marker.PhantomData as Mark
-use Rattle.fp_running.proofs.Walks.{none, one, one_made}
+use Rattle.fp_queue.proofs.Walks.{none, one, one_made}
 use Rattle.std.specs.contracts.snapshot.Snapshot as Snapshot
 use Rattle.fp_running.specs.contracts.listed.Listed as Listed
 use Rattle.fp_running.specs.contracts.listed.Listed.and as F

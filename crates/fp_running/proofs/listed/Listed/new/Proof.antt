@@ -28,7 +28,7 @@ use denote.Triple.Spec.{Meets, triple_of}
 use denote.Triple.Table.{entered}
 use denote.Triple.Walked.{says, Stays, walk_of, ends_at, walk_Meets}
 use Rattle.std.specs.contracts.marker.PhantomData as Mark
-use Rattle.fp_running.proofs.Walks.{none, one, one_made}
+use Rattle.fp_queue.proofs.Walks.{none, one, one_made}
 use Rattle.fp_running.specs.contracts.listed.Listed as Listed
 use Rattle.fp_running.specs.contracts.listed.Listed.new as F
 use Rattle.fp_running.specs.contracts.listed.Listed.new.Key.{name as #self}

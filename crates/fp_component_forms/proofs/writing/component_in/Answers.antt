@@ -8,7 +8,7 @@ use Rattle.fp_type_forms.specs.Resolved.{AreResolved}
 use Rattle.fp_type_forms.specs.Written.{AllAt}
 use Rattle.fp_part_values.specs.Names.{part_names}
 use Rattle.fp_component_forms.specs.Written.{AllHaveTypes, ComponentIs, ModelNamesStand, component_in, scoped}
-use Rattle.fp_component_forms.proofs.writing.component_among.Goals as goal
+use Rattle.fp_component_forms.proofs.writing.component_in.Goals as goal
 
 pub returns-in-Machine : goal.returns-in-Machine
 returns-in-Machine c source ready named h =

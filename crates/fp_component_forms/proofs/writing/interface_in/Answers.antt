@@ -3,7 +3,7 @@ use Rattle.fp_meaning.specs.Read.{read}
 use Rattle.fp_meaning.specs.Sites.{ModelDef}
 use Rattle.fp_type_forms.specs.Written.{AllAt}
 use Rattle.fp_component_forms.specs.Written.{InterfaceIs, interface_in}
-use Rattle.fp_component_forms.proofs.writing.interface_among.Goals as goal
+use Rattle.fp_component_forms.proofs.writing.interface_in.Goals as goal
 
 pub returns-in-Machine : goal.returns-in-Machine
 returns-in-Machine c source ready h =

@@ -2,7 +2,7 @@ use Rattle.std.proofs.Common.{[], sym, subst}
 use Rattle.fp_tree.specs.declared.definition.Def.{Def}
 use Rattle.fp_type_forms.specs.Written.{AllAt}
 use Rattle.fp_component_forms.specs.Written.{PortDefIs, port_in}
-use Rattle.fp_component_forms.proofs.writing.port_among.Goals as goal
+use Rattle.fp_component_forms.proofs.writing.port_in.Goals as goal
 
 pub returns-in-Constant : goal.returns-in-Constant
 returns-in-Constant c source named h =

@@ -5,7 +5,7 @@ use Rattle.fp_written_parts.specs.declared.port.WrittenPort.{WrittenPort}
 use Rattle.fp_components.specs.Listing.{AreListed, AreWholeMatches}
 use Rattle.fp_components.specs.Resolved.{AreEach, IsMatch, match_in}
 use Rattle.fp_components.specs.Whole.{AreWholeMembers}
-use Rattle.fp_components.proofs.components.component_of.Goals as goal
+use Rattle.fp_components.proofs.components.component_from.Goals as goal
 
 abbrev behind : Bor WrittenPort → WrittenPort
 behind port = port.now
