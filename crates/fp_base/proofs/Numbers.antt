@@ -22,6 +22,9 @@ at_most m n e = grind (arith, nat_tests)
 pub is_below : (m n : ℕ) → true ≡ nat_lt m n → m < n
 is_below m n e = grind (arith, nat_tests)
 
+pub below_told : (m n : ℕ) → m < n → nat_lt m n ≡ true
+below_told m n h = grind (arith, nat_tests)
+
 pub suc_is : (n : ℕ) → suc n ≡ 1 + n
 suc_is n = omega arith
 

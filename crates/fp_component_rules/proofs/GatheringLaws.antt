@@ -21,7 +21,7 @@ use Rattle.fp_component_rules.proofs.Named.{differ_apart, each_differ, found_eac
 
 -- ---- kinds
 
-no_truth : {P : Type 0} → false ≡ true → P
+pub no_truth : {P : Type 0} → false ≡ true → P
 no_truth e = absurd (cc)
 
 pub kind_is : (s : Special) (r : WrittenRole) → is_of_kind s r ≡ true → r ≡ role.Special s

@@ -19,16 +19,13 @@ use Rattle.fp_written_parts.specs.declared.member.WrittenMember.TheVariants.{Por
 use Rattle.fp_component_rules.specs.Firsts.{is_named}
 use Rattle.fp_component_rules.specs.Gifts.{IsGift, LeadsAmong}
 use Rattle.fp_component_rules.specs.declared.gift.Gift.{Gift}
-use Rattle.fp_component_rules.proofs.GatheringLaws.{first_gift, same_list}
+use Rattle.fp_component_rules.proofs.GatheringLaws.{first_gift, no_truth, same_list}
 use Rattle.fp_component_rules.specs.declared.matching.End.{End}
 use Rattle.fp_component_rules.specs.Broken.{DifferInSize, IsBadMatch, MatchAt, Names, NamesNone, NamesUnlike, is_general, size_of}
 use Rattle.fp_component_rules.specs.Tested.{end_of, fails, match_fault, sizes_differ}
 use Rattle.fp_component_rules.proofs.Folding.{flag_told}
 
 -- ---- sizes
-
-no_truth : {P : Type 0} → false ≡ true → P
-no_truth e = absurd (cc)
 
 pub sizes_told : (s t : Option ℤ) → (sizes_differ s t ≡ true) ↔ DifferInSize s t
 sizes_told None t = (λ e. no_truth e, λ d. absurd (cc d.2))

@@ -1,5 +1,5 @@
 -- The directory part of a name, by its last `/`.
-use Rattle.std.proofs.Common.{◌≡◌, ◌≢◌, ℕ, ◌+◌, ◌-◌, ◌<◌, ◌≤◌, List, [], ◌∷◌, ◌++◌, Bool, true, false, length, take, drop, get_or, refl, sym, ap, ◌∙◌, arith}
+use Rattle.std.proofs.Common.{◌≡◌, ◌≢◌, ℕ, ◌+◌, ◌-◌, ◌<◌, ◌≤◌, List, [], ◌∷◌, ◌++◌, Bool, true, false, length, take, get_or, refl, sym, ap, ◌∙◌, arith}
 use Rattle.std.specs.Prelude.{not, ◌==◌}
 use Rattle.std.specs.List.{suffix_len}
 use Rattle.std.proofs.lemmas.List.{take_more}
@@ -35,7 +35,3 @@ directory_before name at front text ef et (lt, here, none) =
     ∙ sym (cut_at name (at + 1) (omega (arith, lt))
     (suffix_len_is other name (at + 1) 0 (omega (arith, lt)) (λ k h less. other_yes (get_or name k 0) (none k (omega (arith, h)) less))
     (λ h. other_no (get_or name (at + 1 - 1) 0) (ap (λ (n : ℕ). get_or name n 0) before ∙ here))))
-
-drop_none : (xs : List ℕ) → drop 0 xs ≡ xs
-drop_none [] = refl
-drop_none (x ∷ xs) = refl

@@ -1,11 +1,11 @@
 -- The types that a given type names are among the given ones.
-use Rattle.std.proofs.Common.{◌≡◌, ℕ, ◌<◌, Bool, true, List, length, map, Option, Some, slice_get, refl, sym, ap, subst, ◌∙◌, arith}
-use Rattle.std.specs.Prelude.{nat_lt, option_map}
+use Rattle.std.proofs.Common.{◌≡◌, ℕ, Bool, true, List, length, map, Option, Some, slice_get, refl, sym, ap, subst, ◌∙◌}
+use Rattle.std.specs.Prelude.{option_map}
 use Rattle.std.specs.List.{list_all}
-use Rattle.std.proofs.lemmas.Bool.Decides.{nat_tests}
 use Rattle.std.proofs.lemmas.List.{length-map}
 use Rattle.std.proofs.lemmas.Option.{slice_get-map, slice_get_within}
 use Rattle.fp_base.proofs.Bools.{join}
+use Rattle.fp_base.proofs.Numbers.{below_told}
 use Rattle.fp_base.proofs.Passing.{all_items}
 use Rattle.fp_base.specs.declared.value.Value.{Value}
 use Rattle.fp_tree.specs.declared.source.Source.{Source}
@@ -35,12 +35,9 @@ module _ (ws : List WrittenType) where
   plain_lies kind.Bool p = refl
   plain_lies (kind.Str size) p = refl
 
-  below : (i n : ℕ) → i < n → nat_lt i n ≡ true
-  below i n h = grind (arith, nat_tests)
-
   kind_measured : {k : Kind} {a b : ℕ} → Measures ws k a b → kind_lies (length ws) k ≡ true
   kind_measured (plain {k = k} p) = plain_lies k p
-  kind_measured (named {i = i} h m) = below i (length ws) (slice_get_within ws i h.written h.here)
+  kind_measured (named {i = i} h m) = below_told i (length ws) (slice_get_within ws i h.written h.here)
 
   member_measured : {s : Option ℕ} {k : Kind} {a b : ℕ} → MeasuresMember ws s k a b → kind_lies (length ws) k ≡ true
   member_measured (one m) = kind_measured m

@@ -1,7 +1,8 @@
 -- A run that is replayed entry by entry.
-use Rattle.std.proofs.Common.{◌≡◌, ◌<◌, ◌≤◌, ◌+◌, ℕ, zero, suc, Bool, true, false, List, [], ◌∷◌, ◌++◌, length, take, drop, append_assoc, append-nil, Some, refl, sym, ap, ◌∙◌, subst, arith}
+use Rattle.std.proofs.Common.{◌≡◌, ◌<◌, ◌≤◌, ◌+◌, ℕ, suc, Bool, true, false, List, [], ◌∷◌, ◌++◌, length, take, drop, append_assoc, append-nil, Some, refl, sym, ap, ◌∙◌, subst, arith}
 use Rattle.std.specs.List.{slice_get}
-use Rattle.fp_base.proofs.Lists.{split_at}
+use Rattle.fp_base.proofs.Lists.{split_at, take_next}
+use Rattle.fp_base.proofs.Numbers.{one_more}
 use Rattle.fp_tables.specs.Lookup.{Described}
 use Rattle.fp_tables.specs.declared.program.Program.{Program}
 use Rattle.fp_events.specs.declared.event.Entry.{Entry}
@@ -21,14 +22,6 @@ Fitting = (t : Described) (p : Program) (es : List Entry) → IsRun t p es → (
 pub known_actor : Fitting → (t : Described) (p : Program) (es : List Entry) (e : Entry) → IsRun t p (es ++ e ∷ []) → e.actor < actor_count t p
 known_actor law t p es e run = (fit_parts t p e.actor e.instance e.what (law t p (es ++ e ∷ []) run es [] e refl)).0
 
-take_one_more : {A : Type 0} (xs : List A) (k : ℕ) (x : A) → slice_get xs k ≡ Some x → take (suc k) xs ≡ take k xs ++ x ∷ []
-take_one_more [] k x h = absurd (cc)
-take_one_more (y ∷ xs) zero x h = ap (λ z. z ∷ []) (some_is h)
-  where
-    some_is : {A : Type 0} {u v : A} → Some u ≡ Some v → u ≡ v
-    some_is e = cc
-take_one_more (y ∷ xs) (suc k) x h = ap (λ l. y ∷ l) (take_one_more xs k x h)
-
 module _ (r s : Progress) (es : List Entry) (k : ℕ) (e : Entry) (so_far : s ≡ and_then r (take k es)) (found : slice_get es k ≡ Some e) where
   pub next_run : Prefixes → IsRun r.tables r.program (r.entries ++ es) → IsRun s.tables s.program (s.entries ++ e ∷ [])
   next_run law run =
@@ -43,7 +36,7 @@ module _ (r s : Progress) (es : List Entry) (k : ℕ) (e : Entry) (so_far : s �
   pub one_further : (q : Progress) (j : ℕ) → j ≡ suc k → q ≡ and_then s (e ∷ []) → q ≡ and_then r (take j es)
   one_further q j is more =
       more ∙ ap (λ (x : Progress). and_then x (e ∷ [])) so_far
-      ∙ ap (λ l. record r { entries = l }) (append_assoc r.entries (take k es) (e ∷ []) ∙ ap (λ l. r.entries ++ l) (sym (take_one_more es k e found) ∙ ap (λ n. take n es) (sym is)))
+      ∙ ap (λ l. record r { entries = l }) (append_assoc r.entries (take k es) (e ∷ []) ∙ ap (λ l. r.entries ++ l) (sym (take_next es k e found) ∙ ap (λ n. take n es) (sym (is ∙ one_more k))))
 
   pub so_far_goes_on : (q : Progress) → q ≡ s → GoesOn r q
   so_far_goes_on q is = (take k es, is ∙ so_far)

@@ -1,5 +1,5 @@
 -- Actions of callers from what they name and their arguments.
-use Rattle.std.proofs.Common.{◌≡◌, List, [], ◌∷◌, drop, Some, refl, ap, ◌∙◌, subst}
+use Rattle.std.proofs.Common.{◌≡◌, List, Some, refl, ap, ◌∙◌, subst}
 use Rattle.std.proofs.lemmas.Bool.{and_right}
 use Rattle.std.specs.Prelude.{Result, Ok, Err, IfErr, option_map, option_and_then}
 use Rattle.fp_base.specs.declared.rule.Rule.{Rule}
@@ -34,7 +34,3 @@ module _ (t : Described) (scope : Scope) (a : ActText) where
 
   pub called_kinds : (e : End) (x : Port) → input_named t a.first ≡ Some e → port_of t.model e.instance e.port ≡ Some x → kinds_in t key.Call a ≡ Some (kinds_of x.formals)
   called_kinds e x is found = ap (λ o. option_map (λ (y : Port). kinds_of y.formals) (option_and_then (λ (f : End). port_of t.model f.instance f.port) o)) is ∙ ap (option_map (λ (y : Port). kinds_of y.formals)) found
-
-drop_none : {A : Type 0} (xs : List A) → drop 0 xs ≡ xs
-drop_none [] = refl
-drop_none (x ∷ xs) = refl

@@ -1,9 +1,9 @@
 -- Each position in a machine that breaks no rule lies in its list.
-use Rattle.std.proofs.Common.{◌≡◌, ℕ, ◌<◌, ◌&&◌, Bool, true, List, [], ◌∷◌, length, slice_get, Option, Some, None, is_some, refl, sym, ap, subst, ◌∙◌, arith}
+use Rattle.std.proofs.Common.{◌≡◌, ℕ, ◌<◌, ◌&&◌, Bool, true, List, [], ◌∷◌, length, slice_get, Option, Some, None, is_some, refl, sym, ap, subst, ◌∙◌}
 use Rattle.std.specs.Prelude.{nat_lt, option_and_then, option_map, unwrap_or}
 use Rattle.std.specs.List.{cons_option, filter_map, list_all}
-use Rattle.std.proofs.lemmas.Bool.Decides.{nat_tests}
 use Rattle.fp_base.proofs.Bools.{join}
+use Rattle.fp_base.proofs.Numbers.{below_told}
 use Rattle.fp_base.proofs.Options.{mapped_some, same_some, some_of}
 use Rattle.fp_base.proofs.Passing.{all_items}
 use Rattle.fp_tree.specs.declared.name.Name.{Name}
@@ -41,9 +41,6 @@ use Rattle.fp_sound_parts.proofs.Vertices.{declared_back, declared_length, numbe
 
 -- ---- numbers
 
-below : (m n : ℕ) → m < n → nat_lt m n ≡ true
-below m n l = grind (arith, nat_tests)
-
 mapped_lie : {A : Type 0} (f : A → Option ℕ) (size : ℕ) → ((a : A) (n : ℕ) → f a ≡ Some n → nat_lt n size ≡ true) → (xs : List A) → numbers_lie size (filter_map f xs) ≡ true
 mapped_lie f size each [] = refl
 mapped_lie f size each (x ∷ xs) = go (f x) refl (mapped_lie f size each xs)
@@ -62,7 +59,7 @@ module _ (es : List BehaviorElement) (kinds : List (Option Kind)) where
   number_lies : (part : ElementForm → Option TypedName) (test : ElementForm → Bool) → ((f : ElementForm) → is_some (part f) ≡ test f) → (v : ℕ) → IsDeclaredAt es part v
       → nat_lt (number_among test es v) (length (declared_from part kinds 0 es)) ≡ true
   number_lies part test same v d =
-      below (number_among test es v) (length (declared_from part kinds 0 es))
+      below_told (number_among test es v) (length (declared_from part kinds 0 es))
       (subst (λ (n : ℕ). number_among test es v < n) (sym (declared_length part test same kinds es))
       (number_below test es v d.element d.here (sym (same d.element.form) ∙ ap is_some d.has)))
 
@@ -86,7 +83,7 @@ module _ (es : List BehaviorElement) (kinds : List (Option Kind)) where
       let t = mapped_some (vertex_number es) (vertex_meant es (outline es) p q.names) n h in
       let v = vertex_meant_is es p q.names t.0 t.1 in
       ap (λ (k : ℕ). nat_lt k (length (vertices_from es 0 es))) (sym t.2)
-      ∙ below (vertex_number es t.0) (length (vertices_from es 0 es)) (vertex_lies_below es t.0 v.element v.here v.is)
+      ∙ below_told (vertex_number es t.0) (length (vertices_from es 0 es)) (vertex_lies_below es t.0 v.element v.here v.is)
 
 -- ---- steps
 
@@ -220,7 +217,7 @@ module _ (es : List BehaviorElement) (name : List ℕ) (kinds : List (Option Kin
     parent_lies v e h None q = refl
     parent_lies v e h (Some w) q =
         let s = state_at es w (behind es in_order v w e h q).is_state in
-        below (vertex_number es w) (length m.vertices) (vertex_lies_below es w s.element s.here (state_passes es w s))
+        below_told (vertex_number es w) (length m.vertices) (vertex_lies_below es w s.element s.here (state_passes es w s))
 
     vertices_lie : list_all (vertex_lies m) m.vertices ≡ true
     vertices_lie =

@@ -7,6 +7,7 @@ use Rattle.std.proofs.lemmas.Option.{slice_get_within}
 use Rattle.fp_base.specs.Least.{IsUnbroken}
 use Rattle.fp_base.specs.Names.{is_name}
 use Rattle.fp_base.proofs.Bools.{both, join}
+use Rattle.fp_base.proofs.Numbers.{below_told}
 use Rattle.fp_base.specs.Numbers.{numbers_from}
 use Rattle.fp_tables.specs.Components.{are_one_each, is_later, names_of, same_kind, saved_parameter, set_parameter, takes_its_value}
 use Rattle.fp_tables.specs.Lists.{all_from, some_and}
@@ -31,7 +32,7 @@ use Rattle.fp_component_rules.specs.Broken.{is_async, waits_itself}
 use Rattle.fp_components.specs.Resolved.{CommandHere, written, sets, saves, IsCommandHere, IsWay, formals_of, value_formal}
 use Rattle.fp_sound_parts.specs.Ready.{formals_have_names, member_has_names, member_lies}
 use Rattle.fp_sound_parts.proofs.Formals.{formals_apart, formals_lying, formals_named}
-use Rattle.fp_sound_parts.proofs.Single.{below_true, save_is_name, set_is_name}
+use Rattle.fp_sound_parts.proofs.Single.{save_is_name, set_is_name}
 use Rattle.fp_sound_parts.proofs.ComponentListed.{HereHas, command_listed, part_here, saved_by, set_by}
 use Rattle.fp_sound_parts.proofs.Lists.{numbers_differ_from}
 
@@ -93,7 +94,7 @@ module _ (params : List Param) where
   HasItsParam (saves n p) = HasParam p n
 
   param_lies : (p : WrittenParam) (n : ℕ) → HasParam p n → nat_lt n (length params) ≡ true
-  param_lies p n (y, at, same) = below_true n (length params) (slice_get_within params n y at)
+  param_lies p n (y, at, same) = below_told n (length params) (slice_get_within params n y at)
 
   pub command_lies : (types : ℕ) (h : CommandHere) (d : Command) → IsCommandHere h d → HereHas (λ m. member_lies types m ≡ true) h → HasItsParam h
       → positions.command_lies types (length params) d ≡ true

@@ -1,11 +1,10 @@
 -- The types that are named in what is written of ports and components lie among the types of the source.
-use Rattle.std.proofs.Common.{◌≡◌, ℕ, suc, ◌<◌, true, List, [], ◌∷◌, length, map, Option, Some, None, refl, sym, ap, subst, ◌∙◌, arith}
-use Rattle.std.specs.Prelude.{nat_lt}
+use Rattle.std.proofs.Common.{◌≡◌, ℕ, suc, true, List, [], ◌∷◌, length, map, Option, Some, None, refl, sym, ap, subst, ◌∙◌}
 use Rattle.std.specs.List.{list_all}
-use Rattle.std.proofs.lemmas.Bool.Decides.{nat_tests}
 use Rattle.std.proofs.lemmas.List.{length-map}
 use Rattle.fp_topology_forms.proofs.Places.{as_long}
 use Rattle.fp_base.proofs.Bools.{join}
+use Rattle.fp_base.proofs.Numbers.{below_told}
 use Rattle.fp_base.proofs.Options.{same_some}
 use Rattle.fp_tree.specs.declared.source.Source.{Source}
 use Rattle.fp_tree.specs.declared.component.Part.{Part}
@@ -38,9 +37,6 @@ as_many source ts given =
     let read = as_long (IsWritten source) 0 (types source) given.written given.are in
     sym (length-map ts (λ (d : TypeDef). Some d)) ∙ long ∙ sym read
 
-below : (i n : ℕ) → i < n → nat_lt i n ≡ true
-below i n h = grind (arith, nat_tests)
-
 module _ (source : Source) where
   abbrev Lies : Kind → Type 0
   Lies k = kind_lies (length (types source)) k ≡ true
@@ -50,7 +46,7 @@ module _ (source : Source) where
 
   pub kind_lying : (scope : Path) (t : TypeForm) (k : Kind) → KindIs source scope t k → Lies k
   kind_lying scope (type.Use q) k h =
-      ap (kind_lies (length (types source))) h.2 ∙ below (types_before (definitions source) h.0) (length (types source)) (type_lies source scope q h.0 h.1)
+      ap (kind_lies (length (types source))) h.2 ∙ below_told (types_before (definitions source) h.0) (length (types source)) (type_lies source scope q h.0 h.1)
   kind_lying scope (type.Text None) k h = ap (kind_lies (length (types source))) h
   kind_lying scope (type.Text (Some x)) k h = ap (kind_lies (length (types source))) h.2
   kind_lying scope type.U8 k h = plainly kind.U8 k h refl

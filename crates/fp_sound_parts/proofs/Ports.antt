@@ -7,6 +7,7 @@ use Rattle.fp_base.specs.Least.{IsUnbroken, broken_at}
 use Rattle.fp_base.specs.Same.{same_list}
 use Rattle.fp_base.specs.declared.rule.Rule.TheVariants.{AsyncWithReturn, PortSize, SpecialPort}
 use Rattle.fp_base.proofs.Bytes.{bytes_same}
+use Rattle.fp_base.proofs.Numbers.{below_told}
 use Rattle.fp_tables.specs.Components.{definition_of, has_its_formals, internal_is_later, is_from_1_to, is_later, same_formal, special_in, suits_its_role, waits, waits_for_no_result}
 use Rattle.fp_tables.specs.Lists.{if_some, some_and}
 use Rattle.fp_tables.specs.declared.kind.Formal.{Formal}
@@ -29,7 +30,7 @@ use Rattle.fp_component_rules.specs.Firsts.{is_asynchronous}
 use Rattle.fp_component_rules.specs.PortBroken.{BrokenDefinition, BrokenSize, HasResult}
 use Rattle.fp_components.specs.Resolved.{AreDefined, ArePortFormals, IsLater, IsNumber, IsRole, PortIs, formals_of, port_def_of}
 use Rattle.fp_sound_parts.specs.Ready.{DefinitionSuits}
-use Rattle.fp_sound_parts.proofs.Single.{below_true, formals_itself, size_from_1}
+use Rattle.fp_sound_parts.proofs.Single.{formals_itself, size_from_1}
 
 -- ---- roles
 
@@ -106,7 +107,7 @@ module _ (definitions : List WrittenPortDef) where
 
   definition_lies : (o : Option ℕ) (fs : List Formal) → AreDefined definitions o fs → if_some (λ k. nat_lt k (length defined)) o ≡ true
   definition_lies None fs h = refl
-  definition_lies (Some k) fs (d, at, same) = below_true k (length defined) (slice_get_within defined k (port_def_of d) (definition_at k d at))
+  definition_lies (Some k) fs (d, at, same) = below_told k (length defined) (slice_get_within defined k (port_def_of d) (definition_at k d at))
 
   module _ (p : WrittenPort) (q : Port) (is : PortIs definitions p q) where
     from_definition : (r : WrittenRole) (fs : List Formal) → ArePortFormals definitions r p fs → ((r ≡ Internal) × (fs ≡ formals_of p.formals)) ⊎ AreDefined definitions p.of fs

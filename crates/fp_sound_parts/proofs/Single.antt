@@ -1,6 +1,6 @@
 -- Single things: a type that is an integer type behind its aliases, names of commands that parameters bring, sizes, and tests of what is equal.
 use Rattle.std.proofs.Common.{◌≡◌, ℕ, zero, suc, ◌<◌, ◌⊎◌, inl, inr, ℤ, pos, Bool, true, false, List, [], ◌∷◌, ◌++◌, length, Option, Some, None, refl, ◌∙◌, arith}
-use Rattle.std.specs.Prelude.{codes, nat_le, nat_lt, ◌<ℤ◌}
+use Rattle.std.specs.Prelude.{codes, nat_le, ◌<ℤ◌}
 use Rattle.std.specs.List.{list_all}
 use Rattle.std.proofs.lemmas.Bool.Decides.{nat_tests}
 use Rattle.std.proofs.lemmas.Int.{ints}
@@ -22,9 +22,6 @@ use Rattle.fp_tables.specs.declared.kind.TypeDef.{TypeDef}
 use Rattle.fp_tables.proofs.OneKind.{kind_itself}
 use Rattle.fp_dictdefs.specs.Broken.{is_integer_kind}
 use Rattle.fp_dictdefs.specs.Listed.{save_name, set_name}
-
-pub below_true : (k n : ℕ) → k < n → nat_lt k n ≡ true
-below_true k n h = grind (arith, nat_tests)
 
 -- ---- integer types
 

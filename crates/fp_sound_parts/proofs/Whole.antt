@@ -11,6 +11,7 @@ use Rattle.fp_base.proofs.Bools.{both, join}
 use Rattle.fp_base.proofs.Lists.{all_get, get_within}
 use Rattle.fp_base.proofs.Passing.{all_items, position_below}
 use Rattle.fp_base.proofs.Bytes.{same_bytes}
+use Rattle.fp_base.proofs.Numbers.{below_told}
 use Rattle.fp_base.specs.Numbers.{numbers_from}
 use Rattle.fp_tables.specs.Components as components
 use Rattle.fp_tables.specs.Names.{is_qualified, numbers_differ, texts_differ}
@@ -64,7 +65,6 @@ use Rattle.fp_sound_parts.proofs.Entries.{ids_apart, names_apart}
 use Rattle.fp_sound_parts.proofs.Events.{event_agrees, event_apart, event_lies, event_names, event_reads}
 use Rattle.fp_sound_parts.proofs.Formals.{formals_apart, formals_lying, formals_named}
 use Rattle.fp_sound_parts.proofs.Given.{given_apart, given_with}
-use Rattle.fp_sound_parts.proofs.Single.{below_true}
 use Rattle.fp_sound_parts.proofs.ComponentListed.{ParamHere, channel_listed, channels_alike, channels_have, command_listed, commands_alike, commands_have, event_listed, events_alike, events_have, none_running, param_at, param_listed, params_alike, params_have, part_here, runnings_have, saved_by, saves_in_order, set_by, sets_in_order}
 use Rattle.fp_sound_parts.proofs.Lists.{AreApart, both_and, both_back, chosen_apart}
 use Rattle.fp_sound_parts.proofs.Ports.{defined, has_formals, later_inside, later_is, of_lies, quiet, size_good, special_back, suits_role, waits_without, with_formals}
@@ -188,7 +188,7 @@ module _ (types : List TypeDef) (machines : List Machine) (ws : List WrittenType
         join (nat_lt p.0 (length c.ports)) (nat_lt p.1 (length c.ports)) (lies p.0 (position_below (is_named m.first) is.all p.0 i.first)) (lies p.1 (position_below (is_named m.second) is.all p.1 i.second)))
       where
         lies : (n : ℕ) → n < length is.all → nat_lt n (length c.ports) ≡ true
-        lies n low = below_true n (length c.ports) (omega (arith, is.ports.each))
+        lies n low = below_told n (length c.ports) (omega (arith, is.ports.each))
 
     -- ---- parameters
 
@@ -352,7 +352,7 @@ module _ (types : List TypeDef) (machines : List Machine) (ws : List WrittenType
         every_running (λ (r : Running). nat_lt r.machine (length machines))
         (λ k r d e i.
         let t = fitting k r e in
-        ap (λ (n : ℕ). nat_lt n (length machines)) i.machine ∙ below_true r.machine (length machines) (get_within machines r.machine t.0 t.1))
+        ap (λ (n : ℕ). nat_lt n (length machines)) i.machine ∙ below_told r.machine (length machines) (get_within machines r.machine t.0 t.1))
 
     running_named : list_all (λ (r : Running). is_name r.name) c.machines ≡ true
     running_named =

@@ -3,7 +3,7 @@ use Rattle.std.proofs.Common.{◌≡◌, ◌<◌, ◌⊎◌, inl, inr, ℕ, suc,
 use Rattle.std.specs.List.{AllByRecursion as Each}
 use Rattle.std.proofs.lemmas.List.{length-append}
 use Rattle.fp_base.proofs.Lists.{each_append, of_item}
-use Rattle.fp_base.proofs.Mapped.{map_get}
+use Rattle.fp_base.proofs.Mapped.{get_mapped, map_get}
 use Rattle.fp_tree.specs.declared.machine.BehaviorElement.{BehaviorElement}
 use Rattle.fp_tree.specs.declared.machine.ElementForm.{ElementForm}
 use Rattle.fp_tree.specs.declared.machine.ElementForm.TheVariants as element
@@ -15,7 +15,7 @@ use Rattle.fp_machine_rules.specs.Forms.{Inside, StandsIn, is_state}
 use Rattle.fp_machine_rules.specs.Forms.Inside.{directly, deeper}
 use Rattle.fp_machines.specs.Outline.{outline, outline_of, outlined}
 use Rattle.fp_machines.specs.Ordered.{AreInOrder, AreWellPlaced, StandsBehind, declares}
-use Rattle.fp_source_laws.proofs.Rows.{EachFrom, from_all, from_behind, from_front, from_get, from_joined, get_mapped}
+use Rattle.fp_source_laws.proofs.Rows.{EachFrom, from_all, from_behind, from_front, from_get, from_joined}
 
 -- ---- what has a body is a state, and nothing is declared in one
 
@@ -129,7 +129,7 @@ in_order ns are v state stands =
     let from = get_mapped (outline_of all) all v stands.item stands.here in
     let fit = nested_fit all false None ns 0 are (from_all (Stands all) all 0 (λ k m x e at. let same : k ≡ m = omega (arith, e) in subst (λ (j : ℕ). Stands all j x) same (map_get (outline_of all) all k x at))) tt in
     let ready : IsReady (outline all) from.0.parent v = from_get (Fits all) all 0 v v from.0 (let same : v ≡ 0 + v = omega arith in same) fit.0 from.1 in
-    subst (λ (p : Option ℕ). IsReady (outline all) p v) (ap (λ (i : Item). i.parent) (sym from.2) ∙ stands.parent) ready
+    subst (λ (p : Option ℕ). IsReady (outline all) p v) (ap (λ (i : Item). i.parent) from.2 ∙ stands.parent) ready
 
 -- ---- what is declared stands outside states
 

@@ -1,5 +1,5 @@
 -- What holds of each item of a list at its position.
-use Rattle.std.proofs.Common.{◌≡◌, ℕ, zero, suc, ◌+◌, List, [], ◌∷◌, ◌++◌, length, map, slice_get, Option, Some, None, refl, sym, subst, arith}
+use Rattle.std.proofs.Common.{◌≡◌, ℕ, zero, suc, ◌+◌, List, [], ◌∷◌, ◌++◌, length, slice_get, Option, Some, None, refl, subst, arith}
 use Rattle.fp_base.proofs.Options.{same_some}
 
 -- from this position on
@@ -30,9 +30,3 @@ module _ {A : Type 0} (P : ℕ → A → Type 0) where
   from_all (x ∷ xs) n h =
       let same : n ≡ n + 0 = omega arith in
       (h 0 n x same refl, from_all xs (n + 1) (λ k m y e at. let on : m ≡ n + suc k = omega (arith, e) in h (suc k) m y on at))
-
--- what a mapped list has at a position is made of what the list has there
-pub get_mapped : {A B : Type 0} (f : A → B) (xs : List A) (k : ℕ) (y : B) → slice_get (map f xs) k ≡ Some y → (x : A) × (slice_get xs k ≡ Some x) × (y ≡ f x)
-get_mapped f [] k y at = absurd (cc)
-get_mapped f (x ∷ xs) zero y at = (x, refl, sym (same_some at))
-get_mapped f (x ∷ xs) (suc k) y at = get_mapped f xs k y at

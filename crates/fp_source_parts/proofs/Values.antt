@@ -27,12 +27,10 @@ use Rattle.fp_type_forms.specs.Resolved.{AreResolved}
 use Rattle.fp_part_values.specs.Names.{written}
 use Rattle.fp_part_values.specs.Numbers.{general_numbers, interface_part_numbers, part_numbers}
 use Rattle.fp_part_values.specs.FormStanding.{AreValued, NumbersStand}
+use Rattle.fp_source_types.proofs.Expressed.{Valued as HasValue}
 use Rattle.fp_part_values.proofs.Standing.{HasValue as IsPlaced, Stands, all_stand, each_given, owned}
 
 module _ (source : Source) where
-  abbrev pub HasValue : Path → Expr → Type 0
-  HasValue scope e = (v : Value) × Val source scope (opened e) v
-
   own_stand : (marks : List (Option Value)) (rs : List Resolution) → AreResolved source marks rs (items source) 0 → AreValued source
       → (k : ℕ) (d : Declaration) → slice_get (items source) k ≡ Some (item.Declared d) → Each (Stands source) (model_own_items d.scope d.definition)
   own_stand marks rs resolved valued k d at =
@@ -40,14 +38,14 @@ module _ (source : Source) where
 
   module _ (scope : Path) where
     abbrev Valued : List Expr → Type 0
-    Valued es = Each (HasValue scope) es
+    Valued es = Each (HasValue source scope) es
 
     of_value : (o : Option Expr) → Each (Stands source) (value_items scope o) → Valued (written o)
     of_value None h = tt
     of_value (Some e) h = (h.0, tt)
 
     both_of : (xs ys : List Item) (n m : List Expr) → (Each (Stands source) xs → Valued n) → (Each (Stands source) ys → Valued m) → Each (Stands source) (xs ++ ys) → Valued (n ++ m)
-    both_of xs ys n m f g h = each_append (HasValue scope) n m (f (each_before (Stands source) xs ys h)) (g (each_behind (Stands source) xs ys h))
+    both_of xs ys n m f g h = each_append (HasValue source scope) n m (f (each_before (Stands source) xs ys h)) (g (each_behind (Stands source) xs ys h))
 
     of_general : (p : General) → Each (Stands source) (general_items scope p) → Valued (general_numbers p)
     of_general p h =
@@ -109,13 +107,13 @@ module _ (source : Source) where
     valued_parts : (ps : List Part) → Each (Stands source) (flat_map (own_items scope) ps) → Valued (flat_map part_numbers ps)
     valued_parts [] h = tt
     valued_parts (p ∷ ps) h =
-        each_append (HasValue scope) (part_numbers p) (flat_map part_numbers ps) (of_part p (each_before (Stands source) (own_items scope p) (flat_map (own_items scope) ps) h))
+        each_append (HasValue source scope) (part_numbers p) (flat_map part_numbers ps) (of_part p (each_before (Stands source) (own_items scope p) (flat_map (own_items scope) ps) h))
         (valued_parts ps (each_behind (Stands source) (own_items scope p) (flat_map (own_items scope) ps) h))
 
     valued_inners : (ps : List InterfacePart) → Each (Stands source) (flat_map (interface_part_items scope) ps) → Valued (flat_map interface_part_numbers ps)
     valued_inners [] h = tt
     valued_inners (p ∷ ps) h =
-        each_append (HasValue scope) (interface_part_numbers p) (flat_map interface_part_numbers ps) (of_inner p (each_before (Stands source) (interface_part_items scope p) (flat_map (interface_part_items scope) ps) h))
+        each_append (HasValue source scope) (interface_part_numbers p) (flat_map interface_part_numbers ps) (of_inner p (each_before (Stands source) (interface_part_items scope p) (flat_map (interface_part_items scope) ps) h))
         (valued_inners ps (each_behind (Stands source) (interface_part_items scope p) (flat_map (interface_part_items scope) ps) h))
 
     -- those that have values are numbers, where each such is one

@@ -53,7 +53,8 @@ use Rattle.fp_source_parts.proofs.Ids.{GivenThere}
 use Rattle.fp_source_parts.proofs.Members.{MemberKnown}
 use Rattle.fp_source_parts.proofs.Numbered.{MemberNumbered, PortNumbered}
 use Rattle.fp_part_values.proofs.Standing.{Stands}
-use Rattle.fp_source_parts.proofs.Values.{HasValue, PartKnown}
+use Rattle.fp_source_types.proofs.Expressed.{Valued as HasValue}
+use Rattle.fp_source_parts.proofs.Values.{PartKnown}
 
 -- ---- numbers that are in their ranges
 

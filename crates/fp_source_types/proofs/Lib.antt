@@ -4,7 +4,7 @@ mod Deep
 mod Defined
 pub mod Dotted
 mod Existing
-mod Expressed
+pub mod Expressed
 mod Formed
 mod Levels
 mod Listing

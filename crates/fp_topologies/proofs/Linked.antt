@@ -6,7 +6,7 @@ use Rattle.std.proofs.lemmas.Option.{slice_get_within}
 use Rattle.fp_base.specs.Least.{InSome, IsLeast}
 use Rattle.fp_base.specs.declared.refusal.Refusal.{Refusal}
 use Rattle.fp_base.proofs.Calculus.{least_same}
-use Rattle.fp_base.proofs.Lists.{get_front}
+use Rattle.fp_base.proofs.Lists.{get_front, one_item}
 use Rattle.fp_base.proofs.Options.{one_some, same_some}
 use Rattle.fp_base.proofs.Spots.{item_below}
 use Rattle.fp_base.proofs.Mapped.{map_get, get_mapped, many_mapped}
@@ -182,10 +182,6 @@ module _ (ts : List WrittenTopology) (within : ImportsLie ts) where
     number : a ≡ n + j
     to : link.written.topology ≡ b
 
-  only_item : (x y : ℕ) (k : ℕ) → slice_get (x ∷ []) k ≡ Some y → x ≡ y
-  only_item x y zero e = same_some e
-  only_item x y (suc k) e = absurd (cc)
-
   steps : (a b : ℕ) → IsListed rows a b → Out a b ⊎ In a b
   steps a b s = go (get_joined front (targets_of links) s.row a s.here)
     where
@@ -204,7 +200,7 @@ module _ (ts : List WrittenTopology) (within : ImportsLie ts) where
             link = m.0;
             here = m.1;
             number = omega arith;
-            to = only_item m.0.written.topology b s.k (subst (λ (xs : List ℕ). slice_get xs s.k ≡ Some b) (sym m.2) s.target);
+            to = one_item s.k (subst (λ (xs : List ℕ). slice_get xs s.k ≡ Some b) (sym m.2) s.target);
           })
 
   out_listed : (j : ℕ) (l : Link) → slice_get links j ≡ Some l → IsListed rows l.importer (n + j)

@@ -5,6 +5,7 @@ use Rattle.std.proofs.lemmas.Option.{slice_get_within}
 use Rattle.std.specs.Prelude.{min, nat_lt, ◌&&◌}
 use Rattle.fp_base.proofs.Options.{same_some, no_some}
 use Rattle.fp_base.proofs.Bools.{both}
+use Rattle.fp_base.proofs.Numbers.{below_told}
 use Rattle.fp_tables.specs.Types.{kinds_in}
 use Rattle.fp_tables.specs.declared.kind.Kind.{Kind}
 use Rattle.fp_tables.specs.declared.kind.Kind.TheVariants as kind
@@ -79,9 +80,6 @@ module _ (ws : List WrittenType) where
   nat_lt_true : (a b : ℕ) → nat_lt a b ≡ true → a < b
   nat_lt_true a b e = grind (arith, nat_tests)
 
-  true_nat_lt : (a b : ℕ) → a < b → nat_lt a b ≡ true
-  true_nat_lt a b e = grind (arith, nat_tests)
-
   module _ (table : List (Option TypeExtent)) (are : AreExtents ws table) where
     pub is_sound : AreSoundExtents ws table
     is_sound i x e = (are.at i (Some x) e).holds x refl
@@ -106,7 +104,7 @@ module _ (ws : List WrittenType) where
         low_levels m x e l = omega arith
 
     pub of_few : (a b : ℕ) (s : Size) → IsSize a b s → a ≤ 65536 → b ≤ 64 → is_few s ≡ true
-    of_few a b s is l h = let d = is.leaves in let e = is.levels in rw (true_nat_lt s.leaves 65537 (omega arith), true_nat_lt s.levels 65 (omega arith)) refl
+    of_few a b s is l h = let d = is.leaves in let e = is.levels in rw (below_told s.leaves 65537 (omega arith), below_told s.levels 65 (omega arith)) refl
 
   few_from : (table : List (Option TypeExtent)) (are : AreExtents ws table) (k : Kind) (o : Option TypeExtent) → kind_extent table k ≡ o → is_few_if o ≡ true → IsOfSize ws k
   few_from table are k None is e = absurd (cc)
