@@ -1,19 +1,13 @@
 -- What the first action from a place on is to the lists that are left from there.
-use Rattle.std.proofs.Common.{◌≡◌, ℕ, zero, suc, ◌+◌, ◌≤◌, ◌<◌, Bool, true, false, cond, eqb, List, [], ◌∷◌, ◌++◌, drop, Option, Some, None, option_map, unwrap_or, refl, sym, ap, ◌∙◌, subst, arith, add-one}
+use Rattle.std.proofs.Common.{◌≡◌, ℕ, suc, ◌+◌, ◌≤◌, ◌<◌, Bool, true, false, cond, eqb, List, [], ◌∷◌, ◌++◌, drop, Option, Some, None, option_map, unwrap_or, refl, sym, ap, ◌∙◌, subst, arith, add-one}
 use Rattle.std.specs.List.{slice_get}
 use Rattle.std.proofs.lemmas.Bool.Decides.{nat_tests}
-use Rattle.fp_base.proofs.Lists.{drop_next, drop_past}
+use Rattle.fp_base.proofs.Lists.{drop_next, drop_past, drop_head}
 use Rattle.fp_base.proofs.Numbers.{number_itself}
 use Rattle.fp_events.specs.Actor.{Action, Bindings, Doing}
 use Rattle.fp_events.specs.Due.{first_action}
 use Rattle.fp_events.specs.Follows.{without_first}
 use Rattle.fp_actor.specs.Levels.{reached, begun}
-
-there_of : {A : Type 0} (xs : List A) (k : ℕ) (y : A) (ys : List A) → drop k xs ≡ y ∷ ys → (slice_get xs k ≡ Some y) × (drop (suc k) xs ≡ ys)
-there_of [] zero y ys e = absurd (cc)
-there_of [] (suc k) y ys e = absurd (cc)
-there_of (x ∷ xs) zero y ys e = (cc, cc)
-there_of (x ∷ xs) (suc k) y ys e = there_of xs k y ys e
 
 pub begun_nothing : (ds : List Doing) → begun 0 [] ds ≡ ds
 begun_nothing [] = refl
@@ -74,7 +68,7 @@ module _ (lists old : List Doing) (m b : ℕ) (x : Action) where
       let opened = drop_next d.actions a y e in
       record {
         d = d;
-        there = (there_of lists k d ds h).0;
+        there = (drop_head lists k d ds h).0;
         action = e;
         first =
             rw (number_itself k) (ap (λ (l : List Action). first_action (record { actions = l; bound = more ++ d.bound } ∷ (ds ++ old))) opened);
@@ -118,4 +112,4 @@ module _ (lists old : List Doing) (m b : ℕ) (x : Action) where
       go later None f e =
           let above : suc k ≤ m = reached_from ds (suc k) 0 m b x e in
           let lt : k < m = omega arith in
-          further d ds k a more lt f (later (there_of lists k d ds h).1 e)
+          further d ds k a more lt f (later (sym (drop_head lists k d ds h).1) e)

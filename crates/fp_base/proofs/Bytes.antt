@@ -21,3 +21,10 @@ bytes_turned s t = same_truth (bytes_eq s t) (bytes_eq t s) (λ e. bytes_same t 
 pub name_bytes : (n : List ℕ) → is_name n ≡ true → list_all is_name_byte n ≡ true
 name_bytes [] h = refl
 name_bytes (b ∷ bs) h = let t = both (is_letter b) (list_all is_name_byte bs) h in join (is_name_byte b) (list_all is_name_byte bs) (or_left (is_letter b) (is_digit b) t.0) t.1
+
+pub differ_bytes : (s t : List ℕ) → (s ≡ t → ⊥) → bytes_eq s t ≡ false
+differ_bytes s t differ = go (bytes_eq s t) refl
+  where
+    go : (b : Bool) → bytes_eq s t ≡ b → bytes_eq s t ≡ false
+    go false e = e
+    go true e = absurd (differ (same_bytes s t e))

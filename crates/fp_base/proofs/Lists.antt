@@ -4,7 +4,7 @@ use Rattle.std.specs.Prelude.{is_some, nat_lt}
 use Rattle.std.specs.List.{AllByRecursion, Contains, list_all, list_any, slice_index_or}
 use Rattle.std.proofs.lemmas.Bool.Decides.{nat_tests}
 use Rattle.std.proofs.lemmas.List.Elements.{All-contains, All-from_recursion, Contains-get_or, recursion_from_All}
-use Rattle.std.proofs.lemmas.List.{drop_all, take_more}
+use Rattle.std.proofs.lemmas.List.{drop_all, take-append-le, take_all, take_more}
 use Rattle.std.proofs.lemmas.Option.{get_or_from_slice_get, slice_get_within}
 use Rattle.fp_base.proofs.Bools.{both}
 use Rattle.fp_base.proofs.Options.{same_some}
@@ -84,6 +84,42 @@ get_along {A = A} k x e h = subst (λ (l : List A). slice_get l k ≡ Some x) e 
 
 pub no_item : {A B : Type 0} (k : ℕ) (x : A) → slice_get [] k ≡ Some x → B
 no_item k x e = absurd (cc)
+
+pub past_end : {A : Type 0} (xs : List A) (k : ℕ) → slice_get xs k ≡ None → length xs ≤ k
+past_end [] k e = omega arith
+past_end (x ∷ xs) zero e = absurd (cc)
+past_end (x ∷ xs) (suc k) e = let l = past_end xs k e in omega arith
+
+pub told_within : {A : Type 0} (xs : List A) (k : ℕ) (x : A) → slice_get xs k ≡ Some x → nat_lt k (length xs) ≡ true
+told_within xs k x h = let low : k < length xs = slice_get_within xs k x h in grind (arith, nat_tests)
+
+pub get_at : {A : Type 0} (xs : List A) (i : ℕ) (x y : A) → i < length xs → x ≡ get_or xs i y → slice_get xs i ≡ Some x
+get_at [] i x y lt is = absurd (omega arith)
+get_at (z ∷ zs) zero x y lt is = ap (λ w. Some w) (sym is)
+get_at (z ∷ zs) (suc i) x y lt is = get_at zs i x y (omega arith) is
+
+pub same_default : {A : Type 0} (xs : List A) (k : ℕ) (d e : A) → k < length xs → get_or xs k d ≡ get_or xs k e
+same_default [] k d e l = absurd (omega arith)
+same_default (x ∷ xs) zero d e l = refl
+same_default (x ∷ xs) (suc k) d e l = same_default xs k d e (omega arith)
+
+pub head_same : {A : Type 0} (x y : A) (xs ys : List A) → x ∷ xs ≡ y ∷ ys → x ≡ y
+head_same x y xs ys e = cc
+
+pub tail_same : {A : Type 0} (x y : A) (xs ys : List A) → x ∷ xs ≡ y ∷ ys → xs ≡ ys
+tail_same x y xs ys e = cc
+
+pub same_joined : {A : Type 0} {x y : A} {xs ys : List A} → x ≡ y → xs ≡ ys → x ∷ xs ≡ y ∷ ys
+same_joined e f = cc
+
+pub drop_head : {A : Type 0} (xs : List A) (n : ℕ) (x : A) (rest : List A) → drop n xs ≡ x ∷ rest → (slice_get xs n ≡ Some x) × (rest ≡ drop (suc n) xs)
+drop_head [] zero x rest h = absurd (cc)
+drop_head [] (suc n) x rest h = absurd (cc)
+drop_head (y ∷ xs) zero x rest h = let here : y ≡ x = cc in let behind : xs ≡ rest = cc in (ap Some here, sym behind)
+drop_head (y ∷ xs) (suc n) x rest h = drop_head xs n x rest h
+
+pub written_back : {A : Type 0} (n : ℕ) (xs ys : List A) → n ≡ length ys → length xs ≡ length ys → take n (xs ++ drop (length xs) ys) ≡ xs
+written_back n xs ys e d = take-append-le n xs (drop (length xs) ys) (omega arith) ∙ take_all n xs (omega arith)
 
 pub one_item : {A : Type 0} {x y : A} (k : ℕ) → slice_get (x ∷ []) k ≡ Some y → x ≡ y
 one_item zero e = same_some e

@@ -13,6 +13,10 @@ map_get f xs k x e = slice_get-map f xs k ∙ ap (λ o. option_map f o) e
 pub get_mapped : {A B : Type 0} (f : A → B) (xs : List A) (k : ℕ) (y : B) → slice_get (map f xs) k ≡ Some y → (x : A) × (slice_get xs k ≡ Some x) × (f x ≡ y)
 get_mapped f xs k y e = mapped_some f (slice_get xs k) y (sym (slice_get-map f xs k) ∙ e)
 
+pub map_itself : {A : Type 0} (xs : List A) → map (λ x. x) xs ≡ xs
+map_itself [] = refl
+map_itself (x ∷ xs) = ap (λ ys. x ∷ ys) (map_itself xs)
+
 pub many_mapped : {A B : Type 0} (f : A → B) (xs : List A) → length (map f xs) ≡ length xs
 many_mapped f xs = length-map xs f
 

@@ -51,7 +51,7 @@ pos_same m n e = cc
 
 -- ---- one number many times
 
-pub get_replicate : (n x k : ℕ) → k < n → slice_get (replicate n x) k ≡ Some x
+pub get_replicate : {A : Type 0} (n : ℕ) (x : A) (k : ℕ) → k < n → slice_get (replicate n x) k ≡ Some x
 get_replicate zero x k h = absurd (omega arith)
 get_replicate (suc n) x zero h = refl
 get_replicate (suc n) x (suc k) h = get_replicate n x k (omega arith)

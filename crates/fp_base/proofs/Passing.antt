@@ -5,7 +5,7 @@ use Rattle.std.proofs.Math.Bool.{or-false}
 use Rattle.std.proofs.lemmas.List.Folds.{list_all-append}
 use Rattle.std.proofs.lemmas.List.Quantifiers.{position-Some}
 use Rattle.std.proofs.lemmas.Option.{get_or_from_slice_get}
-use Rattle.fp_base.proofs.Bools.{join, not_either, or_assoc, or_cases, or_left, or_right}
+use Rattle.fp_base.proofs.Bools.{join, not_either, or_assoc, or_cases, or_left, or_right, both}
 use Rattle.fp_base.proofs.Options.{same_some}
 use Rattle.fp_base.proofs.Spots.{item_below}
 
@@ -43,6 +43,25 @@ any_before p [] n k x low e h = absurd (cc)
 any_before p (y ∷ xs) zero k x low e h = absurd (omega arith)
 any_before p (y ∷ xs) (suc n) zero x low e h = or_left (p y) (list_any p (take n xs)) (ap p (same_some e) ∙ h)
 any_before p (y ∷ xs) (suc n) (suc k) x low e h = or_right (p y) (list_any p (take n xs)) (any_before p xs n k x (omega arith) e h)
+
+pub all_implied : {A : Type 0} (p q : A → Bool) (xs : List A) → ((x : A) → p x ≡ true → q x ≡ true) → list_all p xs ≡ true → list_all q xs ≡ true
+all_implied p q [] f h = refl
+all_implied p q (x ∷ xs) f h = let b = both (p x) (list_all p xs) h in join (q x) (list_all q xs) (f x b.0) (all_implied p q xs f b.1)
+
+pub none_passes : {A : Type 0} (p : A → Bool) (xs : List A) → ((x : A) → p x ≡ false) → list_any p xs ≡ false
+none_passes p [] h = refl
+none_passes p (x ∷ xs) h = rw (h x) (none_passes p xs h)
+
+pub found_before : {A : Type 0} (p : A → Bool) (xs : List A) (k : ℕ) → list_any p (take k xs) ≡ true → (j : ℕ) × (x : A) × (j < k) × (slice_get xs j ≡ Some x) × (p x ≡ true)
+found_before p [] zero h = cc
+found_before p [] (suc k) h = cc
+found_before p (y ∷ xs) zero h = cc
+found_before {A = A} p (y ∷ xs) (suc k) h = go (p y) refl h (λ e. found_before p xs k e)
+  where
+    go : (b : Bool) → p y ≡ b → (b || list_any p (take k xs)) ≡ true → (list_any p (take k xs) ≡ true → (j : ℕ) × (x : A) × (j < k) × (slice_get xs j ≡ Some x) × (p x ≡ true))
+        → (j : ℕ) × (x : A) × (j < suc k) × (slice_get (y ∷ xs) j ≡ Some x) × (p x ≡ true)
+    go true e h rest = (0, y, omega arith, refl, e)
+    go false e h rest = let r = rest h in (suc r.0, r.1, omega (arith, r.2), r.3, r.4)
 
 pub none_mapped : {A B : Type 0} (p : B → Bool) (f : A → B) (xs : List A) → ((k : ℕ) (x : A) → slice_get xs k ≡ Some x → p (f x) ≡ true → ⊥) → not (list_any p (map f xs)) ≡ true
 none_mapped p f [] h = refl

@@ -24,6 +24,13 @@ item_below [] i h = absurd (omega arith)
 item_below (x ∷ xs) zero h = (x, refl)
 item_below (x ∷ xs) (suc i) h = item_below xs i (omega arith)
 
+pub item_beside : {A B : Type 0} (xs : List A) (ys : List B) → length ys ≡ length xs → (k : ℕ) (y : B) → slice_get ys k ≡ Some y → (x : A) × (slice_get xs k ≡ Some x)
+item_beside [] [] same k y e = absurd (cc)
+item_beside [] (z ∷ ys) same k y e = absurd (omega arith)
+item_beside (x ∷ xs) [] same k y e = absurd (cc)
+item_beside (x ∷ xs) (z ∷ ys) same zero y e = (x, refl)
+item_beside (x ∷ xs) (z ∷ ys) same (suc k) y e = item_beside xs ys (omega arith) k y e
+
 pub get_push : {A : Type 0} (xs : List A) (x y : A) (k : ℕ) → slice_get (xs ++ x ∷ []) k ≡ Some y → (slice_get xs k ≡ Some y) ⊎ ((k ≡ length xs) × (x ≡ y))
 get_push [] x y zero e = inr (refl, cc)
 get_push [] x y (suc k) e = cc

@@ -3,6 +3,7 @@ use Rattle.std.proofs.Common.{◌≡◌, ℕ, zero, suc, ◌+◌, ◌≤◌, ◌
 use Rattle.std.proofs.lemmas.List.{append-nil, take_all}
 use Rattle.std.proofs.lemmas.Grind.{flat_map-append}
 use Rattle.std.proofs.lemmas.Option.{slice_get_within}
+use Rattle.fp_base.proofs.Spots.{get_push}
 use Rattle.fp_base.proofs.Lists.{get_last, take_next}
 use Rattle.fp_base.specs.declared.value.Value.{Value}
 use Rattle.fp_base.specs.declared.refusal.Refusal.{Refusal}
@@ -24,17 +25,6 @@ use Rattle.fp_consts.specs.Marked.{AreValues, SomeBroken, AddsMarks, MarksExpres
 use Rattle.fp_consts.proofs.Given.{given_split}
 use Rattle.fp_consts.proofs.Gathering.{stays}
 
--- what stands in a list with one more, by its place
-by_place : {A : Type 0} (xs : List A) (x : A) (k : ℕ) (y : A) → slice_get (xs ++ x ∷ []) k ≡ Some y → (slice_get xs k ≡ Some y) ⊎ ((k ≡ length xs) × (x ≡ y))
-by_place [] x zero y e = inr (refl, cc)
-by_place [] x (suc k) y e = cc
-by_place (z ∷ xs) x zero y e = inl e
-by_place (z ∷ xs) x (suc k) y e = later (by_place xs x k y e)
-  where
-    later : (slice_get xs k ≡ Some y) ⊎ ((k ≡ length xs) × (x ≡ y)) → (slice_get xs k ≡ Some y) ⊎ ((suc k ≡ suc (length xs)) × (x ≡ y))
-    later (inl h) = inl h
-    later (inr t) = inr (ap (λ (n : ℕ). suc n) t.0, t.1)
-
 module _ (source : Source) where
   values_more : (ps : List Placed) (p : Placed) (os : List (Option Value)) (o : Option Value) → AreValues source ps os → IsValue source p.scope (opened p.expression) o
       → AreValues source (ps ++ p ∷ []) (os ++ o ∷ [])
@@ -43,7 +33,7 @@ module _ (source : Source) where
         let one : length (os ++ o ∷ []) ≡ length os + 1 = length-append os (o ∷ []) in
         let other : length (ps ++ p ∷ []) ≡ length ps + 1 = length-append ps (p ∷ []) in
         let same = before.each in omega arith;
-    exact = λ k q r at there. go k q r (by_place ps p k q at) (by_place os o k r there);
+    exact = λ k q r at there. go k q r (get_push ps p q k at) (get_push os o r k there);
   }
     where
       go : (k : ℕ) (q : Placed) (r : Option Value) → (slice_get ps k ≡ Some q) ⊎ ((k ≡ length ps) × (p ≡ q)) → (slice_get os k ≡ Some r) ⊎ ((k ≡ length os) × (o ≡ r))
@@ -68,7 +58,7 @@ module _ (source : Source) where
       split f t (inr same) = inr (subst (λ (x : Placed). BrokenIn source x.scope x.expression f) (sym same.1) t.3)
 
       back : (f : Refusal) → SomeBroken source (ps ++ p ∷ []) f → Either (SomeBroken source ps) (BrokenIn source p.scope p.expression) f
-      back f t = split f t (by_place ps p t.0 t.1 t.2)
+      back f t = split f t (get_push ps p t.1 t.0 t.2)
 
   -- nothing more
   adds_none : (before after : Marking) → after.at ≡ before.at → after.first ≡ before.first → (ms : List Mention) → after.next ≡ before.next + length ms

@@ -2,6 +2,7 @@
 use Rattle.std.proofs.Common.{◌≡◌, ℕ, zero, suc, ◌+◌, ◌<◌, ◌≤◌, zero-le, Bool, true, false, cond, ◌&&◌, ◌||◌, nat_lt, nat_le, Option, Some, None, option_map, option_and_then, is_some, unwrap_or, List, [], ◌∷◌, refl, sym, ap, ◌∙◌, ◌↔◌, arith, ◌⊎◌, inl, inr}
 use Rattle.std.specs.List.{list_any, range_with_len}
 use Rattle.std.proofs.lemmas.Bool.Decides.{nat_tests}
+use Rattle.fp_base.proofs.Passing.{none_passes}
 use Rattle.fp_base.proofs.Options.{mapped_some, then_some, some_of}
 use Rattle.fp_system.proofs.Ended.{ended_stuck, stuck_dues}
 use Rattle.fp_system.proofs.Spent.{spent_stamp}
@@ -34,10 +35,6 @@ none_from p b (suc n) a low high h =
     go : (a ≡ b) ⊎ (b < a) → p b ≡ false → (b < a → p a ≡ false) → p a ≡ false
     go (inl e) here again = rw e here
     go (inr above) here again = again above
-
-none_any : {A : Type 0} (p : A → Bool) (xs : List A) → ((x : A) → p x ≡ false) → list_any p xs ≡ false
-none_any p [] h = refl
-none_any p (x ∷ xs) h = rw (h x) (none_any p xs h)
 
 any_is : {A : Type 0} (p : A → Bool) (xs : List A) → list_any p xs ≡ true → (x : A) × (p x ≡ true)
 any_is p [] h = absurd (cc)
@@ -129,7 +126,7 @@ module _ (t : Described) (program : Program) where
 
   pub ended_ends : (es : List Entry) → IsRun t program es → IsEnded t program es → (f : Finish) × EndsAs t program es f
   ended_ends es run ended =
-      let none = none_any (can_step t program run.0) (actors t program) (can_none run.0 ((ended_dues es run.0 run.1).0 ended)) in
+      let none = none_passes (can_step t program run.0) (actors t program) (can_none run.0 ((ended_dues es run.0 run.1).0 ended)) in
       let f : Finish = cond (list_any (λ e. is_asserted e.what) es) Asserted (cond (list_any (λ a. is_some (next_stamp t program run.0 a)) (actors t program)) Spent (cond (is_complete t program run.0) Complete Stuck)) in
       let is : finish t program es run.0 ≡ Some f = rw none refl in
       (f, (run.0, run.1, is))

@@ -1,10 +1,11 @@
 -- What each piece looks like by its first byte.
-use Rattle.std.proofs.Common.{◌≡◌, ℕ, List, [], ◌∷◌, ◌++◌, slice_get, Some, None, Option, sym, ap, ◌∙◌, arith, suc, zero, refl, cond, true, false, Bool, ◌&&◌, ◌||◌, inl, inr}
+use Rattle.std.proofs.Common.{◌≡◌, ℕ, List, [], ◌∷◌, ◌++◌, Some, None, Option, ap, ◌∙◌, arith, refl, cond, true, false, Bool, ◌&&◌, ◌||◌, inl, inr}
 use Rattle.std.specs.Prelude.{◌==◌}
 use Rattle.std.specs.List.{list_all}
 use Rattle.std.specs.Option.{is_some}
 use Rattle.std.proofs.lemmas.Bool.{eqb-true}
 use Rattle.std.proofs.lemmas.Bool.Decides.{nat_tests}
+use Rattle.fp_base.proofs.Lists.{all_get}
 use Rattle.fp_base.specs.Names.{is_letter, is_digit, is_name_byte, is_name}
 use Rattle.fp_base.proofs.Bools.{and_left, and_right}
 use Rattle.fp_lexer.specs.Words.{words, marks}
@@ -46,12 +47,6 @@ ends b u = cond (is_letter b) (list_all is_name_byte u) (cond (is_digit b) true 
 abbrev pub shape : List ℕ → Bool
 shape [] = false
 shape (b ∷ u) = ends b u
-
--- a test that holds of a whole table holds of each entry
-pub all_at : (p : List ℕ → Bool) (ws : List (List ℕ)) (k : ℕ) (w : List ℕ) → list_all p ws ≡ true → slice_get ws k ≡ Some w → p w ≡ true
-all_at p [] k w a e = cc
-all_at p (x ∷ xs) zero w a e = let h : x ≡ w = cc in ap p (sym h) ∙ and_left _ _ a
-all_at p (x ∷ xs) (suc k) w a e = all_at p xs k w (and_right _ _ a) e
 
 pub digit_no_letter : (b : ℕ) → is_digit b ≡ true → is_letter b ≡ false
 digit_no_letter b e = grind (arith, nat_tests)
@@ -108,9 +103,9 @@ at_equal v w e h = ap shape e ∙ h
 pub shaped : (v : List ℕ) (what : Option Word) → Spelled v what → shape v ≡ true
 shaped v None h = elim h [ inl e ↦ at_equal _ _ e refl | inr h ↦ elim h [ inl e ↦ at_equal _ _ e refl | inr h ↦ elim h [ inl e ↦ at_equal _ _ e refl | inr e ↦ at_equal _ _ e refl ] ] ]
 shaped v (Some (Name s)) h = elim h.1 [ inl e ↦ at_equal _ _ e.0 (name_shape s h.0) | inr e ↦ at_equal _ _ e h.0 ]
-shaped v (Some (Reserved k)) h = all_at shape words k v words_shape h
+shaped v (Some (Reserved k)) h = all_get shape words k v words_shape h
 shaped v (Some (Number n)) h = elim h [ inl e ↦ first_shape v (number_first v e.1) | inr e ↦ first_shape v (hex_first v e.1) ]
-shaped v (Some (Mark k)) h = all_at shape marks k v marks_shape h
+shaped v (Some (Mark k)) h = all_get shape marks k v marks_shape h
 shaped v (Some Newline) h = elim h [ inl e ↦ at_equal _ _ e refl | inr e ↦ at_equal _ _ e refl ]
 shaped v (Some Float) h = first_shape v (float_first v h)
 shaped v (Some (Str s)) h = absurd h

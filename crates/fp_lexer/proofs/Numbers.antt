@@ -5,6 +5,7 @@ use Rattle.std.specs.List.{list_all, prefix_len}
 use Rattle.std.proofs.lemmas.Bool.{eqb-true}
 use Rattle.std.proofs.lemmas.Bool.Decides.{nat_tests}
 use Rattle.std.proofs.lemmas.List.Sums.{prefix_len-le-length}
+use Rattle.fp_base.proofs.Lists.{all_get}
 use Rattle.fp_base.specs.Names.{is_letter, is_digit, is_name_byte, is_name}
 use Rattle.fp_base.proofs.Bools.{and_left, and_right}
 use Rattle.fp_lexer.specs.Bytes.{is_hex_digit}
@@ -14,7 +15,7 @@ use Rattle.fp_lexer.specs.Tokens.{Spelled, IsLongest, IsFloat, is_number, is_hex
 use Rattle.fp_lexer.specs.declared.token.Word.{Word}
 use Rattle.fp_lexer.specs.declared.token.Word.TheVariants.{Name, Reserved, Number, Float, Str, Mark, Newline, Before, After}
 use Rattle.fp_lexer.proofs.Runs.{cond_true}
-use Rattle.fp_lexer.proofs.FirstBytes.{shape, shaped, all_at, digit_first, digit_no_letter}
+use Rattle.fp_lexer.proofs.FirstBytes.{shape, shaped, digit_first, digit_no_letter}
 use Rattle.fp_lexer.proofs.Lined.{IsLead, lead_of}
 use Rattle.fp_lexer.proofs.Longest.{all_le_prefix, prefix_all}
 use Rattle.fp_lexer.proofs.Floats.{number_all, some_number, float_bound, float_digits, float_here, float_size, hex_float}
@@ -53,8 +54,8 @@ numeral_of w None s e = elim s [
 ]
 numeral_of w (Some Newline) s e = elim s [ inl h ↦ literal w (10 ∷ []) _ h refl e | inr h ↦ literal w (13 ∷ 10 ∷ []) _ h refl e ]
 numeral_of w (Some (Name m)) s e = elim s.1 [ inl h ↦ name_no_digit m _ s.0 (sym (ap digit_first h.0) ∙ e) | inr h ↦ literal w (36 ∷ m) _ h refl e ]
-numeral_of w (Some (Reserved k)) s e = not_both (digit_first w) _ (all_at (λ (x : List ℕ). not (digit_first x)) words k w no_digit_words s) e
-numeral_of w (Some (Mark k)) s e = not_both (digit_first w) _ (all_at (λ (x : List ℕ). not (digit_first x)) marks k w no_digit_marks s) e
+numeral_of w (Some (Reserved k)) s e = not_both (digit_first w) _ (all_get (λ (x : List ℕ). not (digit_first x)) words k w no_digit_words s) e
+numeral_of w (Some (Mark k)) s e = not_both (digit_first w) _ (all_get (λ (x : List ℕ). not (digit_first x)) marks k w no_digit_marks s) e
 numeral_of w (Some (Number n)) s e = elim s [ inl p ↦ inl (ap (λ z. Some (Number z)) p.0, p.1) | inr p ↦ inr (inl (ap (λ z. Some (Number z)) p.0, p.1)) ]
 numeral_of w (Some Float) s e = inr (inr (refl, s))
 numeral_of w (Some (Str m)) s e = absurd s

@@ -1,6 +1,7 @@
 -- Where an entry fits, its positions name something and its values have the kinds of their places.
 use Rattle.std.proofs.Common.{◌≡◌, ℕ, Bool, true, false, cond, List, length, Option, Some, None, option_map, option_and_then, unwrap_or, is_some, refl, sym, ap, ◌∙◌, slice_get, nat_lt}
 use Rattle.std.specs.List.{list_all}
+use Rattle.fp_base.proofs.Passing.{all_implied}
 use Rattle.fp_base.proofs.Lists.{get_below}
 use Rattle.fp_tables.specs.Specials.{component}
 use Rattle.fp_base.specs.declared.value.Value.{Value}
@@ -31,7 +32,7 @@ use Rattle.fp_base.proofs.Options.{mapped_some, then_some, some_of}
 use Rattle.fp_logtext.specs.Names.{action_of, vertex_of, signal_of, machine_at, signal_name}
 use Rattle.fp_logtext.specs.Named.{point_is_named, origin_is_named, arrival_is_named, going_is_named, what_is_named}
 use Rattle.fp_logtext.specs.Fitting.{is_of, suit_point, values_fit}
-use Rattle.fp_run_laws.proofs.Lists.{all_implied, mapped_test, some_mapped}
+use Rattle.fp_run_laws.proofs.Lists.{mapped_test, some_mapped}
 use Rattle.fp_run_laws.proofs.Parts.{port_in, command_in, event_in, channel_in, param_in}
 use Rattle.fp_logtext.proofs.Components.{machine_in}
 use Rattle.fp_tables.proofs.Optional.{some_and_of, some_and_at}

@@ -1,5 +1,5 @@
 -- Members gathered by their states, one item after another.
-use Rattle.std.proofs.Common.{◌≡◌, ◌≢◌, ℕ, zero, suc, ◌<◌, ◌⊎◌, Bool, true, false, cond, List, [], ◌∷◌, ◌++◌, length, set, replicate, flat_map, slice_get, Option, Some, None, refl, sym, ap, subst, ◌∙◌, inl, inr, arith, length-set, eq-eqb}
+use Rattle.std.proofs.Common.{◌≡◌, ◌≢◌, ℕ, ◌<◌, ◌⊎◌, Bool, true, false, cond, List, [], ◌∷◌, ◌++◌, length, set, replicate, flat_map, slice_get, Option, Some, None, refl, sym, ap, subst, ◌∙◌, inl, inr, arith, length-set, eq-eqb}
 use Rattle.std.proofs.lemmas.List.{append-nil, length-replicate}
 use Rattle.std.proofs.lemmas.List.Elements.{filter-append}
 use Rattle.std.proofs.lemmas.Grind.{flat_map-append}
@@ -12,7 +12,7 @@ use Rattle.fp_machine_rules.specs.Forms.{IsLaid}
 use Rattle.fp_machine_rules.specs.Members.{members, same_place, name_in, initial_in, move_in}
 use Rattle.fp_machine_rules.specs.Gathered.{parts, with_member, no_parts, AreGathered, HasPlace}
 use Rattle.fp_base.proofs.Spots.{get_set_same, get_set_other, same_or_other}
-use Rattle.fp_base.proofs.Numbers.{number_other}
+use Rattle.fp_base.proofs.Numbers.{number_other, get_replicate}
 
 one_kept : (p : Option ℕ) (x : Item) → same_place p x.parent ≡ true → members (x ∷ []) p ≡ x ∷ []
 one_kept p x e = ap (λ (b : Bool). cond b (x ∷ []) []) e
@@ -78,15 +78,10 @@ module _ (xs : List Item) (x : Item) (n : ℕ) (table : List Parts) (top : Parts
       exact : (v : ℕ) → v < n → slice_get table' v ≡ Some (parts (xs ++ x ∷ []) (Some v))
       exact v lv = ap (λ (t : List Parts). slice_get t v) now ∙ exact_by v lv (same_or_other v q)
 
-get_replicate : {A : Type 0} (n v : ℕ) (x : A) → v < n → slice_get (replicate n x) v ≡ Some x
-get_replicate zero v x h = absurd (omega arith)
-get_replicate (suc n) zero x h = refl
-get_replicate (suc n) (suc v) x h = get_replicate n v x (omega arith)
-
 pub gather_begins : (n : ℕ) (table : List Parts) (top : Parts) → table ≡ replicate n no_parts → top ≡ no_parts → AreGathered [] n table top
 gather_begins n table top t e = record {
   each = ap length t ∙ length-replicate n no_parts;
-  exact = λ v l. ap (λ (ps : List Parts). slice_get ps v) t ∙ get_replicate n v no_parts l;
+  exact = λ v l. ap (λ (ps : List Parts). slice_get ps v) t ∙ get_replicate n no_parts v l;
   own = e;
 }
 

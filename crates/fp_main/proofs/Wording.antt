@@ -3,15 +3,13 @@ use Rattle.std.proofs.Common.{◌≡◌, ◌<◌, ◌≤◌, ◌+◌, ◌==◌, 
 use Rattle.std.proofs.lemmas.Fmt.{decimal_injective}
 use Rattle.std.specs.Str.{bytes_eq}
 use Rattle.std.proofs.lemmas.Slice.Eq.{bytes_eq-Decides}
+use Rattle.fp_base.proofs.Lists.{head_same}
 use Rattle.fp_main.specs.Words.{AsksFor, BeginsForm, IsCheck, IsForm, IsMake, IsRun, IsWrong, Names, NamesTopology, ReadsWords, most_instances, word_of}
 use Rattle.fp_main.specs.declared.words.Command.{Command}
 use Rattle.fp_main.specs.declared.words.TopologyText.{TopologyText}
 use Rattle.fp_main.specs.declared.words.TopologyText.TheVariants.{Connections, Dictionary}
 
 -- ---- lists of words
-
-head_same : (x y : List ℕ) (xs ys : List (List ℕ)) → x ∷ xs ≡ y ∷ ys → x ≡ y
-head_same x y xs ys e = cc
 
 apart : (a b : List ℕ) → bytes_eq a b ≡ false → a ≡ b → ⊥
 apart a b other e = let same : bytes_eq a b ≡ true = (bytes_eq-Decides a b).1 e in cc

@@ -1,13 +1,12 @@
 -- Nodes after one is added, and after one is changed.
-use Rattle.std.proofs.Common.{◌≡◌, ℕ, zero, suc, ◌+◌, ◌<◌, Bool, true, false, cond, List, [], ◌∷◌, ◌++◌, length, set, get_or, slice_get, Some, None, inl, inr, refl, sym, ap, ◌∙◌, arith}
+use Rattle.std.proofs.Common.{◌≡◌, ℕ, zero, suc, ◌+◌, ◌<◌, cond, List, [], ◌∷◌, ◌++◌, length, set, get_or, slice_get, Some, None, inl, inr, refl, sym, ap, ◌∙◌, arith}
 use Rattle.std.specs.HashMap.{get_by_text}
 use Rattle.std.specs.Str.{bytes_eq}
 use Rattle.std.proofs.lemmas.Option.{slice_get_read}
 use Rattle.std.proofs.lemmas.List.{length-set, length-append}
-use Rattle.std.proofs.lemmas.Slice.Eq.{bytes_eq-Decides}
 use Rattle.std.proofs.lemmas.Bool.{cases_eq}
 use Rattle.fp_base.proofs.Spots.{get_set_same, get_set_other}
-use Rattle.fp_base.proofs.Bytes.{bytes_itself}
+use Rattle.fp_base.proofs.Bytes.{bytes_itself, differ_bytes}
 use Rattle.fp_names.specs.declared.tree.Node.{Node}
 use Rattle.fp_names.specs.Tree.{next_of, meaning_of, step, meaning_at, IsLeaf, LeadsOn, Grows}
 
@@ -23,13 +22,6 @@ leaf_meanings [] leaf zero l = l.meaning
 leaf_meanings [] leaf (suc k) l = refl
 leaf_meanings (x ∷ nodes) leaf zero l = refl
 leaf_meanings (x ∷ nodes) leaf (suc k) l = leaf_meanings nodes leaf k l
-
-other_text : (s t : List ℕ) → (t ≡ s → ⊥) → bytes_eq s t ≡ false
-other_text s t d = go (bytes_eq s t) refl
-  where
-    go : (b : Bool) → bytes_eq s t ≡ b → b ≡ false
-    go true e = absurd (d (sym ((bytes_eq-Decides s t).0 e)))
-    go false e = refl
 
 -- a leaf at the end, and a name that leads to it
 pub grows : (old pushed : List Node) (leaf node after : Node) (from to : ℕ) (name key : List ℕ)
@@ -49,7 +41,7 @@ grows old pushed leaf node after from to name key none is l value small leads sa
     | inl e ↦
         let differs : other ≡ key → ⊥ = λ f. apart e (f ∙ same) in
         ap (λ i. step (set pushed from after) i other) e ∙ ap (λ o. next_of o other) (get_set_same pushed from after within) ∙ leads.next other
-        ∙ ap (λ b. cond b (Some to) (get_by_text node.next other)) (other_text key other differs)
+        ∙ ap (λ b. cond b (Some to) (get_by_text node.next other)) (differ_bytes key other (λ e. differs (sym e)))
         ∙ ap (λ o. next_of o other) (sym at) ∙ ap (λ i. step pushed i other) (sym e) ∙ before k other
     | inr d ↦ ap (λ o. next_of o other) (get_set_other pushed from k after d) ∙ before k other
   ];

@@ -1,7 +1,6 @@
 -- Connections that begin with a number where an earlier one does.
-use Rattle.std.proofs.Common.{◌≡◌, ◌∙◌, ap, refl, ℕ, zero, suc, ◌<◌, Bool, true, false, ◌&&◌, ◌||◌, List, [], ◌∷◌, take, Option, None, Some, slice_get, arith}
+use Rattle.std.proofs.Common.{◌≡◌, ◌∙◌, ap, refl, ℕ, Bool, true, false, ◌&&◌, Option, None, Some, arith}
 use Rattle.std.specs.Prelude.{ℤ, ◌==◌}
-use Rattle.std.specs.List.{list_any}
 use Rattle.std.specs.Ordering.{int_eq}
 use Rattle.std.proofs.lemmas.Cmp.{int_eq_equiv}
 use Rattle.std.proofs.lemmas.Int.{ints}
@@ -9,17 +8,6 @@ use Rattle.fp_tables.specs.Lists.{some_and}
 use Rattle.fp_numbering.specs.declared.tips.Tip.{Tip}
 use Rattle.fp_numbering.specs.Ends.{written_number, at_one_port}
 use Rattle.fp_numbering.specs.Faults.{begins_at, repeats}
-
-pub found_any : {A : Type 0} (test : A → Bool) (xs : List A) (k : ℕ) → list_any test (take k xs) ≡ true → (j : ℕ) × (x : A) × (j < k) × (slice_get xs j ≡ Some x) × (test x ≡ true)
-found_any test [] zero h = cc
-found_any test [] (suc k) h = cc
-found_any test (y ∷ xs) zero h = cc
-found_any {A = A} test (y ∷ xs) (suc k) h = go (test y) refl h (λ e. found_any test xs k e)
-  where
-    go : (b : Bool) → test y ≡ b → (b || list_any test (take k xs)) ≡ true → (list_any test (take k xs) ≡ true → (j : ℕ) × (x : A) × (j < k) × (slice_get xs j ≡ Some x) × (test x ≡ true))
-        → (j : ℕ) × (x : A) × (j < suc k) × (slice_get (y ∷ xs) j ≡ Some x) × (test x ≡ true)
-    go true e h rest = (0, y, omega arith, refl, e)
-    go false e h rest = let r = rest h in (suc r.0, r.1, omega (arith, r.2), r.3, r.4)
 
 pub is_begun : (s t : Tip) (z : ℤ) → s.begins ≡ true → at_one_port s t ≡ true → written_number s ≡ Some z → begins_at (t.instance, t.port, z) s ≡ true
 is_begun s t z b p w =

@@ -6,7 +6,7 @@ use Rattle.std.proofs.lemmas.Option.{slice_get-get_or, slice_get_within}
 use Rattle.fp_base.specs.declared.refusal.Refusal.{Refusal}
 use Rattle.fp_base.specs.Least.{IsLeast, IsUnbroken}
 use Rattle.fp_base.proofs.Numbers.{same_number, number_same}
-use Rattle.fp_base.proofs.Passing.{any_before}
+use Rattle.fp_base.proofs.Passing.{any_before, found_before}
 use Rattle.fp_numbering.specs.declared.tips.Tip.{Tip}
 use Rattle.fp_numbering.specs.declared.origins.Origin.{Origin}
 use Rattle.fp_numbering.specs.Ends.{written_number}
@@ -19,7 +19,7 @@ use Rattle.fp_numbering.specs.Faults.{begins_at, IsTwicePlainly, FindsNonePlainl
 use Rattle.fp_numbering.specs.Matched.{BreaksByWalks}
 use Rattle.fp_numbering.specs.Origins.{no_tip, no_origin, IsOrigin, AreOrigins, is_first, lane_tip, settled, port_tip, said_tip, AreMade, AreLanes}
 use Rattle.fp_numbering.proofs.Unique.{one_numbering}
-use Rattle.fp_numbering.proofs.Beginning.{found_any, is_begun, begun_is, repeats_from, repeats_is}
+use Rattle.fp_numbering.proofs.Beginning.{is_begun, begun_is, repeats_from, repeats_is}
 use Rattle.fp_numbering.proofs.Sourcing.{said_by, said_source, output_begins, input_ends}
 use Rattle.fp_numbering.proofs.Walkings.{put_back, tip_same, some_same, number_at, lane_number_at, origin, paired_number, by_walks}
 
@@ -67,7 +67,7 @@ module _ (matches : ℕ → List (ℕ × ℕ)) (ts : List Tip) (os : List Origin
       let y = said_tip (o_at k) t in
       let r = repeats_is (λ q. list_any (begins_at q) (take k ss)) y h.1 in
       let z = r.1.0 in
-      let a = found_any (begins_at (y.instance, y.port, z)) ss k r.1.2 in
+      let a = found_before (begins_at (y.instance, y.port, z)) ss k r.1.2 in
       let j = a.0 in
       let s = get_or ts j no_tip in
       let within = slice_get_within ss j a.1 a.3 in

@@ -1,5 +1,5 @@
 -- One more in a list that has one for each of another.
-use Rattle.std.proofs.Common.{◌≡◌, ◌∙◌, ap, refl, sym, subst, ℕ, zero, suc, ◌+◌, ◌<◌, ◌⊎◌, inl, inr, List, [], ◌∷◌, ◌++◌, length, Some, slice_get, get_or, arith, length-append}
+use Rattle.std.proofs.Common.{◌≡◌, ◌∙◌, ap, sym, subst, ℕ, ◌+◌, ◌<◌, ◌⊎◌, inl, inr, List, [], ◌∷◌, ◌++◌, length, Some, slice_get, get_or, arith, length-append}
 use Rattle.std.proofs.lemmas.Option.{slice_get_within, get_or_from_slice_get}
 use Rattle.fp_base.proofs.Lists.{get_last, get_before}
 
@@ -25,11 +25,6 @@ fills_more {A = A} {B = B} make xs n ys zs d y l fills is made =
         let here : get_or xs n d ≡ x = ap (λ (j : ℕ). get_or xs j d) (sym e) ∙ get_or_from_slice_get xs k x d at in
         ap (λ (j : ℕ). slice_get (ys ++ y ∷ []) j) (e ∙ sym fills.each) ∙ get_last ys y
         ∙ ap (λ (z : B). Some z) (made ∙ ap (λ (j : ℕ). make j (get_or xs n d)) (sym e) ∙ ap (make k) here)
-
-pub same_default : {A : Type 0} (xs : List A) (k : ℕ) (d e : A) → k < length xs → get_or xs k d ≡ get_or xs k e
-same_default [] k d e l = absurd (omega arith)
-same_default (x ∷ xs) zero d e l = refl
-same_default (x ∷ xs) (suc k) d e l = same_default xs k d e (omega arith)
 
 -- of all
 pub filled : {A B : Type 0} (make : ℕ → A → B) (xs : List A) (n : ℕ) (ys : List B) → n ≡ length xs → Fills make xs n ys

@@ -9,14 +9,13 @@ use Rattle.fp_base.specs.declared.rule.Rule.TheVariants.{MatchPairMissing, Match
 use Rattle.fp_base.specs.Least.{IsLeast, broken_at}
 use Rattle.fp_base.proofs.Calculus.{least_if, least_along, least_same}
 use Rattle.fp_base.proofs.Bools.{join, not_true, or_cases, or_left, or_right}
-use Rattle.fp_base.proofs.Passing.{any_before}
+use Rattle.fp_base.proofs.Passing.{any_before, found_before}
 use Rattle.fp_numbering.specs.declared.tips.Tip.{Tip}
 use Rattle.fp_numbering.specs.Pairs.{is_at, are_alike, alike_at}
 use Rattle.fp_numbering.specs.Broken.{IsMissing, IsRepeated}
 use Rattle.fp_numbering.specs.Partners.{is_seen, lacks, is_alone, is_one_more}
 use Rattle.fp_numbering.proofs.Unique.{both_left, both_right}
 use Rattle.fp_numbering.proofs.Keying.{alike_is, alike_back}
-use Rattle.fp_numbering.proofs.Beginning.{found_any}
 
 -- ---- a match among those of a component
 
@@ -131,7 +130,7 @@ module _ (matches : ℕ → List (ℕ × ℕ)) (ts : List Tip) (k : ℕ) (t : Ti
           let u = not_true t.unmatched (both_left (not t.unmatched) (seen (t.instance, t.other, t.port)) front) in
           let there = sym (same (t.instance, t.other, t.port)) ∙ both_right (not t.unmatched) (seen (t.instance, t.other, t.port)) front in
           let m = contained (λ q. is_at q t) (matches t.instance) (both_right (not t.unmatched && seen (t.instance, t.other, t.port)) (list_any (λ q. is_at q t) (matches t.instance)) h.1) in
-          let r = found_any (is_seen (t.instance, t.other, t.port)) ts k there in
+          let r = found_before (is_seen (t.instance, t.other, t.port)) ts k there in
           let a = alike_seen r.1 r.4 u in
           (m.0, r.0, r.1, m.1, m.2, r.2, r.3, a.0, a.1, h.0)
 

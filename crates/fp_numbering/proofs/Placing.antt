@@ -1,5 +1,6 @@
 -- A wire beside its connection: its ports, and its numbers as those of the connection's two ends.
 use Rattle.std.proofs.Common.{◌≡◌, ◌∙◌, ap, refl, sym, ℕ, zero, suc, ◌<◌, List, [], ◌∷◌, map, Option, Some, slice_get, arith}
+use Rattle.fp_base.proofs.Lists.{head_same, tail_same}
 use Rattle.fp_tables.specs.declared.topology.Link.{Link}
 use Rattle.fp_tables.specs.declared.topology.Wire.{Wire}
 use Rattle.fp_tables.specs.declared.model.Model.{Model}
@@ -24,22 +25,16 @@ is_of w l e =
       to_port = ap (λ (x : Ends). x.1.1) e;
     }
 
-same_head : {A : Type 0} (x y : A) (xs ys : List A) → x ∷ xs ≡ y ∷ ys → x ≡ y
-same_head x y xs ys e = cc
-
-same_rest : {A : Type 0} (x y : A) (xs ys : List A) → x ∷ xs ≡ y ∷ ys → xs ≡ ys
-same_rest x y xs ys e = cc
-
 pub beside : (links : List Link) (wires : List Wire) → map ends_of_wire wires ≡ map ends_of_link links → (k : ℕ) (w : Wire) → slice_get wires k ≡ Some w
     → (l : Link) × (slice_get links k ≡ Some l) × IsOf w l
 beside links [] e k w at = absurd (cc)
 beside [] (v ∷ wires) e k w at = absurd (cc)
 beside (l ∷ links) (v ∷ wires) e zero w at =
     let same : v ≡ w = cc in
-    let ends : ends_of_wire v ≡ ends_of_link l = same_head (ends_of_wire v) (ends_of_link l) (map ends_of_wire wires) (map ends_of_link links) e in
+    let ends : ends_of_wire v ≡ ends_of_link l = head_same (ends_of_wire v) (ends_of_link l) (map ends_of_wire wires) (map ends_of_link links) e in
     (l, refl, is_of w l (ap ends_of_wire (sym same) ∙ ends))
 beside (l ∷ links) (v ∷ wires) e (suc k) w at =
-    beside links wires (same_rest (ends_of_wire v) (ends_of_link l) (map ends_of_wire wires) (map ends_of_link links) e) k w at
+    beside links wires (tail_same (ends_of_wire v) (ends_of_link l) (map ends_of_wire wires) (map ends_of_link links) e) k w at
 
 -- ---- the places of the two ends
 

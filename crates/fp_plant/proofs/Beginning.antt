@@ -3,7 +3,7 @@ use Rattle.std.proofs.Common.{◌≡◌, ◌≤◌, ◌<◌, ◌⊎◌, inl, inr
 use Rattle.std.specs.Prelude.{All}
 use Rattle.std.proofs.lemmas.List.{length-append, length-map, map-append}
 use Rattle.std.proofs.lemmas.Option.{slice_get_within}
-use Rattle.fp_base.proofs.Lists.{get_last, same_items}
+use Rattle.fp_base.proofs.Lists.{get_last, same_items, drop_head}
 use Rattle.fp_base.proofs.Options.{same_some}
 use Rattle.fp_base.proofs.Spots.{item_below, push_cases}
 use Rattle.fp_base.proofs.Mapped.{get_mapped}
@@ -21,7 +21,7 @@ use Rattle.fp_plant.specs.Hands.{passing, IsHand, IsOwn}
 use Rattle.fp_plant.specs.Opened.{IsNewPass, AreDealt, AreNewPasses, IsHandOf}
 use Rattle.fp_plant.specs.Planted.{Passing, Handed, AreAll, IsOpened}
 use Rattle.fp_plant.specs.Rows.{EachItem, HasShape, Gets}
-use Rattle.fp_plant.proofs.Dealing.{shape_more, each_more, drop_head, all_push}
+use Rattle.fp_plant.proofs.Dealing.{shape_more, each_more, all_push}
 
 -- the actor of a number at the opening
 abbrev pub opened_acting : Described → Program → ℕ → Acting

@@ -5,6 +5,7 @@ use Rattle.std.specs.List.{slice_index_or}
 use Rattle.std.proofs.Math.Nat.{eq-or-lt_of_le}
 use Rattle.std.proofs.lemmas.List.{length-append, length-set}
 use Rattle.std.proofs.lemmas.Option.{slice_get-get_or, slice_get_within, get_or_from_slice_get}
+use Rattle.fp_base.proofs.Lists.{drop_head}
 use Rattle.fp_base.proofs.Options.{same_some}
 use Rattle.fp_base.proofs.Spots.{item_below, push_cases}
 use Rattle.fp_gate.specs.Passes.{EachAt}
@@ -21,12 +22,6 @@ set_there (x ∷ xs) zero zero y ne = absurd (ne refl)
 set_there (x ∷ xs) zero (suc j) y ne = refl
 set_there (x ∷ xs) (suc i) zero y ne = refl
 set_there (x ∷ xs) (suc i) (suc j) y ne = set_there xs i j y (λ e. ne (ap suc e))
-
-pub drop_head : {A : Type 0} (xs : List A) (n : ℕ) (x : A) (rest : List A) → drop n xs ≡ x ∷ rest → (slice_get xs n ≡ Some x) × (rest ≡ drop (suc n) xs)
-drop_head [] zero x rest h = absurd (cc)
-drop_head [] (suc n) x rest h = absurd (cc)
-drop_head (y ∷ xs) zero x rest h = let here : y ≡ x = cc in let behind : xs ≡ rest = cc in (ap Some here, sym behind)
-drop_head (y ∷ xs) (suc n) x rest h = drop_head xs n x rest h
 
 -- what holds at each place, by the place or by the item that is found there
 pub at_get : {A : Type 0} (P : ℕ → A → Type 0) (xs : List A) (k : ℕ) (x : A) → EachAt P xs → slice_get xs k ≡ Some x → P k x

@@ -5,7 +5,7 @@ use Rattle.std.proofs.Math.Nat.{eq-or-lt_of_le}
 use Rattle.std.proofs.lemmas.List.{length-append, length-map, map-append, take_all}
 use Rattle.std.proofs.lemmas.Option.{slice_get-map, slice_get_within}
 use Rattle.std.proofs.lemmas.Slice.Zip.{firsts-zip}
-use Rattle.fp_base.proofs.Lists.{take_next, same_items}
+use Rattle.fp_base.proofs.Lists.{take_next, same_items, drop_head}
 use Rattle.fp_base.proofs.Options.{same_some}
 use Rattle.fp_base.proofs.Spots.{item_below, push_cases}
 use Rattle.fp_base.proofs.Mapped.{get_mapped}
@@ -32,7 +32,7 @@ use Rattle.fp_plant.specs.Hands.{passing, IsHand, IsOwn}
 use Rattle.fp_plant.specs.Noted.{NotedCell, IsNoted, noted, with_seen, booked, cell_name}
 use Rattle.fp_plant.specs.Planted.{Passing, Handed, Planted, AreAll}
 use Rattle.fp_plant.specs.Rows.{EachItem, HasShape, Extends, Gets}
-use Rattle.fp_plant.proofs.Dealing.{shape_more, each_more, drop_head, at_get, get_at, all_get, gets_of}
+use Rattle.fp_plant.proofs.Dealing.{shape_more, each_more, at_get, get_at, all_get, gets_of}
 
 -- ---- a cell whose passes have come back
 

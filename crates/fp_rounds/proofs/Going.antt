@@ -1,7 +1,8 @@
 -- Work after work, and what it leaves of all hands.
 use Rattle.std.proofs.Common.{◌≡◌, ℕ, List, [], ◌∷◌, ◌++◌, ◌<◌, All, length, map, get_or, slice_index_or, take, drop, refl, ap, sym, ◌∙◌, arith, subst}
-use Rattle.std.proofs.lemmas.List.{length-map, get_or-map, append-nil, take_all, drop_all}
+use Rattle.std.proofs.lemmas.List.{length-map, get_or-map}
 use Rattle.std.proofs.lemmas.Option.{slice_get_within, get_or_from_slice_get, slice_get-get_or}
+use Rattle.fp_base.proofs.Lists.{written_back}
 use base.Growing.{prefix_refl, prefix_trans}
 use Rattle.fp_plant.specs.Planted.{Handed, Planted, Gives, AreAll, Rests}
 use Rattle.fp_rounds.specs.Changed.{EachChanged}
@@ -71,19 +72,13 @@ module _ {A : Type 0} (h : A → Handed) (w : Planted) where
   pub all_worked : (xs ys : List A) (hs ks : List Handed) → map h xs ≡ hs → EachChanged (λ old new. GoesOn w (h old) (h new)) xs ys → ks ≡ map h ys → AreAll w hs → AllGoOn w hs ks
   all_worked xs ys hs ks e p f a = all_went w hs ks a (subst (λ z. EachChanged (GoesOn w) z ks) e (subst (λ z. EachChanged (GoesOn w) (map h xs) z) (sym f) (lifted h w xs ys p)))
 
--- a list whose items were all written over
-refilled : {A : Type 0} (vs new : List A) (n : ℕ) → n ≡ length vs → length new ≡ length vs → take n (new ++ drop (length new) vs) ≡ new
-refilled vs new n full same =
-    let none : drop (length new) vs ≡ [] = drop_all (length new) vs (omega (arith, same)) in
-    ap (λ z. take n (new ++ z)) none ∙ (ap (take n) (append-nil new) ∙ take_all n new (omega (arith, full, same)))
-
 module _ {A : Type 0} (h : A → Handed) (w : Planted) where
   pub all_back : (vs slice new : List A) (n : ℕ) (hs ks : List Handed) → map h vs ≡ hs → slice ≡ vs → n ≡ length vs → EachChanged (λ old new. GoesOn w (h old) (h new)) slice new
       → ks ≡ map h (take n (new ++ drop (length new) vs)) → AreAll w hs → AllGoOn w hs ks
   all_back vs slice new n hs ks e is full p back a =
       let same : length new ≡ length vs = p.0 ∙ ap length is in
-      all_worked h w slice new hs ks (ap (map h) is ∙ e) p (back ∙ ap (map h) (refilled vs new n full same)) a
+      all_worked h w slice new hs ks (ap (map h) is ∙ e) p (back ∙ ap (map h) (written_back n new vs full same)) a
 
 pub ended_back : {A : Type 0} (h : A → Handed) (vs new : List A) (n : ℕ) (ks : List Handed) → n ≡ length vs → length new ≡ length vs → All (λ x. Rests (h x)) new
     → ks ≡ map h (take n (new ++ drop (length new) vs)) → All Rests ks
-ended_back h vs new n ks full same rest back = subst (λ z. All Rests z) (sym (back ∙ ap (map h) (refilled vs new n full same))) (all_rest h new rest)
+ended_back h vs new n ks full same rest back = subst (λ z. All Rests z) (sym (back ∙ ap (map h) (written_back n new vs full same))) (all_rest h new rest)

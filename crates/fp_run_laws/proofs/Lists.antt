@@ -28,12 +28,6 @@ all_in p k (x ∷ xs) h e = go (x == k) refl e (λ found. all_in p k xs (both (p
     go true is found rest = let s : k ≡ x = grind (arith, nat_tests) in ap p s ∙ (both (p x) (list_all p xs) h).0
     go false is found rest = rest found
 
-pub all_implied : {X : Type 0} (p q : X → Bool) (xs : List X) → ((x : X) → p x ≡ true → q x ≡ true) → list_all p xs ≡ true → list_all q xs ≡ true
-all_implied p q [] f h = refl
-all_implied p q (x ∷ xs) f h =
-    let b = both (p x) (list_all p xs) h in
-    join (q x) (list_all q xs) (f x b.0) (all_implied p q xs f b.1)
-
 -- a test of what there is
 pub mapped_test : {X : Type 0} (p : X → Bool) (o : Option X) → unwrap_or (option_map p o) false ≡ some_and p o
 mapped_test p None = refl

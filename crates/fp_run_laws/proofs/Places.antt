@@ -1,11 +1,11 @@
 -- Where the places of a point are, and when what arrives there fits.
-use Rattle.std.proofs.Common.{◌≡◌, ℕ, Bool, true, false, cond, ◌==◌, nat_lt, List, [], ◌∷◌, map, Option, Some, None, option_map, option_and_then, option_to_list, unwrap_or, is_some, refl, sym, ap, ap₂, ◌∙◌, slice_get}
+use Rattle.std.proofs.Common.{◌≡◌, ℕ, Bool, true, false, cond, nat_lt, List, [], map, Option, Some, None, option_map, option_and_then, option_to_list, unwrap_or, is_some, refl, sym, ap, ◌∙◌, slice_get}
 use Rattle.std.specs.List.{position}
 use Rattle.std.specs.Str.{bytes_eq}
+use Rattle.fp_base.proofs.Bytes.{same_bytes}
 use Rattle.fp_tables.specs.Specials.{component, is_special, special_wire}
 use Rattle.fp_base.proofs.Options.{then_some, mapped_some, same_some}
 use Rattle.fp_base.specs.declared.value.Value.{Value}
-use Rattle.fp_base.proofs.Sameness.{nat_same}
 use Rattle.fp_base.proofs.Bools.{both, join}
 use Rattle.fp_base.proofs.Passing.{position_passes}
 use Rattle.fp_tables.specs.Acts as acts
@@ -156,14 +156,6 @@ module _ (t : Described) (program : Program) (sound : IsSoundFor t.model (Some t
       ap (λ (r : Role). components.suits_its_role t.model.ports (record p { role = r })) (sym is)
       ∙ port_sound t.model (components.suits_its_role t.model.ports) i k p sound.0.ports.ports_suit_their_roles found
 
-  bytes_equal : (xs ys : List ℕ) → bytes_eq xs ys ≡ true → xs ≡ ys
-  bytes_equal [] [] h = refl
-  bytes_equal [] (y ∷ ys) h = absurd (cc)
-  bytes_equal (x ∷ xs) [] h = absurd (cc)
-  bytes_equal (x ∷ xs) (y ∷ ys) h =
-      let b = both (x == y) (bytes_eq xs ys) h in
-      ap₂ (λ (a : ℕ) (l : List ℕ). a ∷ l) (nat_same.equal x y b.0) (bytes_equal xs ys b.1)
-
   -- commands are received at ports of a definition of their own
   other_definition : (s : Special) → is_output (role.Special s) ≡ true → bytes_eq (components.definition_of s) (components.definition_of CmdRecv) ≡ true → ⊥
   other_definition CmdRecv h e = cc
@@ -196,8 +188,8 @@ module _ (t : Described) (program : Program) (sound : IsSoundFor t.model (Some t
           let c : r ≡ CmdRecv = received r h in
           let b = some_and_of (λ (d : PortDef). bytes_eq d.name (components.definition_of r)) (components.definition t.model.ports q) (definition_is j n q r there e) in
           let same : a.0 ≡ b.0 = same_some (sym a.1 ∙ ap (λ (o : Option ℕ). option_and_then (slice_get t.model.ports) o) of ∙ b.1) in
-          let x : a.0.name ≡ components.definition_of s = bytes_equal a.0.name (components.definition_of s) a.2 in
-          let y : b.0.name ≡ components.definition_of r = bytes_equal b.0.name (components.definition_of r) b.2 in
+          let x : a.0.name ≡ components.definition_of s = same_bytes a.0.name (components.definition_of s) a.2 in
+          let y : b.0.name ≡ components.definition_of r = same_bytes b.0.name (components.definition_of r) b.2 in
           let z : components.definition_of s ≡ components.definition_of CmdRecv = sym x ∙ ap (λ (d : PortDef). d.name) same ∙ y ∙ ap components.definition_of c in
           absurd (other_definition s (ap is_output (sym is) ∙ out) (ap (λ (l : List ℕ). bytes_eq l (components.definition_of CmdRecv)) z ∙ refl))
         where

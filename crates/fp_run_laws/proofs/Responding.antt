@@ -1,7 +1,7 @@
 -- A wired response port is the port whose wire a response takes.
 use Rattle.std.proofs.Common.{◌≡◌, ℕ, zero, suc, Bool, true, false, cond, not, ◌||◌, ◌+◌, nat_lt, List, [], ◌∷◌, length, Option, Some, None, option_map, option_and_then, is_some, unwrap_or, refl, sym, ap, ◌∙◌, slice_get, arith}
-use Rattle.std.proofs.lemmas.Bool.Decides.{nat_tests}
 use Rattle.std.specs.List.{list_any, filter_map, position, position_or_len}
+use Rattle.fp_base.proofs.Lists.{told_within}
 use Rattle.fp_tables.specs.Components.{same_special}
 use Rattle.fp_base.proofs.Options.{then_some, same_some}
 use Rattle.fp_base.proofs.Bools.{both}
@@ -81,11 +81,6 @@ module _ (s : Special) where
               absurd (clash (list_any (same_special c) (specials ps)) (ap (λ (x : Special). list_any (same_special x) (specials ps)) (sym one) ∙ among ps k p h is) d.0)
           of_special false f d = step false (ap (is_special s) e ∙ f) (later d.1)
 
-below_length : {X : Type 0} (xs : List X) (k : ℕ) (x : X) → slice_get xs k ≡ Some x → nat_lt k (length xs) ≡ true
-below_length [] k x h = absurd (cc)
-below_length (y ∷ xs) zero x h = grind (arith, nat_tests)
-below_length (y ∷ xs) (suc k) x h = let r : nat_lt k (length xs) ≡ true = below_length xs k x h in grind (arith, nat_tests)
-
 module _ (t : Described) (sound : IsSoundFor t.model (Some t.topology)) where
   pub special_wired : (s : Special) (e : End) → has_role t (is_special s) e ≡ true → e.number ≡ 0 → is_some (wire_from t e) ≡ true → is_some (special_wire t e.instance s) ≡ true
   unfolding specials
@@ -95,7 +90,7 @@ module _ (t : Described) (sound : IsSoundFor t.model (Some t.topology)) where
       let parts : component t e.instance ≡ c.0 = ap (λ (o : Option Component). unwrap_or o no_parts) c.1 in
       let differ = of_component t.model components.special_ports_differ e.instance c.0 sound.0.ports.special_ports_differ c.1 in
       let place : position_or_len (λ (p : PortOf). is_special s p.role) c.0.ports ≡ e.port = first_is s c.0.ports e.port p.0 differ c.2 (special_is s p.0.role p.2) in
-      let below : nat_lt (position_or_len (λ (p : PortOf). is_special s p.role) c.0.ports) (length c.0.ports) ≡ true = ap (λ (n : ℕ). nat_lt n (length c.0.ports)) place ∙ below_length c.0.ports e.port p.0 c.2 in
+      let below : nat_lt (position_or_len (λ (p : PortOf). is_special s p.role) c.0.ports) (length c.0.ports) ≡ true = ap (λ (n : ℕ). nat_lt n (length c.0.ports)) place ∙ told_within c.0.ports e.port p.0 c.2 in
       let found : position (λ (p : PortOf). is_special s p.role) c.0.ports ≡ Some e.port =
       ap (λ (b : Bool). cond b (Some (position_or_len (λ (p : PortOf). is_special s p.role) c.0.ports)) None) below ∙ ap Some place in
       let here : position (λ (p : PortOf). is_special s p.role) (component t e.instance).ports ≡ Some e.port = ap (λ (c : Component). position (λ (p : PortOf). is_special s p.role) c.ports) parts ∙ found in

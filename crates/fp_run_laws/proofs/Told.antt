@@ -1,8 +1,8 @@
 -- The frames of a told trace suit.
-use Rattle.std.proofs.Common.{◌≡◌, ◌<◌, ◌↔◌, ℕ, zero, suc, ◌⊎◌, inl, inr, Bool, true, false, cond, ◌&&◌, ◌-◌, nat_lt, List, [], ◌∷◌, ◌++◌, map, length, Option, Some, None, option_map, is_some, is_none, refl, sym, ap, ◌∙◌, subst, slice_get, arith}
+use Rattle.std.proofs.Common.{◌≡◌, ◌<◌, ◌↔◌, ℕ, ◌⊎◌, inl, inr, Bool, true, false, cond, ◌&&◌, ◌-◌, nat_lt, List, [], ◌∷◌, ◌++◌, map, length, Option, Some, None, option_map, is_some, is_none, refl, sym, ap, ◌∙◌, subst, slice_get, arith}
 use Rattle.std.proofs.lemmas.Bool.Decides.{nat_tests}
 use Rattle.fp_base.proofs.Options.{mapped_some, no_some}
-use Rattle.fp_base.proofs.Lists.{all_get, get_below}
+use Rattle.fp_base.proofs.Lists.{all_get, get_below, told_within}
 use Rattle.fp_system.specs.Run.{InTurn, ActorStep, Told}
 use Rattle.fp_base.proofs.Bools.{both}
 use Rattle.fp_tables.specs.Arguments.{nothing_bound}
@@ -37,12 +37,6 @@ use Rattle.fp_run_laws.proofs.Handling.{acts_of_caller}
 use Rattle.fp_run_laws.proofs.TypingDues.{due_fine, none_due}
 use Rattle.fp_run_laws.proofs.Keeping.{keeps, returns}
 
--- what has an item is longer
-within : {X : Type 0} (xs : List X) (a : ℕ) (c : X) → slice_get xs a ≡ Some c → nat_lt a (length xs) ≡ true
-within [] a c h = no_some h
-within (x ∷ xs) zero c h = grind (arith, nat_tests)
-within (x ∷ xs) (suc a) c h = let r : nat_lt a (length xs) ≡ true = within xs a c h in grind (arith, nat_tests)
-
 module _ (t : Described) (program : Program) (sound : IsSoundFor t.model (Some t.topology)) (good : IsSoundProgram t program) where
   -- ---- the opening
 
@@ -75,7 +69,7 @@ module _ (t : Described) (program : Program) (sound : IsSoundFor t.model (Some t
               },
               tt,
             ),
-            (within program.callers a c is, refl, refl),
+            (told_within program.callers a c is, refl, refl),
           )
 
   -- ---- steps
@@ -133,7 +127,7 @@ module _ (t : Described) (program : Program) (sound : IsSoundFor t.model (Some t
     where
       go : (b : Bool) → nat_lt a (callers program) ≡ b → cond b None (slice_get (actives t) (a - callers program)) ≡ Some i → nat_lt a (actor_count t program) ≡ true
       go true e h = no_some h
-      go false e h = let r : nat_lt (a - callers program) (length (actives t)) ≡ true = within (actives t) (a - callers program) i h in grind (arith, nat_tests)
+      go false e h = let r : nat_lt (a - callers program) (length (actives t)) ≡ true = told_within (actives t) (a - callers program) i h in grind (arith, nat_tests)
 
   due_at_once : (a : ℕ) (d : ℕ × Ask) → due_of t program a (first_frames program a) ≡ Some d → nat_lt a (actor_count t program) ≡ true
   due_at_once a d h = go (slice_get program.callers a) refl
@@ -147,7 +141,7 @@ module _ (t : Described) (program : Program) (sound : IsSoundFor t.model (Some t
           first_frames_of : Option Caller → List Frame
           first_frames_of None = []
           first_frames_of (Some c) = record { instance = 0; doing = record { actions = map act c.acts; bound = [] } ∷ []; opened = own } ∷ []
-      go (Some c) is = let r : nat_lt a (callers program) ≡ true = within program.callers a c is in grind (arith, nat_tests)
+      go (Some c) is = let r : nat_lt a (callers program) ≡ true = told_within program.callers a c is in grind (arith, nat_tests)
 
   -- an actor that has something due is one of the program's
   told_counted : (a : ℕ) (es : List Entry) (x : ActorState) (d : ℕ × Ask) → Told (core t program) a es x → due t program a x.thread ≡ Some d → nat_lt a (actor_count t program) ≡ true

@@ -9,7 +9,6 @@ mod OneTurn
 pub mod OnlyGoing
 mod Opened
 pub mod Parts
-mod Placing
 mod Replaying
 mod Stepping
 mod Steps

@@ -3,7 +3,7 @@ use Rattle.std.proofs.Common.{◌≡◌, ℕ, zero, suc, Bool, true, false, cond
 use Rattle.std.specs.Prelude.{find, option_map, unwrap_or}
 use Rattle.std.specs.List.{list_all, list_any}
 use Rattle.std.specs.Str.{bytes_eq}
-use Rattle.std.proofs.lemmas.Slice.Eq.{bytes_eq-Decides}
+use Rattle.fp_base.proofs.Bytes.{same_bytes}
 use Rattle.serde_json.specs.Data as json
 use Rattle.fp_base.specs.Same.{same}
 use Rattle.fp_base.specs.declared.value.Value.{Value, Int, Bool as Truth, Text, Enumerated, Array', Struct', Opaque}
@@ -151,11 +151,8 @@ module _ (types : List TypeDef) where
   given_beside all given (f ∷ fs) (p ∷ ps) are meant h =
       let halves = both (part_has types f p) (all_beside (part_has types) fs ps) h in
       let here = both (bytes_eq p.name f.name) (has types (member_shape types f) p.value) halves.0 in
-      let same_name : p.name ≡ f.name = name_is p.name f.name here.0 in
+      let same_name : p.name ≡ f.name = same_bytes p.name f.name here.0 in
       join _ _ (join _ _ here.0 (part_given all f p given (value_named given p.name) are meant.0 (ap (value_named given) (sym same_name)) here.1)) (given_beside all given fs ps are meant.1 halves.1)
-    where
-      name_is : (a b : List ℕ) → bytes_eq a b ≡ true → a ≡ b
-      name_is a b e = (bytes_eq-Decides a b).0 e
 
 -- ---- all values
 

@@ -1,8 +1,9 @@
 -- Handlers at all their instances, a text at a time.
-use Rattle.std.proofs.Common.{◌≡◌, ◌<◌, ◌≤◌, ◌⊎◌, inl, inr, ℕ, zero, suc, ◌+◌, List, [], ◌∷◌, ◌++◌, length, get_or, take, map, flat_map, Option, Some, None, slice_get, refl, sym, ap, ◌∙◌, subst, arith}
+use Rattle.std.proofs.Common.{◌≡◌, ◌<◌, ◌≤◌, ◌⊎◌, inl, inr, ℕ, ◌+◌, List, [], ◌∷◌, ◌++◌, length, get_or, take, map, flat_map, Option, Some, None, slice_get, refl, sym, ap, ◌∙◌, subst, arith}
 use Rattle.std.proofs.lemmas.List.{take_more, take_all, map-append, length-map}
 use Rattle.std.proofs.lemmas.Option.{slice_get_within}
 use Rattle.std.specs.BTreeSet.{BTreeSet}
+use Rattle.fp_base.proofs.Lists.{get_at}
 use Rattle.fp_base.proofs.Options.{same_some}
 use Rattle.fp_base.proofs.Spots.{below_or_at}
 use Rattle.fp_tables.specs.Lookup.{Described}
@@ -14,11 +15,6 @@ use Rattle.fp_scenario_check.proofs.Beside.{as_many}
 use Rattle.fp_scenario_check.specs.Faults.{IdleFault, counts}
 use Rattle.fp_scenario_check.specs.Keys.{Owned, AreOwned}
 use Rattle.fp_scenario_check.proofs.Pairing.{beside_flat, beside_flat_whole}
-
-pub here_at : {A : Type 0} (xs : List A) (i : ℕ) (x y : A) → i < length xs → x ≡ get_or xs i y → slice_get xs i ≡ Some x
-here_at [] i x y lt is = absurd (omega arith)
-here_at (z ∷ zs) zero x y lt is = ap (λ w. Some w) (sym is)
-here_at (z ∷ zs) (suc i) x y lt is = here_at zs i x y (omega arith) is
 
 abbrev pub at_one : HandlerText → ℕ → HandlerText × ℕ
 at_one h i = (h, i)
@@ -57,7 +53,7 @@ module _ (t : Described) (owned : BTreeSet Owned) (texts : List HandlerText) whe
       by_place : (scenario : Scenario) → AreOwned t scenario owned → Handles scenario at handlers ks → (n : ℕ) (g : HandlerText) → slice_get texts n ≡ Some g → (n < at) ⊎ (n ≡ at) → IdleFault t g (stands_for t scenario g) → ⊥
       by_place scenario owns h n g found (inl lt) = h.known n g lt found
       by_place scenario owns h n g found (inr same) =
-          let one : x ≡ g = same_some (sym (here_at texts at x y within is) ∙ ap (slice_get texts) (sym same) ∙ found) in
+          let one : x ≡ g = same_some (sym (get_at texts at x y within is) ∙ ap (slice_get texts) (sym same) ∙ found) in
           subst (λ z. IdleFault t z (stands_for t scenario z) → ⊥) one (knows scenario owns)
 
   pub handles_whole : (at : ℕ) (handlers : List Handler) (ks : List ℕ) → length texts ≤ at → HandlesAll at handlers ks → (scenario : Scenario) → AreOwned t scenario owned

@@ -1,9 +1,10 @@
 -- The text that gave a handler of the program, by how many each text gave.
 use Rattle.std.proofs.Common.{◌≡◌, ◌<◌, ◌≤◌, ◌-◌, ◌+◌, ℕ, zero, suc, List, [], ◌∷◌, ◌++◌, length, drop, get_or, length-append, map, flat_map, replicate, Some, slice_get, refl, sym, ap, ap₂, ◌∙◌, subst, arith}
 use Rattle.std.proofs.lemmas.List.{length-map}
+use Rattle.fp_base.proofs.Spots.{item_beside}
 use Rattle.fp_base.specs.declared.rule.Rule.{Rule}
 use Rattle.fp_base.specs.declared.rule.Rule.TheVariants.{SynchronousCycle, LockCycle}
-use Rattle.fp_base.proofs.Lists.{drop_over}
+use Rattle.fp_base.proofs.Lists.{drop_over, same_default}
 use Rattle.fp_base.proofs.Options.{no_some, same_some}
 use Rattle.fp_tables.specs.Lookup.{Described}
 use Rattle.fp_tables.specs.declared.program.Handler.{Handler}
@@ -37,13 +38,8 @@ past_count (suc k) n ys (suc i) j e = let same : i ≡ k + j = omega (arith, e) 
 abbrev pub Leaves : List ℕ → ℕ → ℕ → ℕ → Type 0
 Leaves ks handler at left = (m : ℕ) → slice_get (texts_counted 0 ks) handler ≡ Some m → slice_get (texts_counted at (drop at ks)) left ≡ Some m
 
-same_item : (ks : List ℕ) (at d e : ℕ) → at < length ks → get_or ks at d ≡ get_or ks at e
-same_item [] at d e lt = absurd (omega arith)
-same_item (k ∷ ks) zero d e lt = refl
-same_item (k ∷ ks) (suc at) d e lt = same_item ks at d e (omega arith)
-
 counted_at : (ks : List ℕ) (at k d : ℕ) → at < length ks → k ≡ get_or ks at d → texts_counted at (drop at ks) ≡ replicate k at ++ texts_counted (at + 1) (drop (at + 1) ks)
-counted_at ks at k d lt is = ap (texts_counted at) (dropped ks at k lt (is ∙ same_item ks at d k lt)) ∙ ap (λ n. replicate k at ++ texts_counted n (drop (at + 1) ks)) (one_more at)
+counted_at ks at k d lt is = ap (texts_counted at) (dropped ks at k lt (is ∙ same_default ks at d k lt)) ∙ ap (λ n. replicate k at ++ texts_counted n (drop (at + 1) ks)) (one_more at)
   where
     one_more : (n : ℕ) → suc n ≡ n + 1
     one_more n = omega arith
@@ -81,16 +77,10 @@ module _ (t : Described) (scenario : Scenario) where
       ∙ ap₂ (λ (x y : ℕ). x + y) (length-map (stands_for t scenario h) (λ (i : ℕ). n) ∙ sym (length-map (stands_for t scenario h) (at_one h))) (as_many_texts (suc n) hs)
       ∙ sym (length-append (at_each t scenario h) (flat_map (at_each t scenario) hs))
 
-  found_too : {A B : Type 0} (xs : List A) (ys : List B) (n : ℕ) (x : A) → length xs ≡ length ys → slice_get xs n ≡ Some x → (y : B) × (slice_get ys n ≡ Some y)
-  found_too [] ys n x same found = absurd cc
-  found_too (a ∷ as_) [] n x same found = absurd (omega (arith, same))
-  found_too (a ∷ as_) (b ∷ bs) zero x same found = (b, refl)
-  found_too (a ∷ as_) (b ∷ bs) (suc n) x same found = found_too as_ bs n x (omega (arith, same)) found
-
   text_of_handler : (program : Program) (n : ℕ) (h : Handler) → Planned t scenario program → slice_get program.handlers n ≡ Some h → (m : ℕ) × (slice_get (texts_from t scenario 0 scenario.handlers) n ≡ Some m)
   text_of_handler program n h planned found =
-      found_too program.handlers (texts_from t scenario 0 scenario.handlers) n h
-      (as_many (PlansHandler t) (pairs t scenario) program.handlers planned.handlers ∙ sym (as_many_texts 0 scenario.handlers)) found
+      item_beside (texts_from t scenario 0 scenario.handlers) program.handlers
+      (as_many (PlansHandler t) (pairs t scenario) program.handlers planned.handlers ∙ sym (as_many_texts 0 scenario.handlers)) n h found
 
 -- ---- stops at an action on a cycle
 

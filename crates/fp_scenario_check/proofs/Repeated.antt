@@ -5,7 +5,7 @@ use Rattle.std.specs.List.{list_any}
 use Rattle.fp_base.proofs.Lists.{get_within, take_next}
 use Rattle.fp_base.proofs.Spots.{below_or_at}
 use Rattle.fp_base.proofs.Bools.{and_true}
-use Rattle.fp_base.proofs.Passing.{any_pushed, any_before}
+use Rattle.fp_base.proofs.Passing.{any_pushed, any_before, found_before}
 use Rattle.fp_base.proofs.KeySets.{none_held}
 use Rattle.fp_tables.specs.Lists.{some_and}
 use Rattle.fp_tables.proofs.Optional.{some_and_of}
@@ -15,24 +15,6 @@ use Rattle.fp_scenario.specs.declared.scenario.HandlerText.{HandlerText}
 use Rattle.fp_scenario_check.specs.Planned.{IsRepeated, same_caller, same_guard, same_handler}
 use Rattle.fp_scenario_check.specs.Keys.{IsRepeat, Key, key_cmp, same_key, texts_of}
 use Rattle.fp_scenario_check.proofs.Keyed.{key_by_texts, same_texts}
-
-zero_below : (n : ℕ) → 0 < suc n
-zero_below n = omega arith
-
-suc_below : (m n : ℕ) → m < n → suc m < suc n
-suc_below m n low = omega arith
-
--- what passes among the first so many stands at a place below
-found_before : {A : Type 0} (p : A → Bool) (xs : List A) (n : ℕ) → list_any p (take n xs) ≡ true → (m : ℕ) × (m < n) × (x : A) × (slice_get xs m ≡ Some x) × (p x ≡ true)
-found_before p [] zero h = absurd (cc)
-found_before p [] (suc n) h = absurd (cc)
-found_before p (x ∷ xs) zero h = absurd (cc)
-found_before {A = A} p (x ∷ xs) (suc n) h = go (p x) refl (found_before p xs n) h
-  where
-    go : (b : Bool) → p x ≡ b → (list_any p (take n xs) ≡ true → (m : ℕ) × (m < n) × (y : A) × (slice_get xs m ≡ Some y) × (p y ≡ true)) → (b || list_any p (take n xs)) ≡ true
-        → (m : ℕ) × (m < suc n) × (y : A) × (slice_get (x ∷ xs) m ≡ Some y) × (p y ≡ true)
-    go true is rest e = (0, zero_below n, x, refl, is)
-    go false is rest e = let r = rest e in (suc r.0, suc_below r.0 n r.1, r.2, r.3, r.4)
 
 -- ---- the keys that were seen
 
@@ -48,7 +30,7 @@ module _ (keys : List Key) where
   repeats_now : (n : ℕ) (k : Key) → slice_get keys n ≡ Some k → list_any (λ j. same_key j k) (take n keys) ≡ true → IsRepeated same_key keys n
   repeats_now n k at h =
       let r = found_before (λ j. same_key j k) keys n h in
-      (r.0, r.1, ap (some_and (λ (x : Key). some_and (λ (y : Key). same_key x y) (slice_get keys n))) r.3 ∙ ap (some_and (λ (y : Key). same_key r.2 y)) at ∙ r.4)
+      (r.0, r.2, ap (some_and (λ (x : Key). some_and (λ (y : Key). same_key x y) (slice_get keys n))) r.3 ∙ ap (some_and (λ (y : Key). same_key r.1 y)) at ∙ r.4)
 
   repeat_seen : (n : ℕ) (k : Key) → slice_get keys n ≡ Some k → IsRepeated same_key keys n → list_any (λ j. same_key j k) (take n keys) ≡ true
   repeat_seen n k at r =

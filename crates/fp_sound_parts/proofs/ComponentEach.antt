@@ -2,23 +2,17 @@
 use Rattle.std.proofs.Common.{◌≡◌, ℕ, zero, suc, ◌<◌, Bool, true, List, [], ◌∷◌, length, map, Some, refl, ap₂, arith}
 use Rattle.std.specs.Prelude.{slice_get}
 use Rattle.std.specs.List.{list_all}
+use Rattle.fp_base.proofs.Spots.{item_beside}
 use Rattle.fp_base.proofs.Passing.{all_items}
 use Rattle.fp_components.specs.Resolved.{AreEach}
 use Rattle.fp_sound_parts.proofs.Lists.{AreApart}
 
-there : {A B : Type 0} (xs : List A) (ys : List B) → length ys ≡ length xs → (k : ℕ) (y : B) → slice_get ys k ≡ Some y → (x : A) × (slice_get xs k ≡ Some x)
-there [] [] same k y e = absurd (cc)
-there [] (z ∷ ys) same k y e = absurd (omega arith)
-there (x ∷ xs) [] same k y e = absurd (cc)
-there (x ∷ xs) (z ∷ ys) same zero y e = (x, refl)
-there (x ∷ xs) (z ∷ ys) same (suc k) y e = there xs ys (omega arith) k y e
-
 module _ {A B : Type 0} (is : ℕ → A → B → Type 0) (xs : List A) (ys : List B) (h : AreEach is xs ys) where
   pub beside : (k : ℕ) (y : B) → slice_get ys k ≡ Some y → (x : A) × (slice_get xs k ≡ Some x) × is k x y
-  beside k y e = let t = there xs ys h.each k y e in (t.0, t.1, h.at k t.0 y t.1 e)
+  beside k y e = let t = item_beside xs ys h.each k y e in (t.0, t.1, h.at k t.0 y t.1 e)
 
   pub across : (k : ℕ) (x : A) → slice_get xs k ≡ Some x → (y : B) × (slice_get ys k ≡ Some y) × is k x y
-  across k x e = let same : length xs ≡ length ys = omega (arith, h.each) in let t = there ys xs same k x e in (t.0, t.1, h.at k x t.0 e t.1)
+  across k x e = let same : length xs ≡ length ys = omega (arith, h.each) in let t = item_beside ys xs same k x e in (t.0, t.1, h.at k x t.0 e t.1)
 
   pub all_beside : (test : B → Bool) → ((k : ℕ) (x : A) (y : B) → slice_get xs k ≡ Some x → is k x y → test y ≡ true) → list_all test ys ≡ true
   all_beside test good = all_items test ys (λ k y e. let t = beside k y e in good k t.0 y t.1 t.2)

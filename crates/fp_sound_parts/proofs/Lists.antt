@@ -2,6 +2,7 @@
 use Rattle.std.proofs.Common.{◌≡◌, ℕ, zero, suc, ◌+◌, ◌<◌, Bool, true, false, not, ◌==◌, cond, List, [], ◌∷◌, map, Option, Some, None, refl, ap, ap₂, ◌∙◌, sym, arith}
 use Rattle.std.specs.Prelude.{slice_get}
 use Rattle.std.specs.List.{cons_option, filter, filter_map, list_any}
+use Rattle.fp_base.proofs.Mapped.{map_itself}
 use Rattle.fp_base.proofs.Bools.{join, not_either}
 use Rattle.fp_base.proofs.Options.{same_some}
 use Rattle.fp_base.proofs.Numbers.{same_number}
@@ -65,13 +66,9 @@ number_at first zero k n e = absurd (cc)
 number_at first (suc count) zero n e = let same : first ≡ n = same_some e in omega arith
 number_at first (suc count) (suc k) n e = let same : n ≡ suc first + k = number_at (suc first) count k n e in omega arith
 
-mapped_itself : {A : Type 0} (xs : List A) → map (λ x. x) xs ≡ xs
-mapped_itself [] = refl
-mapped_itself (x ∷ xs) = ap (λ ys. x ∷ ys) (mapped_itself xs)
-
 pub numbers_differ_from : (first count : ℕ) → numbers_differ (numbers_from first count) ≡ true
 numbers_differ_from first count =
-    ap numbers_differ (sym (mapped_itself (numbers_from first count)))
+    ap numbers_differ (sym (map_itself (numbers_from first count)))
     ∙ mapped_apart (λ m n. m == n) (λ n. n) (numbers_from first count)
     (λ j k m n low d e same.
     let a : m ≡ first + j = number_at first count j m d in

@@ -5,6 +5,7 @@ use Rattle.std.proofs.lemmas.List.{length-map}
 use Rattle.std.proofs.lemmas.Option.{slice_get-map}
 use Rattle.std.proofs.Math.Bool.{and_comm}
 use Rattle.std.specs.List.{list_any, slice_get}
+use Rattle.fp_base.proofs.Passing.{none_passes}
 use Rattle.fp_tables.specs.Lists.{all_from, some_and}
 use Rattle.fp_tables.specs.Types.{form_at, kinds_in, uses_constants, is_last, begins_chain}
 use Rattle.fp_sound_types.specs.Marks.{is_marked, uses_marked}
@@ -13,10 +14,6 @@ use Rattle.fp_tables.specs.declared.kind.Kind.TheVariants.{Named}
 use Rattle.fp_tables.specs.declared.kind.Form.{Form}
 use Rattle.fp_tables.specs.declared.kind.TypeDef.{TypeDef}
 use Rattle.fp_base.proofs.Lists.{any_same}
-
-any_none : {X : Type 0} (f : X → Bool) → ((x : X) → f x ≡ false) → (xs : List X) → list_any f xs ≡ false
-any_none f none [] = refl
-any_none f none (x ∷ xs) = rw (none x) (any_none f none xs)
 
 pub any_map : {X Y : Type 0} (f : Y → Bool) (h : X → Y) (xs : List X) → list_any (λ x. f (h x)) xs ≡ list_any f (map h xs)
 any_map f h [] = refl
@@ -112,7 +109,7 @@ module _ (types : List TypeDef) where
     where
       go : (o : Option Form) → some_and (λ f. list_any (begins_chain types (suc n)) (kinds_in f)) o ≡ false
       go None = refl
-      go (Some f) = any_none (begins_chain types (suc n)) none (kinds_in f)
+      go (Some f) = none_passes (begins_chain types (suc n)) (kinds_in f) none
   none_longer n none _ = refl
 
   none_later : (more n : ℕ) → ((k : Kind) → begins_chain types n k ≡ false) → (k : Kind) → begins_chain types (more + n) k ≡ false

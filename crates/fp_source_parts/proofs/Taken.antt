@@ -1,5 +1,6 @@
 -- What is read of the elements of a machine.
 use Rattle.std.proofs.Common.{◌≡◌, ℕ, suc, List, [], ◌∷◌, Option, Some, None, refl, sym, ap, subst, ◌∙◌}
+use Rattle.fp_base.proofs.Lists.{same_joined}
 use Rattle.fp_base.specs.declared.value.Value.{Value}
 use Rattle.fp_tree.specs.declared.machine.BehaviorElement.{BehaviorElement}
 use Rattle.fp_tree.specs.declared.machine.ElementForm.{ElementForm}
@@ -44,9 +45,6 @@ module _ (source : Source) (scope : Path) where
   one_form (element.Entry t) j k h i = h ∙ sym i
   one_form (element.Exit t) j k h i = h ∙ sym i
 
-  both : {A : Type 0} (x y : A) (xs ys : List A) → x ≡ y → xs ≡ ys → x ∷ xs ≡ y ∷ ys
-  both x y xs ys e f = cc
-
   abbrev AllFrom : ℕ → List BehaviorElement → List (Option Kind) → Type 0
   AllFrom n es ks = AllAt (λ position. Declares source scope) n es ks
 
@@ -56,7 +54,7 @@ module _ (source : Source) (scope : Path) where
   one_from n [] [] (k ∷ ks) h i = absurd i
   one_from n (e ∷ es) [] ks h i = absurd h
   one_from n (e ∷ es) (j ∷ js) [] h i = absurd i
-  one_from n (e ∷ es) (j ∷ js) (k ∷ ks) h i = both j k js ks (one_form e.form j k h.0 i.0) (one_from (suc n) es js ks h.1 i.1)
+  one_from n (e ∷ es) (j ∷ js) (k ∷ ks) h i = same_joined (one_form e.form j k h.0 i.0) (one_from (suc n) es js ks h.1 i.1)
 
   pub one_declared : (es : List BehaviorElement) (js ks : List (Option Kind)) → DeclareAll source scope es js → DeclareAll source scope es ks → js ≡ ks
   one_declared es js ks h i = one_from 0 es js ks h i

@@ -3,6 +3,7 @@ use Rattle.std.proofs.Common.{◌≡◌, ℕ, Bool, true, false, cond, ◌&&◌,
 use Rattle.std.specs.Prelude.{◌==◌}
 use Rattle.std.specs.List.{list_all}
 use Rattle.std.proofs.lemmas.Bool.Decides.{nat_tests}
+use Rattle.fp_base.proofs.Lists.{head_same, tail_same, same_joined}
 use Rattle.fp_base.proofs.Bools.{both, or_left}
 use Rattle.fp_base.proofs.Bytes.{name_bytes}
 use Rattle.fp_base.specs.Names.{is_digit, is_letter, is_name, is_name_byte}
@@ -61,30 +62,18 @@ dotted_qualified (n ∷ ns) h some = let t = both (is_name n) (list_all is_name 
 
 -- ---- and gives back what was joined
 
-head_same : {x y : ℕ} {xs ys : List ℕ} → x ∷ xs ≡ y ∷ ys → x ≡ y
-head_same e = cc
-
-tail_same : {x y : ℕ} {xs ys : List ℕ} → x ∷ xs ≡ y ∷ ys → xs ≡ ys
-tail_same e = cc
-
-joined_same : {x y : ℕ} {xs ys : List ℕ} → x ≡ y → xs ≡ ys → x ∷ xs ≡ y ∷ ys
-joined_same e g = cc
-
-names_same : {m n : List ℕ} {ms ns : Path} → m ≡ n → ms ≡ ns → m ∷ ms ≡ n ∷ ns
-names_same e g = cc
-
 -- what begins with a byte of a name begins no rest
 not_rest : {A : Type 0} (b : ℕ) (bs : List ℕ) (ns : Path) → is_name_byte b ≡ true → rest_of ns ≡ b ∷ bs → A
 not_rest b bs [] h e = absurd (cc)
-not_rest b bs (n ∷ ns) h e = absurd (no_dot_named (subst (λ (x : ℕ). is_name_byte x ≡ true) (sym (head_same e)) h))
+not_rest b bs (n ∷ ns) h e = absurd (no_dot_named (subst (λ (x : ℕ). is_name_byte x ≡ true) (sym (head_same _ _ _ _ e)) h))
 
 one_name : (a b : List ℕ) (ns ms : Path) → list_all is_name_byte a ≡ true → list_all is_name_byte b ≡ true → a ++ rest_of ns ≡ b ++ rest_of ms → (a ≡ b) × (rest_of ns ≡ rest_of ms)
 one_name [] [] ns ms h k e = (refl, e)
 one_name [] (y ∷ b) ns ms h k e = not_rest y (b ++ rest_of ms) ns (both (is_name_byte y) (list_all is_name_byte b) k).0 e
 one_name (x ∷ a) [] ns ms h k e = not_rest x (a ++ rest_of ns) ms (both (is_name_byte x) (list_all is_name_byte a) h).0 (sym e)
 one_name (x ∷ a) (y ∷ b) ns ms h k e =
-    let t = one_name a b ns ms (both (is_name_byte x) (list_all is_name_byte a) h).1 (both (is_name_byte y) (list_all is_name_byte b) k).1 (tail_same e) in
-    (joined_same (head_same e) t.0, t.1)
+    let t = one_name a b ns ms (both (is_name_byte x) (list_all is_name_byte a) h).1 (both (is_name_byte y) (list_all is_name_byte b) k).1 (tail_same _ _ _ _ e) in
+    (same_joined (head_same _ _ _ _ e) t.0, t.1)
 
 same_rests : (ns ms : Path) → list_all is_name ns ≡ true → list_all is_name ms ≡ true → rest_of ns ≡ rest_of ms → ns ≡ ms
 same_rests [] [] h k e = refl
@@ -93,8 +82,8 @@ same_rests (n ∷ ns) [] h k e = absurd (cc)
 same_rests (n ∷ ns) (m ∷ ms) h k e =
     let s = both (is_name n) (list_all is_name ns) h in
     let t = both (is_name m) (list_all is_name ms) k in
-    let u = one_name n m ns ms (name_bytes n s.0) (name_bytes m t.0) (tail_same e) in
-    names_same u.0 (same_rests ns ms s.1 t.1 u.1)
+    let u = one_name n m ns ms (name_bytes n s.0) (name_bytes m t.0) (tail_same _ _ _ _ e) in
+    same_joined {A = List ℕ} u.0 (same_rests ns ms s.1 t.1 u.1)
 
 starts : {A : Type 0} (n : List ℕ) (rest : List ℕ) → is_name n ≡ true → [] ≡ n ++ rest → A
 starts [] rest h e = absurd (cc)
@@ -108,4 +97,4 @@ dotted_same (n ∷ ns) (m ∷ ms) h k e =
     let s = both (is_name n) (list_all is_name ns) h in
     let t = both (is_name m) (list_all is_name ms) k in
     let u = one_name n m ns ms (name_bytes n s.0) (name_bytes m t.0) e in
-    names_same u.0 (same_rests ns ms s.1 t.1 u.1)
+    same_joined {A = List ℕ} u.0 (same_rests ns ms s.1 t.1 u.1)

@@ -4,6 +4,7 @@ use Rattle.std.specs.Prelude.{max, nat_le, sum}
 use Rattle.std.specs.List.{AllByRecursion}
 use Rattle.std.proofs.lemmas.Bool.Decides.{nat_tests}
 use Rattle.std.proofs.lemmas.List.Sums.{sum_by-cons}
+use Rattle.fp_base.proofs.Lists.{same_joined}
 use Rattle.fp_base.proofs.Bools.{join}
 use Rattle.fp_base.proofs.Numbers.{suc_is}
 use Rattle.fp_base.proofs.Texts.{items_of, parts_of}
@@ -121,9 +122,6 @@ one_leaf v a b c d = record { same_leaves = a ∙ sym c; same_levels = b ∙ sym
 at_most : (a b n : ℕ) → a ≡ b → b ≤ n → a ≤ n
 at_most a b n e h = omega arith
 
-both_counted : {x y : ℕ} {xs ys : List ℕ} → x ≡ y → xs ≡ ys → x ∷ xs ≡ y ∷ ys
-both_counted e g = cc
-
 counted_as : (v : Value) → leaves v ≡ meaning.leaves v → levels v ≡ meaning.levels v → IsWithinSize v → IsCounted v
 counted_as v a b size =
     record { same_leaves = a; same_levels = b; few = at_most (leaves v) (meaning.leaves v) 65536 a size.of_leaves; low = at_most (levels v) (meaning.levels v) 64 b size.of_levels }
@@ -169,7 +167,7 @@ module _ (source : Source) where
     all_counted scope es vs (more {v = v} {vs = ws} h hs) =
         let one = counted _ _ v h in
         let rest = all_counted _ _ ws hs in
-        record { all_leaves = both_counted one.same_leaves rest.all_leaves; all_levels = both_counted one.same_levels rest.all_levels }
+        record { all_leaves = same_joined one.same_leaves rest.all_leaves; all_levels = same_joined one.same_levels rest.all_levels }
 
 tested : (n most : ℕ) → n ≤ most → nat_le n most ≡ true
 tested n most h = grind (arith, nat_tests)

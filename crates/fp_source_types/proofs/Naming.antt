@@ -3,6 +3,7 @@ use Rattle.std.proofs.Common.{◌≡◌, ℕ, suc, ◌+◌, ◌<◌, ◌⊎◌, 
 use Rattle.std.specs.List.{list_all}
 use Rattle.std.proofs.lemmas.Option.{slice_get-map}
 use Rattle.std.proofs.Math.Nat.{add-zero}
+use Rattle.fp_base.proofs.Mapped.{get_mapped}
 use Rattle.fp_base.proofs.Bools.{both, join}
 use Rattle.fp_base.proofs.Passing.{all_items}
 use Rattle.fp_base.specs.declared.rule.Rule.TheVariants.{DefinedTwice}
@@ -41,7 +42,7 @@ use Rattle.fp_source_types.proofs.Dotted.{dotted_qualified, dotted_same}
 use Rattle.fp_source_types.proofs.Named.{enumeration_listed, sited, there}
 use Rattle.fp_source_types.proofs.Related.{related_at}
 use Rattle.fp_source_types.proofs.Standing.{before}
-use Rattle.fp_source_types.proofs.WellMade.{differ, named_back}
+use Rattle.fp_source_types.proofs.WellMade.{differ}
 
 last_of : {A : Type 0} (p : A → Bool) (xs : List A) (x : A) → list_all p (xs ++ x ∷ []) ≡ true → p x ≡ true
 last_of p [] x h = (both (p x) true h).0
@@ -94,8 +95,8 @@ module _ (source : Source) (ts : List TypeDef) (of : AreTypesOf source (map (λ 
   pub names_differ : IsUnbroken (BrokenByDefinitions source) → DefinitionsAreNamed source → texts_differ (map (λ (d : TypeDef). d.name) ts) ≡ true
   names_differ once named =
       differ (map (λ (d : TypeDef). d.name) ts) (λ i j n low e f.
-      let a = named_back (λ (d : TypeDef). d.name) ts i n e in
-      let b = named_back (λ (d : TypeDef). d.name) ts j n f in
+      let a = get_mapped (λ (d : TypeDef). d.name) ts i n e in
+      let b = get_mapped (λ (d : TypeDef). d.name) ts j n f in
       apart i j a.0 b.0 (definition_at i a.0 a.1) (definition_at j b.0 b.1) low (a.2 ∙ sym b.2))
     where
       -- the later of two definitions of one name

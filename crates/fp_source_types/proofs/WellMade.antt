@@ -5,6 +5,8 @@ use Rattle.std.specs.Prelude.{nat_le}
 use Rattle.std.specs.Str.{bytes_eq}
 use Rattle.std.proofs.lemmas.Bool.Decides.{nat_tests}
 use Rattle.std.proofs.lemmas.Option.{slice_get-map, slice_get_within}
+use Rattle.fp_base.proofs.Lists.{same_joined}
+use Rattle.fp_base.proofs.Mapped.{get_mapped}
 use Rattle.fp_base.proofs.Bools.{join}
 use Rattle.fp_base.proofs.Options.{mapped_some}
 use Rattle.fp_base.proofs.Spots.{item_below}
@@ -62,9 +64,6 @@ differ (n ∷ ns) apart =
         let p = any_found (bytes_eq n) ns e in
         absurd (apart 0 (suc p.0) n (omega arith) refl (p.2 ∙ ap (λ (m : List ℕ). Some m) (sym (same_bytes n p.1 p.3))))
 
-pub named_back : {A : Type 0} (name : A → List ℕ) (xs : List A) (k : ℕ) (n : List ℕ) → slice_get (map name xs) k ≡ Some n → (x : A) × (slice_get xs k ≡ Some x) × (name x ≡ n)
-named_back name xs k n e = mapped_some name (slice_get xs k) n (sym (slice_get-map name xs k) ∙ e)
-
 -- ---- sizes
 
 most : (n : ℕ) → 1 ≤ n → n ≤ 256 → is_from_1_to 256 n ≡ true
@@ -98,35 +97,29 @@ module _ (source : Source) (scope : Path) where
   field_names k [] [] all = refl
   field_names k [] (x ∷ xs) all = absurd all
   field_names k (f ∷ fs) [] all = absurd all
-  field_names k (f ∷ fs) (x ∷ xs) (h, all) = same_lists (ap (λ (g : Field). g.name) h.4) (field_names (suc k) fs xs all)
-    where
-      same_lists : {m n : List ℕ} {ms ns : List (List ℕ)} → m ≡ n → ms ≡ ns → m ∷ ms ≡ n ∷ ns
-      same_lists e g = cc
+  field_names k (f ∷ fs) (x ∷ xs) (h, all) = same_joined (ap (λ (g : Field). g.name) h.4) (field_names (suc k) fs xs all)
 
   constant_names : (d : Enum) (k : ℕ) (cs : List EnumConst) (xs : List Constant) → AllAt (EnumeratedIs source scope d) k cs xs
       → map (λ (x : Constant). x.name) xs ≡ map (λ (c : EnumConst). c.name.text) cs
   constant_names d k [] [] all = refl
   constant_names d k [] (x ∷ xs) all = absurd all
   constant_names d k (c ∷ cs) [] all = absurd all
-  constant_names d k (c ∷ cs) (x ∷ xs) (h, all) = same_lists (ap (λ (y : Constant). y.name) h.2) (constant_names d (suc k) cs xs all)
-    where
-      same_lists : {m n : List ℕ} {ms ns : List (List ℕ)} → m ≡ n → ms ≡ ns → m ∷ ms ≡ n ∷ ns
-      same_lists e g = cc
+  constant_names d k (c ∷ cs) (x ∷ xs) (h, all) = same_joined (ap (λ (y : Constant). y.name) h.2) (constant_names d (suc k) cs xs all)
 
   members_apart : (d : Struct) → ((g : Refusal) → RepeatsMember (def.Struct d) g → ⊥) → texts_differ (map (λ (f : Member). f.name.text) d.fields) ≡ true
   members_apart d none =
       let names = map (λ (f : Member). f.name.text) d.fields in
       differ names (λ i j n low e f.
-      let y = named_back (λ (m : Member). m.name.text) d.fields i n e in
-      let x = named_back (λ (m : Member). m.name.text) d.fields j n f in
+      let y = get_mapped (λ (m : Member). m.name.text) d.fields i n e in
+      let x = get_mapped (λ (m : Member). m.name.text) d.fields j n f in
       none (broken_at BadMember x.0.name.at.first) (j, x.0, x.1, (refl, i, y.0, low, y.1, y.2 ∙ sym x.2)))
 
   constants_apart : (d : Enum) → ((i j : ℕ) (b c : EnumConst) → i < j → slice_get d.constants i ≡ Some b → slice_get d.constants j ≡ Some c → b.name.text ≡ c.name.text → ⊥)
       → texts_differ (map (λ (c : EnumConst). c.name.text) d.constants) ≡ true
   constants_apart d apart =
       differ (map (λ (c : EnumConst). c.name.text) d.constants) (λ i j n low e f.
-      let b = named_back (λ (c : EnumConst). c.name.text) d.constants i n e in
-      let c = named_back (λ (c : EnumConst). c.name.text) d.constants j n f in
+      let b = get_mapped (λ (c : EnumConst). c.name.text) d.constants i n e in
+      let c = get_mapped (λ (c : EnumConst). c.name.text) d.constants j n f in
       apart i j b.0 c.0 low b.1 c.1 (b.2 ∙ sym c.2))
 
   -- what makes the members of a definition differ

@@ -12,6 +12,7 @@ use Rattle.std.proofs.lemmas.Bool.Decides.{nat_tests}
 use Rattle.std.proofs.lemmas.Map.Made.{IsDistinct-from_count, distinct_count-from_IsDistinct}
 use Rattle.std.proofs.lemmas.Map.Views.{btree_set_len-from_list}
 use Rattle.std.proofs.lemmas.Map.Text.{is_eq-slice_cmp}
+use Rattle.fp_base.proofs.Mapped.{map_itself}
 use Rattle.fp_tables.specs.Lists.{apart}
 use Rattle.fp_tables.specs.Names.{texts_differ, numbers_differ}
 use denote.Ref.{Bor}
@@ -61,10 +62,6 @@ same_str = eq_by_cmp (λ x y. slice_cmp nat_cmp x.now y.now)
 
 pub differ_texts : (bs : List (Bor (List ℕ))) → apart same_str bs ≡ texts_differ (map (λ b. b.now) bs)
 differ_texts = apart-map same_str bytes_eq (λ b. b.now) (λ x y. is_eq-slice_cmp x.now y.now)
-
-map_itself : (ns : List ℕ) → map (λ n. n) ns ≡ ns
-map_itself [] = refl
-map_itself (n ∷ ns) = ap (λ ms. n ∷ ms) (map_itself ns)
 
 pub differ_numbers : (ns : List ℕ) → apart (eq_by_cmp nat_cmp) ns ≡ numbers_differ ns
 differ_numbers ns = apart-map (eq_by_cmp nat_cmp) (λ m n. eqb m n) (λ n. n) (λ x y. grind (arith, nat_tests)) ns ∙ ap numbers_differ (map_itself ns)

@@ -3,7 +3,7 @@ use Rattle.std.proofs.Common.{◌≡◌, ℕ, zero, suc, ◌<◌, ◌≤◌, Lis
 use Rattle.std.specs.Prelude.{option_and_then, unwrap_or}
 use Rattle.std.specs.List.{AllByRecursion}
 use Rattle.std.proofs.lemmas.Option.{slice_get_within}
-use Rattle.fp_base.proofs.Lists.{each_before, each_flat, each_mapped, each_push, each_item}
+use Rattle.fp_base.proofs.Lists.{each_before, each_flat, each_mapped, each_push, each_item, past_end}
 use Rattle.fp_base.proofs.Spots.{item_below}
 use Rattle.fp_tables.specs.declared.component.Component.{Component}
 use Rattle.fp_tables.specs.declared.kind.PortDef.{PortDef}
@@ -30,11 +30,6 @@ past : {A : Type 0} (xs : List A) (k : ℕ) → length xs ≤ k → slice_get xs
 past [] k h = refl
 past (x ∷ xs) zero h = absurd (omega arith)
 past (x ∷ xs) (suc k) h = past xs k (omega arith)
-
-beyond : {A : Type 0} (xs : List A) (k : ℕ) → slice_get xs k ≡ None → length xs ≤ k
-beyond [] k e = omega arith
-beyond (x ∷ xs) zero e = absurd (cc)
-beyond (x ∷ xs) (suc k) e = let l = beyond xs k e in omega arith
 
 module _ (ds : List PortDef) (cs : List Component) (is : List Instance) (ts : List WrittenTopology) (closures : List (Option (List ℕ))) (closed : AreClosures ts closures) (js ks : List Joined)
     (are : AreJoined ts ds cs is closures js) (again : AreJoined ts ds cs is closures ks) where
@@ -74,7 +69,7 @@ module _ (ds : List PortDef) (cs : List Component) (is : List Instance) (ts : Li
       here : (x : Option (Option (List ℕ))) → slice_get closures v ≡ x → Same v
       here None e =
           let n = closed.each in
-          let over = beyond closures v e in
+          let over = past_end closures v e in
           let l = are.each in
           let m = again.each in
           past js v (omega arith) ∙ sym (past ks v (omega arith))

@@ -6,7 +6,7 @@ use Rattle.std.proofs.lemmas.List.{map-append}
 use Rattle.std.proofs.lemmas.Bool.{or_from}
 use Rattle.fp_base.proofs.Bools.{join}
 use Rattle.fp_base.proofs.Lists.{of_item}
-use Rattle.fp_base.proofs.Bytes.{same_bytes}
+use Rattle.fp_base.proofs.Bytes.{differ_bytes}
 use Rattle.fp_base.specs.declared.rule.Rule.TheVariants.{DefinedTwice}
 use Rattle.fp_base.specs.Least.{IsUnbroken, broken_at}
 use Rattle.fp_graph.proofs.Places.{get_take}
@@ -34,13 +34,6 @@ source_once source once m n x y low at there of_group of_name =
     record { definition = x; here = get_take (definitions source) n m low ∙ at; of_group = of_group; of_name = of_name } in
     once (broken_at DefinedTwice y.place) (n, y, there, (refl, (m, earlier)))
 
-no_same : (a b : List ℕ) → (a ≡ b → ⊥) → bytes_eq a b ≡ false
-no_same a b differ = go (bytes_eq a b) refl
-  where
-    go : (t : Bool) → bytes_eq a b ≡ t → bytes_eq a b ≡ false
-    go false e = e
-    go true e = absurd (differ (same_bytes a b e))
-
 -- the names of those of a group
 abbrev pub texts_in : Group → List Definition → List (List ℕ)
 texts_in g [] = []
@@ -63,7 +56,7 @@ module _ (g : Group) (is_group : (h : Group) → same_group g h ≡ true → h �
     where
       go : (b : Bool) → same_group g y.group ≡ b → list_any (bytes_eq t) (texts_in g ds) ≡ false → list_any (bytes_eq t) (cond b (dotted y.name ∷ texts_in g ds) (texts_in g ds)) ≡ false
       go false e rest = rest
-      go true e rest = or_from (bytes_eq t (dotted y.name)) (list_any (bytes_eq t) (texts_in g ds)) (no_same t (dotted y.name) (other 0 y refl e)) rest
+      go true e rest = or_from (bytes_eq t (dotted y.name)) (list_any (bytes_eq t) (texts_in g ds)) (differ_bytes t (dotted y.name) (other 0 y refl e)) rest
 
   pub texts_apart : (ds : List Definition) → Once ds → Each IsMadeOfNames ds → texts_differ (texts_in g ds) ≡ true
   texts_apart [] once named = refl

@@ -84,7 +84,3 @@ opening_lone behind h none =
 pub next_field : (behind inside after : List ℕ) → behind ≡ inside ++ (125 ∷ after) → has_no_brace inside ≡ true → IsNext (123 ∷ behind) (field_mark inside) after
 next_field behind inside after is h =
     record { element = field inside; stands = ap (λ (t : List ℕ). 123 ∷ t) is ∙ sym (field_bytes inside after); is = h; marked = refl }
-
-pub none_left : (rest : List ℕ) → length rest ≡ 0 → rest ≡ []
-none_left [] e = refl
-none_left (b ∷ rest) e = absurd (omega (arith, e))

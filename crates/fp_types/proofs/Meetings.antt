@@ -55,9 +55,6 @@ pub none_last : {A : Type 0} (r : Type 0) (P : A → Type 0) (xs : List A) (i : 
     → r → (j : ℕ) (y : A) → slice_get xs j ≡ Some y → P y → ⊥
 none_last r P xs i all before reached j y at p = let within = slice_get_within xs j y at in before j y (omega arith) at reached p
 
-pub found_at : {A : Type 0} (xs : List A) (i : ℕ) (x : A) → i < length xs → x ≡ get_or xs i x → slice_get xs i ≡ Some x
-found_at xs i x lt is = slice_get_read xs (length xs) i x refl lt is
-
 -- ---- what is met
 
 module _ (types : List WrittenType) (test : Opened → Target → Bool) where

@@ -1,10 +1,10 @@
 -- Rows that get their targets one after another.
-use Rattle.std.proofs.Common.{◌≡◌, ◌≢◌, ℕ, suc, ◌+◌, ◌<◌, ◌≤◌, ◌⊎◌, inl, inr, Bool, true, false, cond, nat_eq, List, [], ◌∷◌, ◌++◌, length, drop, drop-cons, slice_get, Some, None, refl, sym, ap, subst, ◌∙◌, arith, length-append, append_assoc}
+use Rattle.std.proofs.Common.{◌≡◌, ◌≢◌, ℕ, suc, ◌+◌, ◌≤◌, ◌⊎◌, inl, inr, Bool, true, false, cond, nat_eq, List, [], ◌∷◌, ◌++◌, length, drop, slice_get, Some, None, refl, sym, ap, subst, ◌∙◌, arith, length-append, append_assoc}
 use Rattle.std.proofs.lemmas.Bool.{ne_eqb}
 use Rattle.std.proofs.lemmas.Bool.Decides.{eqb_tells}
 use Rattle.std.proofs.lemmas.List.{append-nil, drop_all}
-use Rattle.std.proofs.lemmas.Option.{slice_get_within, get_or_from_slice_get}
-use Rattle.fp_base.proofs.Spots.{item_below, get_push, before_or_not, same_or_other}
+use Rattle.fp_base.proofs.Lists.{past_end, drop_next}
+use Rattle.fp_base.proofs.Spots.{get_push, same_or_other}
 use Rattle.fp_uses.specs.Given.{AreNumbersFrom, AreBegun, given_to, Got, GotOne}
 
 pub nat_eq_true : (u v : ℕ) → u ≡ v → nat_eq u v ≡ true
@@ -53,9 +53,6 @@ pub given_none : (us ts : List ℕ) (before : List (List ℕ)) → GivenFirst us
 given_none us ts before = record { each = refl; rest = λ v old e. (old, e, refl) }
 
 module _ (us ts : List ℕ) (before : List (List ℕ)) where
-  rest_at : (xs : List ℕ) (k x : ℕ) → slice_get xs k ≡ Some x → drop k xs ≡ x ∷ drop (suc k) xs
-  rest_at xs k x at = drop-cons xs k x (slice_get_within xs k x at) ∙ ap (λ (y : ℕ). y ∷ drop (suc k) xs) (get_or_from_slice_get xs k x x at)
-
   chosen : (u v t : ℕ) (xs : List ℕ) → u ≡ v → cond (nat_eq u v) (t ∷ xs) xs ≡ t ∷ xs
   chosen u v t xs same = ap (λ (b : Bool). cond b (t ∷ xs) xs) (nat_eq_true u v same)
 
@@ -71,8 +68,8 @@ module _ (us ts : List ℕ) (before : List (List ℕ)) where
     where
       opened : (v : ℕ) → given_to v (drop k us) (drop k ts) ≡ cond (nat_eq u v) (t ∷ given_to v (drop (suc k) us) (drop (suc k) ts)) (given_to v (drop (suc k) us) (drop (suc k) ts))
       opened v =
-          ap (λ (xs : List ℕ). given_to v xs (drop k ts)) (rest_at us k u at_u)
-          ∙ ap (λ (ys : List ℕ). given_to v (u ∷ drop (suc k) us) ys) (rest_at ts k t at_t)
+          ap (λ (xs : List ℕ). given_to v xs (drop k ts)) (drop_next us k u at_u)
+          ∙ ap (λ (ys : List ℕ). given_to v (u ∷ drop (suc k) us) ys) (drop_next ts k t at_t)
 
       go : (v : ℕ) (old now : List ℕ) → slice_get rows v ≡ Some now → now ++ given_to v (drop k us) (drop k ts) ≡ old ++ given_to v us ts → (v ≡ u) ⊎ (v ≢ u)
           → (next : List ℕ) × (slice_get after v ≡ Some next) × (next ++ given_to v (drop (suc k) us) (drop (suc k) ts) ≡ old ++ given_to v us ts)
@@ -111,13 +108,6 @@ module _ (us ts : List ℕ) (before : List (List ℕ)) where
 
   pub given_short : (k : ℕ) (rows : List (List ℕ)) → length ts ≤ k → GivenFirst us ts before k rows → Got us ts before rows
   given_short k rows end g = ended k rows (λ v. ap (λ (ys : List ℕ). given_to v (drop k us) ys) (drop_all k ts end) ∙ no_targets v (drop k us)) g
-
-past_end : (xs : List ℕ) (k : ℕ) → slice_get xs k ≡ None → length xs ≤ k
-past_end xs k none = go (before_or_not k (length xs))
-  where
-    go : (k < length xs) ⊎ (length xs ≤ k) → length xs ≤ k
-    go (inl h) = let t = item_below xs k h in let at : slice_get xs k ≡ Some t.0 = t.1 in cc
-    go (inr h) = h
 
 pub given_where_short : (us ts : List ℕ) (before : List (List ℕ)) (k : ℕ) (rows : List (List ℕ)) → slice_get ts k ≡ None → GivenFirst us ts before k rows → Got us ts before rows
 given_where_short us ts before k rows none g = given_short us ts before k rows (past_end ts k none) g

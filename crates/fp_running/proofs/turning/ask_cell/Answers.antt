@@ -2,9 +2,9 @@ use Rattle.std.proofs.Common.{◌≡◌, ◌<◌, true, false, length, Some, ref
 use Rattle.std.specs.List.{slice_get}
 use Rattle.std.specs.Prelude.{vec_len}
 use Rattle.std.proofs.lemmas.Option.{slice_get_read}
+use Rattle.fp_base.proofs.Lists.{get_within}
 use Rattle.fp_run_laws.proofs.Apart.{placed_apart}
 use Rattle.fp_tables.specs.Lookup.{placed}
-use Rattle.fp_running.proofs.Placing.{place_below}
 use Rattle.fp_running.proofs.OneTurn.{is_actor, is_cell, fitting, failed, comes, stands_on}
 use Rattle.fp_running.proofs.turning.ask_cell.Goals as goal
 
@@ -18,7 +18,7 @@ never h = cc
 
 pub unreachable-requires : goal.unreachable-requires
 unreachable-requires c =
-    let low : c.place_of-place.result < length (placed c.args.tables.now) = place_below (placed c.args.tables.now) c.place_of-place.result c.args.instance c.place_of-place.ensures in
+    let low : c.place_of-place.result < length (placed c.args.tables.now) = get_within (placed c.args.tables.now) c.place_of-place.result c.args.instance c.place_of-place.ensures in
     let there : c.place_of-place.result < vec_len c.args.cells.now = omega (arith, low, c.requires.stands.1.cells.count, c.args.cells.now.ok.0) in
     never (c.in_default.ensures.variant.1 there)
 
@@ -27,7 +27,7 @@ meet-requires-clause-actor c = is_actor c.args.tables.now c.args.program.now c.a
 
 pub meet-requires-clause-cell : goal.meet-requires-clause-cell
 meet-requires-clause-cell c =
-    let low : c.place_of-place.result < length (placed c.args.tables.now) = place_below (placed c.args.tables.now) c.place_of-place.result c.args.instance c.place_of-place.ensures in
+    let low : c.place_of-place.result < length (placed c.args.tables.now) = get_within (placed c.args.tables.now) c.place_of-place.result c.args.instance c.place_of-place.ensures in
     let there : c.place_of-place.result < length c.args.cells.now.items = omega (arith, low, c.requires.stands.1.cells.count) in
     is_cell c.args.tables.now c.args.program.now c.args.number c.args.instance c.args.ask.now c.args.done.now c.requires.stands.0 c.in-Some.cell.now
     (c.requires.stands.1.cells.each c.place_of-place.result c.args.instance c.in-Some.cell.now c.place_of-place.ensures
@@ -45,7 +45,7 @@ meet-requires-clause-askable c =
 
 pub returns-clause-comes : goal.returns-clause-comes
 returns-clause-comes c = λ w h.
-    let low : c.place_of-place.result < length (placed c.args.tables.now) = place_below (placed c.args.tables.now) c.place_of-place.result c.args.instance c.place_of-place.ensures in
+    let low : c.place_of-place.result < length (placed c.args.tables.now) = get_within (placed c.args.tables.now) c.place_of-place.result c.args.instance c.place_of-place.ensures in
     let there : c.place_of-place.result < length c.args.cells.now.items = omega (arith, low, c.requires.stands.1.cells.count) in
     comes c.args.tables.now c.args.program.now c.args.number c.args.instance c.args.ask.now c.args.actor.now c.meet.new.actor c.in-Some.cell.now c.meet.new.cell c.args.done.now c.meet.new.done
     c.args.cells.now.items c.place_of-place.result c.place_of-place.ensures
@@ -54,7 +54,7 @@ returns-clause-comes c = λ w h.
 
 pub returns-clause-stands : goal.returns-clause-stands
 returns-clause-stands c = λ w h.
-    let low : c.place_of-place.result < length (placed c.args.tables.now) = place_below (placed c.args.tables.now) c.place_of-place.result c.args.instance c.place_of-place.ensures in
+    let low : c.place_of-place.result < length (placed c.args.tables.now) = get_within (placed c.args.tables.now) c.place_of-place.result c.args.instance c.place_of-place.ensures in
     let there : c.place_of-place.result < length c.args.cells.now.items = omega (arith, low, c.requires.stands.1.cells.count) in
     stands_on c.args.tables.now c.args.program.now c.args.number c.args.instance c.args.ask.now c.args.actor.now c.meet.new.actor c.in-Some.cell.now c.meet.new.cell c.args.done.now c.meet.new.done
     c.args.cells.now.items c.place_of-place.result c.place_of-place.ensures

@@ -1,8 +1,9 @@
 use Rattle.std.proofs.Common.{◌≡◌, ◌∷◌, List, ℕ, length, sym, ap, subst, arith}
 use Rattle.std.proofs.lemmas.Grind.{common_steps}
+use Rattle.fp_base.proofs.Lists.{no_items}
 use Rattle.fp_type_formats.specs.declared.reading.Reading.{Reading}
 use Rattle.fp_type_formats.specs.Sorted.{IsNext, unfit_at}
-use Rattle.fp_type_formats.proofs.Progress.{IsReadTo, begun, ended, none_left, read_next}
+use Rattle.fp_type_formats.proofs.Progress.{IsReadTo, begun, ended, read_next}
 use Rattle.fp_type_formats.proofs.reading.read.Goals as goal
 
 pub loop-first-init : goal.loop-first-init
@@ -30,4 +31,4 @@ loop-first-preserved c =
 
 pub returns : goal.returns
 returns c =
-    ended (unfit_at c.args.unfit.now c.args.others) c.args.text.now c.loop-first.reading c.loop-first.rest.now (none_left c.loop-first.rest.now c.in_default.ensures.cases) c.loop-first.invariant
+    ended (unfit_at c.args.unfit.now c.args.others) c.args.text.now c.loop-first.reading c.loop-first.rest.now (no_items c.loop-first.rest.now c.in_default.ensures.cases) c.loop-first.invariant

@@ -6,9 +6,10 @@ use Rattle.fp_types.specs.Faults.{Meets}
 use Rattle.fp_types.specs.Meeting.{test_of, MeetsNamed}
 use Rattle.std.specs.Prelude.{option_map}
 use Rattle.std.proofs.lemmas.Option.{slice_get_read}
+use Rattle.fp_base.proofs.Lists.{get_at}
 use Rattle.fp_types.proofs.Through.{no_met_levels, through_some, through_none, enough_field}
 use Rattle.fp_types.proofs.Made.{items_are, parts_are, not_single, member_sized, member_single}
-use Rattle.fp_types.proofs.Meetings.{tells_true, tells_false, none_next, none_last, found_at, met_inside, met_here, met_step, single_array, no_array, of_length, at_value, single_struct, no_struct, at_struct, named_met, unnamed_met, passes_kinds, sized_member}
+use Rattle.fp_types.proofs.Meetings.{tells_true, tells_false, none_next, none_last, met_inside, met_here, met_step, single_array, no_array, of_length, at_value, single_struct, no_struct, at_struct, named_met, unnamed_met, passes_kinds, sized_member}
 use Rattle.fp_types.proofs.faults.+meeting.Goals as goal
 
 pub meets-returns-then-depth-eq0 : goal.meets-returns-then-depth-eq0
@@ -148,7 +149,7 @@ in_each-returns-then-met t c =
     let k = c.args.kind in
     let item = c.item-item.result in
     let r = Enough types c.args.depth k in
-    (c.loop-item.item-index, item, (found_at c.args.items.now c.loop-item.item-index c.item-item.result c.loop-item-test.true c.item-item.is), tells_true r (Meets types test (opened item) (of_kind k)) c.meets-met.result c.if-met.true c.meets-met.ensures)
+    (c.loop-item.item-index, item, (get_at c.args.items.now c.loop-item.item-index c.item-item.result c.item-item.result c.loop-item-test.true c.item-item.is), tells_true r (Meets types test (opened item) (of_kind k)) c.meets-met.result c.if-met.true c.meets-met.ensures)
 
 pub in_each-returns : goal.in_each-returns
 in_each-returns t c =
@@ -179,7 +180,7 @@ in_parts-returns-then-met t c =
     let fields = c.args.fields.now in
     let part = c.part-item.result in
     let r = EnoughEach types c.args.depth fields in
-    (c.loop-part.part-index, part, (found_at c.args.parts.now c.loop-part.part-index c.part-item.result c.loop-part-test.true c.part-item.is), tells_true r (MeetsNamed types test fields part) c.in_named-met.result c.if-met.true c.in_named-met.ensures)
+    (c.loop-part.part-index, part, (get_at c.args.parts.now c.loop-part.part-index c.part-item.result c.part-item.result c.loop-part-test.true c.part-item.is), tells_true r (MeetsNamed types test fields part) c.in_named-met.result c.if-met.true c.in_named-met.ensures)
 
 pub in_parts-returns : goal.in_parts-returns
 in_parts-returns t c =
@@ -213,7 +214,7 @@ in_members-returns-then-met t c =
     let fields = c.args.fields.now in
     let field = c.field-item.result in
     let r = EnoughEach types c.args.depth fields in
-    (c.loop-field.field-index, field, (found_at fields c.loop-field.field-index c.field-item.result c.loop-field-test.true c.field-item.is), tells_true (Enough types c.args.depth field.kind) (Meets types test o (member field)) c.in_member-met.result c.if-met.true c.in_member-met.ensures)
+    (c.loop-field.field-index, field, (get_at fields c.loop-field.field-index c.field-item.result c.field-item.result c.loop-field-test.true c.field-item.is), tells_true (Enough types c.args.depth field.kind) (Meets types test o (member field)) c.in_member-met.result c.if-met.true c.in_member-met.ensures)
 
 pub in_members-returns : goal.in_members-returns
 in_members-returns t c =
