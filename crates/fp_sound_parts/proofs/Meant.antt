@@ -1,8 +1,8 @@
 -- What a name in a machine means is an element of its kind.
-use Rattle.std.proofs.Common.{◌≡◌, ℕ, zero, suc, ◌+◌, Bool, true, List, [], ◌∷◌, map, length, get_or, slice_get, Option, Some, None, refl, sym, ap, subst, ◌∙◌}
+use Rattle.std.proofs.Common.{◌≡◌, ℕ, zero, suc, ◌+◌, Bool, true, List, [], ◌∷◌, map, length, slice_get, Option, Some, None, refl, sym, ap, subst, ◌∙◌}
 use Rattle.std.specs.Prelude.{position}
-use Rattle.std.proofs.lemmas.List.Quantifiers.{position-Some}
-use Rattle.std.proofs.lemmas.Option.{slice_get-get_or, slice_get-map, some_pair_parts}
+use Rattle.std.proofs.lemmas.Option.{slice_get-map, some_pair_parts}
+use Rattle.fp_base.proofs.Passing.{position_passes}
 use Rattle.fp_base.proofs.Options.{mapped_some, same_some, then_some}
 use Rattle.fp_tree.specs.declared.name.Name.{Name}
 use Rattle.fp_tree.specs.declared.machine.BehaviorElement.{BehaviorElement}
@@ -21,9 +21,6 @@ use Rattle.fp_sound_parts.proofs.Vertices.{outline_back}
 
 -- ---- the first of a name
 
-first_found : {X : Type 0} (p : X → Bool) (xs : List X) (i : ℕ) (d : X) → position p xs ≡ Some i → (x : X) × (slice_get xs i ≡ Some x) × (p x ≡ true)
-first_found p xs i d e = let t = position-Some p xs i d e in (get_or xs i d, slice_get-get_or xs i d t.0, t.1)
-
 key_parts : (q o p : Option ℕ) (n : ℕ) → in_parent q o ≡ Some (p, n) → (q ≡ p) × (o ≡ Some n)
 key_parts q None p n e = absurd cc
 key_parts q (Some m) p n e = let t = some_pair_parts q p m n e in (t.0, ap Some t.1)
@@ -37,7 +34,7 @@ pub record IsNamedAt (es : List BehaviorElement) (part : Form → Option ℕ) (p
 
 pub found_at : (es : List BehaviorElement) (part : Form → Option ℕ) (p : Option ℕ) (n v : ℕ) → first_in part (outline es) p n ≡ Some v → IsNamedAt es part p n v
 found_at es part p n v h =
-    let f = first_found (is_key (p, n)) (map (key_by part) (outline es)) v None h in
+    let f = position_passes (is_key (p, n)) (map (key_by part) (outline es)) v h in
     let m = mapped_some (key_by part) (slice_get (outline es) v) f.0 (sym (slice_get-map (key_by part) (outline es) v) ∙ f.1) in
     let o = outline_back es v m.0 m.1 in
     let k = key_parts m.0.parent (part m.0.form) p n (m.2 ∙ is_key_same (p, n) f.0 f.2) in
