@@ -1,5 +1,5 @@
 -- The library's test of two texts, and the bytes of a name.
-use Rattle.std.proofs.Common.{◌≡◌, ℕ, true, List, [], ◌∷◌, refl, sym, bytes_eq}
+use Rattle.std.proofs.Common.{◌≡◌, ℕ, true, List, [], ◌∷◌, refl, sym, bytes_eq, Bool, false}
 use Rattle.std.specs.List.{list_all}
 use Rattle.std.proofs.lemmas.Slice.Eq.{bytes_eq-Decides}
 use Rattle.fp_base.specs.Names.{is_digit, is_letter, is_name, is_name_byte}
