@@ -1,1 +1,0 @@
-constant LIMIT = 40

@@ -1,5 +1,0 @@
-module Thermal {
-  include "limits.fppi"
-  constant COUNT = LIMIT - 1
-  array Samples = [COUNT] I16
-}

@@ -1,3 +1,0 @@
-port Set
-
-port Set
