@@ -1,11 +1,10 @@
 ghost use Rattle.std.specs.Prelude.{◌≡◌, map, IfOk};
-ghost use Rattle.fp_sound_model.specs.IdRanges.{top_of};
+ghost use Rattle.fp_tables.specs.Tops.{top_of};
 ghost use Rattle.fp_instances.specs.Facts.{all_facts, facts_of, queueing_at, top_at};
 
 use crate::InstanceFacts;
-use crate::tops::tops_of;
 use fp_base::{NoMemory, Row};
-use fp_tables::{Component, Queueing};
+use fp_tables::{Component, Queueing, tops_of};
 use fp_written_topologies::WrittenInstance;
 use std::alloc::Global;
 

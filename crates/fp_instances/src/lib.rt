@@ -11,7 +11,6 @@ mod laws;
 mod numbers;
 mod overlaps;
 mod ranges;
-mod tops;
 
 pub use building::instances_of;
 pub use faults::instances_fault;

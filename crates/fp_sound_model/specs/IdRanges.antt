@@ -1,17 +1,6 @@
 -- What the tests of ranges of ids work with.
-use Rattle.std.specs.Prelude.{ℕ, Bool, true, not, ◌+◌, ◌&&◌, max, nat_le, List, [], ◌∷◌, Option, None, Some}
+use Rattle.std.specs.Prelude.{ℕ, Bool, true, not, ◌+◌, ◌&&◌, nat_le, List, [], ◌∷◌, Option, Some}
 use Rattle.fp_tables.specs.Lists.{some_and}
-use Rattle.fp_tables.specs.Instances.{largest, local_ids}
-use Rattle.fp_tables.specs.declared.component.Component.{Component}
-
-abbrev pub larger : Option ℕ → Option ℕ → Option ℕ
-larger None q = q
-larger (Some m) None = Some m
-larger (Some m) (Some n) = Some (max m n)
-
--- the largest opcode or id of a component
-abbrev pub top_of : Component → Option ℕ
-top_of c = largest (local_ids c)
 
 -- a base id and the largest local id beside it, as a range
 abbrev pub ends_of : ℕ × ℕ → ℕ × ℕ

@@ -4,11 +4,11 @@ ghost use Rattle.fp_sound_model.specs.Parts.{StructurePasses, IsSoundBeside};
 
 use crate::parts::parts_are_sound;
 use crate::placing::positions_lie;
-use crate::ranges::{all_numbers_are_in_range, ranges_are_apart, tops_of};
+use crate::ranges::{all_numbers_are_in_range, ranges_are_apart};
 use crate::topologies::is_sound_with;
 use fp_base::NoMemory;
 use fp_sound_machines::machines_are_sound;
-use fp_tables::Model;
+use fp_tables::{Model, tops_of};
 use std::alloc::Global;
 
 /// Whether a model's positions, instances and machines are sound.

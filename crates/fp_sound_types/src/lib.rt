@@ -11,7 +11,7 @@ mod types;
 mod values;
 
 pub use chains::chains_are_short;
-pub use names::{Called, Numbered, ids_differ, names_differ};
+pub use names::{Called, ids_differ, names_differ};
 pub use naming::is_name;
 pub use own_names::{own_names_are_names, qualified_names_are_names};
 pub use shapes::{Shape, member_shape, shape_of};

@@ -3,8 +3,8 @@ ghost use Rattle.fp_tables.specs.Names.{texts_differ, numbers_differ};
 
 use fp_base::{NoMemory, Row, Text};
 use fp_tables::{
-    Channel, Command, Constant, Event, Field, Formal, Instance, Named, Param, Port, Running,
-    TypeDef, all_differ, numbers_differ,
+    Channel, Command, Constant, Event, Field, Formal, Instance, Named, Numbered, Param, Port,
+    Running, TypeDef, all_differ, numbers_differ,
 };
 use std::alloc::Global;
 
@@ -14,14 +14,6 @@ pub trait Called {
 
     fn name(&self) -> &Text
         ensures { result.now ≡ name_of self.now };
-}
-
-/// What has an opcode or an id.
-pub trait Numbered {
-    ghost number_of: { Self → ℕ };
-
-    fn number(&self) -> u32
-        ensures { result ≡ number_of self.now };
 }
 
 impl Called for Port {
@@ -117,38 +109,6 @@ impl Called for Instance {
 
     fn name(&self) -> &Text {
         &self.name
-    }
-}
-
-impl Numbered for Command {
-    ghost number_of = { λ numbered. numbered.opcode };
-
-    fn number(&self) -> u32 {
-        self.opcode
-    }
-}
-
-impl Numbered for Event {
-    ghost number_of = { λ numbered. numbered.id };
-
-    fn number(&self) -> u32 {
-        self.id
-    }
-}
-
-impl Numbered for Channel {
-    ghost number_of = { λ numbered. numbered.id };
-
-    fn number(&self) -> u32 {
-        self.id
-    }
-}
-
-impl Numbered for Param {
-    ghost number_of = { λ numbered. numbered.id };
-
-    fn number(&self) -> u32 {
-        self.id
     }
 }
 

@@ -4,6 +4,7 @@ pub mod Binding
 pub mod Differing
 pub mod Firsts
 pub mod Joined
+pub mod Largest
 pub mod OneKind
 pub mod Optional
 pub mod Shaped

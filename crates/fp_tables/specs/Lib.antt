@@ -15,5 +15,6 @@ pub mod Programs
 pub mod Sound
 pub mod SoundPrograms
 pub mod Specials
+pub mod Tops
 pub mod Types
 pub mod Words

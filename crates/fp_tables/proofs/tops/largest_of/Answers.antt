@@ -1,7 +1,7 @@
 use Rattle.std.proofs.Common.{Some, ap, ap₂, sym, ◌∙◌}
-use Rattle.fp_sound_model.specs.IdRanges.{larger}
-use Rattle.fp_sound_model.proofs.RangesApart.{largest_more}
-use Rattle.fp_sound_model.proofs.ranges.largest_of.Goals as goal
+use Rattle.fp_tables.specs.Tops.{larger}
+use Rattle.fp_tables.proofs.Largest.{largest_more}
+use Rattle.fp_tables.proofs.tops.largest_of.Goals as goal
 
 pub loop-item-preserved : goal.loop-item-preserved
 loop-item-preserved g c =

@@ -1,12 +1,12 @@
 use Rattle.std.proofs.Common.{map, ap, ap₂, sym, ◌∙◌}
 use Rattle.fp_tables.specs.Instances.{largest}
-use Rattle.fp_sound_model.specs.IdRanges.{larger}
+use Rattle.fp_tables.specs.Tops.{larger}
 use Rattle.fp_tables.specs.declared.component.Command.{Command}
 use Rattle.fp_tables.specs.declared.component.Event.{Event}
 use Rattle.fp_tables.specs.declared.component.Channel.{Channel}
 use Rattle.fp_tables.specs.declared.component.Param.{Param}
-use Rattle.fp_sound_model.proofs.RangesApart.{largest_append}
-use Rattle.fp_sound_model.proofs.ranges.top_of.Goals as goal
+use Rattle.fp_tables.proofs.Largest.{largest_append}
+use Rattle.fp_tables.proofs.tops.top_of.Goals as goal
 
 pub returns : goal.returns
 returns c =

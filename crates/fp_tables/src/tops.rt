@@ -1,10 +1,9 @@
 ghost use Rattle.std.specs.Prelude.{◌≡◌, map, IfOk};
 ghost use Rattle.fp_tables.specs.Instances.{largest};
-ghost use Rattle.fp_sound_model.specs.IdRanges.{larger, top_of};
+ghost use Rattle.fp_tables.specs.Tops.{larger, top_of};
 
+use crate::{Component, Numbered};
 use fp_base::NoMemory;
-use fp_sound_types::Numbered;
-use fp_tables::Component;
 use std::alloc::Global;
 
 fn larger(left: Option<u32>, right: Option<u32>) -> Option<u32>
