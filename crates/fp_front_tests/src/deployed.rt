@@ -1,8 +1,7 @@
 use fp_base::{NoMemory, Place, Refusal, Row, Text};
 use fp_instances::{instances_fault, instances_of};
 use fp_tables::{Command, CommandPart, Component, Queueing, Way};
-use fp_written_parts::Given;
-use fp_written_topologies::WrittenInstance;
+use fp_written_parts::{Given, WrittenInstance};
 use std::alloc::Global;
 use std::test::Fail;
 

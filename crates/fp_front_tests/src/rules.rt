@@ -2,8 +2,7 @@ use fp_base::{NoMemory, Place, Refusal};
 use fp_instances::{InstanceFacts, instance_faults};
 use fp_tables::{Queueing, Role, Special, Way};
 use fp_topologies::{ConnectionFacts, EndFacts, JoinedPort, connection_faults, member_faults};
-use fp_written_parts::Given;
-use fp_written_topologies::UsedInstance;
+use fp_written_parts::{Given, UsedInstance};
 use std::alloc::Global;
 use std::test::Fail;
 

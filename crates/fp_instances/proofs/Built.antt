@@ -4,7 +4,7 @@ use Rattle.std.proofs.lemmas.List.{length-append}
 use Rattle.std.proofs.lemmas.Option.{slice_get_within}
 use Rattle.fp_base.proofs.Spots.{get_push}
 use Rattle.fp_tables.specs.declared.topology.Instance.{Instance}
-use Rattle.fp_written_topologies.specs.declared.instance.WrittenInstance.{WrittenInstance}
+use Rattle.fp_written_parts.specs.declared.instance.WrittenInstance.{WrittenInstance}
 use Rattle.fp_instances.specs.Resolved.{AreInstances, IsInstance}
 
 -- the first so many

@@ -6,7 +6,7 @@ use Rattle.fp_base.proofs.Spots.{item_below}
 use Rattle.fp_base.proofs.Numbers.{pos_same}
 use Rattle.fp_tables.specs.declared.topology.Instance.{Instance}
 use Rattle.fp_written_parts.specs.declared.port.Given.{Given}
-use Rattle.fp_written_topologies.specs.declared.instance.WrittenInstance.{WrittenInstance}
+use Rattle.fp_written_parts.specs.declared.instance.WrittenInstance.{WrittenInstance}
 use Rattle.fp_instances.specs.Resolved.{AreInstances, IsInstance, IsNumber}
 
 number_same : {A : Type 0} (here : A → ℤ) → ((m n : A) → here m ≡ here n → m ≡ n) → (o : Option Given) (a b : Option A) → IsNumber here o a → IsNumber here o b → a ≡ b

@@ -12,8 +12,8 @@ use Rattle.fp_written_parts.specs.Numbered.{HasNumber}
 use Rattle.fp_component_rules.specs.PortBroken.{IsOutside}
 use Rattle.fp_instances.specs.InstanceBroken.{BrokenInstance, BrokenNumber, BrokenNumbers}
 use Rattle.fp_instances.specs.declared.instance_facts.InstanceFacts.{InstanceFacts}
-use Rattle.fp_written_topologies.specs.Given.{HasNumberWhereGiven, InstanceHasNumbers}
-use Rattle.fp_written_topologies.specs.declared.instance.WrittenInstance.{WrittenInstance}
+use Rattle.fp_written_parts.specs.Given.{HasNumberWhereGiven, InstanceHasNumbers}
+use Rattle.fp_written_parts.specs.declared.instance.WrittenInstance.{WrittenInstance}
 use Rattle.fp_instances.specs.Broken.{InstancesBroken}
 use Rattle.fp_instances.specs.Facts.{all_facts, facts_of}
 use Rattle.fp_instances.specs.Numbers.{AreWithin, InstanceIsWithin, IsWithin, IsWithinWhereGiven}

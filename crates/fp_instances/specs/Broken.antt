@@ -5,7 +5,7 @@ use Rattle.fp_base.specs.declared.refusal.Refusal.{Refusal}
 use Rattle.fp_base.specs.Least.{Either}
 use Rattle.fp_tables.specs.declared.component.Component.{Component}
 use Rattle.fp_instances.specs.InstanceBroken.{BrokenByInstances}
-use Rattle.fp_written_topologies.specs.declared.instance.WrittenInstance.{WrittenInstance}
+use Rattle.fp_written_parts.specs.declared.instance.WrittenInstance.{WrittenInstance}
 use Rattle.fp_instances.specs.Facts.{all_facts}
 use Rattle.fp_instances.specs.Ranges.{RangesBroken, ranges}
 

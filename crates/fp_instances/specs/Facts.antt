@@ -5,7 +5,7 @@ use Rattle.fp_tables.specs.declared.component.Component.{Component}
 use Rattle.fp_tables.specs.declared.component.Queueing.{Queueing}
 use Rattle.fp_tables.specs.declared.component.Queueing.TheVariants.{Passive}
 use Rattle.fp_instances.specs.declared.instance_facts.InstanceFacts.{InstanceFacts}
-use Rattle.fp_written_topologies.specs.declared.instance.WrittenInstance.{WrittenInstance}
+use Rattle.fp_written_parts.specs.declared.instance.WrittenInstance.{WrittenInstance}
 
 module _ (cs : List Component) where
   abbrev pub queueing_at : ℕ → Queueing

@@ -1,7 +1,7 @@
 -- Numbers from a low one to a high one.
 use Rattle.std.specs.Prelude.{◌≡◌, ℕ, ℤ, pos, negsuc, ◌^◌, ◌-◌, false, int_lt, List, slice_get, Option, Some}
 use Rattle.fp_written_parts.specs.declared.port.Given.{Given}
-use Rattle.fp_written_topologies.specs.declared.instance.WrittenInstance.{WrittenInstance}
+use Rattle.fp_written_parts.specs.declared.instance.WrittenInstance.{WrittenInstance}
 
 abbrev pub IsWithin : ℤ → ℤ → Given → Type 0
 IsWithin low high g = (n : ℤ) × (g.number ≡ Some n) × (int_lt n low ≡ false) × (int_lt high n ≡ false)

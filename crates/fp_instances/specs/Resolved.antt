@@ -2,7 +2,7 @@
 use Rattle.std.specs.Prelude.{◌≡◌, ℕ, ℤ, pos, List, length, slice_get, Option, Some, None}
 use Rattle.fp_tables.specs.declared.topology.Instance.{Instance}
 use Rattle.fp_written_parts.specs.declared.port.Given.{Given}
-use Rattle.fp_written_topologies.specs.declared.instance.WrittenInstance.{WrittenInstance}
+use Rattle.fp_written_parts.specs.declared.instance.WrittenInstance.{WrittenInstance}
 
 -- the number of what may be left out, as it is counted here
 abbrev pub IsNumber : {A : Type 0} → (A → ℤ) → Option Given → Option A → Type 0

@@ -8,7 +8,7 @@ ghost use Rattle.fp_instances.specs.Resolved.{AreInstances, IsInstance};
 use crate::numbers::{optional_long, optional_signed, optional_unsigned, unsigned};
 use fp_base::{NoMemory, Row};
 use fp_tables::Instance;
-use fp_written_topologies::WrittenInstance;
+use fp_written_parts::WrittenInstance;
 use std::alloc::Global;
 
 /// The instances of a model, in the order in which they are written.

@@ -5,7 +5,7 @@ ghost use Rattle.fp_instances.specs.Facts.{all_facts, facts_of, queueing_at, top
 use crate::InstanceFacts;
 use fp_base::{NoMemory, Row};
 use fp_tables::{Component, Queueing, tops_of};
-use fp_written_topologies::WrittenInstance;
+use fp_written_parts::WrittenInstance;
 use std::alloc::Global;
 
 /// What the rules look at of instances of these components.

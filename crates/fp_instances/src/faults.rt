@@ -8,7 +8,7 @@ use crate::overlaps::range_faults;
 use crate::ranges::ranges_of;
 use fp_base::{NoMemory, Refusal, lesser};
 use fp_tables::Component;
-use fp_written_topologies::WrittenInstance;
+use fp_written_parts::WrittenInstance;
 use std::alloc::Global;
 
 /// The least rule that instances of these components break, by themselves or with an earlier one.

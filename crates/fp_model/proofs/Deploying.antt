@@ -11,10 +11,10 @@ use Rattle.fp_tables.specs.declared.topology.Instance.{Instance}
 use Rattle.fp_tables.specs.declared.topology.Topology.{Topology}
 use Rattle.fp_meaning.specs.Layout.{items}
 use Rattle.fp_component_forms.specs.Written.{components}
-use Rattle.fp_written_topologies.specs.Lying.{DeploymentLies}
-use Rattle.fp_written_topologies.specs.declared.instance.WrittenInstance.{WrittenInstance}
-use Rattle.fp_written_topologies.specs.declared.topology.WrittenDeployment.{WrittenDeployment}
-use Rattle.fp_written_topologies.specs.declared.topology.WrittenTopology.{WrittenTopology}
+use Rattle.fp_written_parts.specs.Lying.{DeploymentLies}
+use Rattle.fp_written_parts.specs.declared.instance.WrittenInstance.{WrittenInstance}
+use Rattle.fp_written_parts.specs.declared.topology.WrittenDeployment.{WrittenDeployment}
+use Rattle.fp_written_parts.specs.declared.topology.WrittenTopology.{WrittenTopology}
 use Rattle.fp_instances.specs.Broken.{InstancesBroken}
 use Rattle.fp_instances.specs.Resolved.{AreInstances}
 use Rattle.fp_source_parts.specs.declared.parts.Parts.{Parts}

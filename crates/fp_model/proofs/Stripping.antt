@@ -12,9 +12,9 @@ use Rattle.fp_tables.specs.declared.topology.Topology.{Topology}
 use Rattle.fp_numbering.specs.Answers.{AreNumbered}
 use Rattle.fp_numbering.specs.Wired.{AreAllNumbered, IsNumbered}
 use Rattle.fp_instances.specs.Resolved.{AreInstances}
-use Rattle.fp_written_topologies.specs.Lying.{DeploymentLies, TopologyLies}
-use Rattle.fp_written_topologies.specs.declared.topology.WrittenDeployment.{WrittenDeployment}
-use Rattle.fp_written_topologies.specs.declared.topology.WrittenTopology.{WrittenTopology}
+use Rattle.fp_written_parts.specs.Lying.{DeploymentLies, TopologyLies}
+use Rattle.fp_written_parts.specs.declared.topology.WrittenDeployment.{WrittenDeployment}
+use Rattle.fp_written_parts.specs.declared.topology.WrittenTopology.{WrittenTopology}
 use Rattle.fp_topologies.specs.Joined.{imported_links}
 use Rattle.fp_topologies.specs.Ordered.{AreInOrder, link_cmp}
 use Rattle.fp_topologies.specs.Resolved.{AreTopologies, HaveNoWires}

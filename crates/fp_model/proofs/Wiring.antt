@@ -15,7 +15,7 @@ use Rattle.fp_tables.specs.declared.topology.Link.{Link}
 use Rattle.fp_tables.specs.declared.topology.Topology.{Topology}
 use Rattle.fp_numbering.specs.Answers.{AreNumbered}
 use Rattle.fp_numbering.specs.Wired.{AreAllNumbered, IsWired, with_topologies}
-use Rattle.fp_written_topologies.specs.declared.topology.WrittenTopology.{WrittenTopology}
+use Rattle.fp_written_parts.specs.declared.topology.WrittenTopology.{WrittenTopology}
 use Rattle.fp_topologies.specs.Resolved.{AreTopologies}
 use Rattle.fp_model.specs.Defined.{AreWired, Defined}
 use Rattle.fp_model.specs.Joined.{Joined}

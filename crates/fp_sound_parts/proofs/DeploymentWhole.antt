@@ -8,7 +8,7 @@ use Rattle.fp_tables.specs.declared.model.Model.{Model}
 use Rattle.fp_tables.specs.declared.topology.Topology.{Topology}
 use Rattle.fp_numbering.specs.Answers.{AreNumbered}
 use Rattle.fp_numbering.specs.Links.{LinksAreSound}
-use Rattle.fp_written_topologies.specs.declared.topology.WrittenTopology.{WrittenTopology}
+use Rattle.fp_written_parts.specs.declared.topology.WrittenTopology.{WrittenTopology}
 use Rattle.fp_topologies.specs.ImportLaws.{UnbrokenAreClosed}
 use Rattle.fp_topologies.specs.Broken.{TopologiesBroken}
 use Rattle.fp_topologies.specs.Laws.{InstancesDiffer, LinksJoinMembers}

@@ -12,8 +12,8 @@ use Rattle.fp_tables.specs.declared.component.Component.{Component}
 use Rattle.fp_tables.specs.declared.kind.PortDef.{PortDef}
 use Rattle.fp_tables.specs.declared.topology.Instance.{Instance}
 use Rattle.fp_tables.proofs.Indexed.{item_in}
-use Rattle.fp_written_topologies.specs.declared.topology.UsedInstance.{UsedInstance}
-use Rattle.fp_written_topologies.specs.declared.topology.WrittenTopology.{WrittenTopology}
+use Rattle.fp_written_parts.specs.declared.topology.UsedInstance.{UsedInstance}
+use Rattle.fp_written_parts.specs.declared.topology.WrittenTopology.{WrittenTopology}
 use Rattle.fp_topologies.specs.MemberBroken.{Holds}
 use Rattle.fp_topologies.specs.Held.{instances_with}
 use Rattle.fp_topologies.specs.Imports.{AreClosures}

@@ -11,8 +11,8 @@ use Rattle.fp_tables.specs.Instances as model
 use Rattle.fp_tables.specs.Sound.{HasSoundInstances}
 use Rattle.fp_tables.specs.declared.model.Model.{Model}
 use Rattle.fp_tables.specs.declared.topology.Instance.{Instance}
-use Rattle.fp_written_topologies.specs.Lying.{ComponentsLie}
-use Rattle.fp_written_topologies.specs.declared.instance.WrittenInstance.{WrittenInstance}
+use Rattle.fp_written_parts.specs.Lying.{ComponentsLie}
+use Rattle.fp_written_parts.specs.declared.instance.WrittenInstance.{WrittenInstance}
 use Rattle.fp_instances.specs.InstanceBroken.{BrokenInstance}
 use Rattle.fp_instances.specs.Broken.{InstancesBroken}
 use Rattle.fp_instances.specs.Facts.{all_facts, facts_of, top_at}

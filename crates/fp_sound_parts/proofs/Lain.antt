@@ -14,9 +14,9 @@ use Rattle.fp_tables.specs.declared.topology.Link.{Link}
 use Rattle.fp_tables.specs.declared.topology.Topology.{Topology}
 use Rattle.fp_numbering.specs.Answers.{AreNumbered}
 use Rattle.fp_numbering.specs.Wired.{AreAllNumbered, IsNumbered, IsWired, with_topologies}
-use Rattle.fp_written_topologies.specs.Lying.{DeploymentLies, TopologyLies}
-use Rattle.fp_written_topologies.specs.declared.topology.WrittenDeployment.{WrittenDeployment}
-use Rattle.fp_written_topologies.specs.declared.topology.WrittenTopology.{WrittenTopology}
+use Rattle.fp_written_parts.specs.Lying.{DeploymentLies, TopologyLies}
+use Rattle.fp_written_parts.specs.declared.topology.WrittenDeployment.{WrittenDeployment}
+use Rattle.fp_written_parts.specs.declared.topology.WrittenTopology.{WrittenTopology}
 use Rattle.fp_instances.specs.Resolved.{AreInstances}
 use Rattle.fp_topologies.specs.Joined.{imported_links}
 use Rattle.fp_topologies.specs.Laws.{HaveClosures, TopologiesLie}

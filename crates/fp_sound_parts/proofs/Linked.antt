@@ -21,8 +21,8 @@ use Rattle.fp_tables.specs.declared.model.Model.{Model}
 use Rattle.fp_tables.specs.declared.topology.Link.{Link}
 use Rattle.fp_tables.specs.declared.topology.Topology.{Topology}
 use Rattle.fp_numbering.specs.Links.{LinksAreSound}
-use Rattle.fp_written_topologies.specs.declared.topology.WrittenPattern.{WrittenPattern}
-use Rattle.fp_written_topologies.specs.declared.topology.WrittenTopology.{WrittenTopology}
+use Rattle.fp_written_parts.specs.declared.topology.WrittenPattern.{WrittenPattern}
+use Rattle.fp_written_parts.specs.declared.topology.WrittenTopology.{WrittenTopology}
 use Rattle.fp_topologies.specs.declared.sorts.JoinAt.{JoinAt}
 use Rattle.fp_topologies.specs.Patterns.{is_sort, join_at, joined, joined_by, joins_at, joins_of, leaves, links_by, one, only_port, other, pattern_links, targets_of}
 use Rattle.fp_topologies.specs.Broken.{TopologiesBroken}

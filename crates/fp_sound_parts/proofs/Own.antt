@@ -17,7 +17,7 @@ use Rattle.fp_tables.specs.declared.component.Queueing.TheVariants.{Active, Pass
 use Rattle.fp_tables.specs.declared.model.Model.{Model}
 use Rattle.fp_tables.specs.declared.topology.Instance.{Instance}
 use Rattle.fp_written_parts.specs.declared.port.Given.{Given}
-use Rattle.fp_written_topologies.specs.declared.instance.WrittenInstance.{WrittenInstance}
+use Rattle.fp_written_parts.specs.declared.instance.WrittenInstance.{WrittenInstance}
 use Rattle.fp_instances.specs.InstanceBroken.{BrokenInstance, BrokenNumber, IsBaseOutside, IsNoId, IsQueueWrong}
 use Rattle.fp_instances.specs.Facts.{facts_of, queueing_at, top_at}
 use Rattle.fp_instances.specs.Resolved.{IsInstance, IsNumber}

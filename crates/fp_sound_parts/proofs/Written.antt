@@ -14,9 +14,9 @@ use Rattle.fp_tables.specs.declared.component.Port.{Port}
 use Rattle.fp_tables.specs.declared.component.Role.{Role}
 use Rattle.fp_tables.specs.declared.model.Model.{Model}
 use Rattle.fp_tables.specs.declared.topology.Link.{Link}
-use Rattle.fp_written_topologies.specs.declared.topology.WrittenConnection.{WrittenConnection}
-use Rattle.fp_written_topologies.specs.declared.topology.WrittenPortUse.{WrittenPortUse}
-use Rattle.fp_written_topologies.specs.declared.topology.WrittenTopology.{WrittenTopology}
+use Rattle.fp_written_parts.specs.declared.topology.WrittenConnection.{WrittenConnection}
+use Rattle.fp_written_parts.specs.declared.topology.WrittenPortUse.{WrittenPortUse}
+use Rattle.fp_written_parts.specs.declared.topology.WrittenTopology.{WrittenTopology}
 use Rattle.fp_topologies.specs.ConnectionBroken.{AreOfOne, BrokenByConnections, BrokenConnection, IsOther}
 use Rattle.fp_topologies.specs.declared.facts.JoinedPort.{JoinedPort}
 use Rattle.fp_topologies.specs.Ports.{connection_facts, direct_links, end_facts, joined_port, link_between, link_of, port_used, ports_at}

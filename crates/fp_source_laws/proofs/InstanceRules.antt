@@ -6,7 +6,7 @@ use Rattle.fp_base.specs.declared.refusal.Refusal.{Refusal}
 use Rattle.fp_base.proofs.Lists.{InOption, each_mapped, each_weaker, of_item}
 use Rattle.fp_tables.specs.declared.component.Component.{Component}
 use Rattle.fp_written_parts.specs.declared.port.Given.{Given}
-use Rattle.fp_written_topologies.specs.declared.instance.WrittenInstance.{WrittenInstance}
+use Rattle.fp_written_parts.specs.declared.instance.WrittenInstance.{WrittenInstance}
 use Rattle.fp_instances.specs.declared.instance_facts.InstanceFacts.{InstanceFacts}
 use Rattle.fp_instances.specs.InstanceBroken.{BrokenInstance, BrokenNumber, BrokenNumbers, BrokenWords}
 use Rattle.fp_instances.specs.declared.ranges.IdRange.{IdRange}

@@ -15,9 +15,9 @@ use Rattle.fp_tables.specs.declared.topology.Link.{Link}
 use Rattle.fp_tables.specs.declared.topology.Topology.{Topology}
 use Rattle.fp_tables.specs.declared.topology.Written.{Written}
 use Rattle.fp_written_parts.specs.declared.port.Given.{Given}
-use Rattle.fp_written_topologies.specs.declared.topology.WrittenConnection.{WrittenConnection}
-use Rattle.fp_written_topologies.specs.declared.topology.WrittenPattern.{WrittenPattern}
-use Rattle.fp_written_topologies.specs.declared.topology.WrittenTopology.{WrittenTopology}
+use Rattle.fp_written_parts.specs.declared.topology.WrittenConnection.{WrittenConnection}
+use Rattle.fp_written_parts.specs.declared.topology.WrittenPattern.{WrittenPattern}
+use Rattle.fp_written_parts.specs.declared.topology.WrittenTopology.{WrittenTopology}
 use Rattle.fp_topologies.specs.declared.sorts.JoinAt.{JoinAt}
 use Rattle.fp_topologies.specs.Patterns.{joined, joined_by, joins_at, leaves, links_by, only_port, other, pattern_links, targets_of}
 use Rattle.fp_topologies.specs.Ports.{direct_links, link_between, link_of, port_used, written_number}

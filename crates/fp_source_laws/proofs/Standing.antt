@@ -11,7 +11,7 @@ use Rattle.fp_component_forms.specs.declared.writing.WrittenSource.{WrittenSourc
 use Rattle.fp_component_forms.specs.Written.{IsWrittenSource}
 use Rattle.fp_source_parts.specs.Broken.{BrokenBy, PartsBroken}
 use Rattle.fp_source_parts.specs.Machines.{externals}
-use Rattle.fp_written_topologies.specs.declared.topology.WrittenDeployment.{WrittenDeployment}
+use Rattle.fp_written_parts.specs.declared.topology.WrittenDeployment.{WrittenDeployment}
 use Rattle.fp_topology_forms.specs.Written.{IsWrittenDeployment}
 use Rattle.fp_topologies.specs.ImportLaws.{UnbrokenAreClosed}
 use Rattle.fp_topologies.specs.Laws.{HaveClosures}

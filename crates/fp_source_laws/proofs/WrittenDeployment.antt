@@ -23,15 +23,15 @@ use Rattle.fp_meaning.specs.Sites.{ModelDef, component, declaration, in_optional
 use Rattle.fp_part_values.specs.Names.{written}
 use Rattle.fp_part_values.specs.Numbers.{connection_numbers, instance_numbers, numbers_of, topology_member_numbers}
 use Rattle.fp_component_forms.specs.Written.{BothOrNeither, Scoped}
-use Rattle.fp_written_topologies.specs.declared.instance.WrittenInstance.{WrittenInstance}
-use Rattle.fp_written_topologies.specs.declared.topology.ImportedTopology.{ImportedTopology}
-use Rattle.fp_written_topologies.specs.declared.topology.MemberInstance.{MemberInstance}
-use Rattle.fp_written_topologies.specs.declared.topology.UsedInstance.{UsedInstance}
-use Rattle.fp_written_topologies.specs.declared.topology.WrittenConnection.{WrittenConnection}
-use Rattle.fp_written_topologies.specs.declared.topology.WrittenDeployment.{WrittenDeployment}
-use Rattle.fp_written_topologies.specs.declared.topology.WrittenPattern.{WrittenPattern}
-use Rattle.fp_written_topologies.specs.declared.topology.WrittenPortUse.{WrittenPortUse}
-use Rattle.fp_written_topologies.specs.declared.topology.WrittenTopology.{WrittenTopology}
+use Rattle.fp_written_parts.specs.declared.instance.WrittenInstance.{WrittenInstance}
+use Rattle.fp_written_parts.specs.declared.topology.ImportedTopology.{ImportedTopology}
+use Rattle.fp_written_parts.specs.declared.topology.MemberInstance.{MemberInstance}
+use Rattle.fp_written_parts.specs.declared.topology.UsedInstance.{UsedInstance}
+use Rattle.fp_written_parts.specs.declared.topology.WrittenConnection.{WrittenConnection}
+use Rattle.fp_written_parts.specs.declared.topology.WrittenDeployment.{WrittenDeployment}
+use Rattle.fp_written_parts.specs.declared.topology.WrittenPattern.{WrittenPattern}
+use Rattle.fp_written_parts.specs.declared.topology.WrittenPortUse.{WrittenPortUse}
+use Rattle.fp_written_parts.specs.declared.topology.WrittenTopology.{WrittenTopology}
 use Rattle.fp_topology_forms.specs.Written.{ConnectionIs, ImportIs, InstanceIs, IsWrittenDeployment, MemberInstanceIs, PatternIs, PortUseIs, TargetIs, TargetsAre, TopologyIs, connections_in, imports_in, instance_in, instance_of, instances, patterns_in, topologies, topology_in, topology_of, uses_in}
 use Rattle.fp_places.specs.Places.{places_in_connection, places_in_targets, places_in_topology_member, places_in_value}
 use Rattle.fp_places.proofs.Expressions.{StandIn}

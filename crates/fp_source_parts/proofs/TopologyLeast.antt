@@ -9,7 +9,7 @@ use Rattle.fp_tree.specs.declared.source.Source.{Source}
 use Rattle.fp_tables.specs.declared.topology.Instance.{Instance}
 use Rattle.fp_tables.specs.declared.topology.Link.{Link}
 use Rattle.fp_tables.specs.declared.topology.Topology.{Topology}
-use Rattle.fp_written_topologies.specs.declared.topology.WrittenDeployment.{WrittenDeployment}
+use Rattle.fp_written_parts.specs.declared.topology.WrittenDeployment.{WrittenDeployment}
 use Rattle.fp_instances.specs.Broken.{InstancesBroken}
 use Rattle.fp_instances.specs.Resolved.{AreInstances}
 use Rattle.fp_instances.proofs.Once.{one_instances}

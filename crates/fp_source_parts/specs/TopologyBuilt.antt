@@ -7,7 +7,7 @@ use Rattle.fp_tables.specs.declared.topology.Instance.{Instance}
 use Rattle.fp_tables.specs.declared.topology.Topology.{Topology}
 use Rattle.fp_type_sizes.specs.declared.written.WrittenType.{WrittenType}
 use Rattle.fp_type_forms.specs.Written.{AreWritten}
-use Rattle.fp_written_topologies.specs.declared.topology.WrittenDeployment.{WrittenDeployment}
+use Rattle.fp_written_parts.specs.declared.topology.WrittenDeployment.{WrittenDeployment}
 use Rattle.fp_instances.specs.Resolved.{AreInstances}
 use Rattle.fp_source_parts.specs.Built.{ArePartsOf}
 use Rattle.fp_source_parts.specs.declared.parts.Parts.{Parts}

@@ -3,7 +3,7 @@ ghost use Rattle.fp_base.specs.Least.{IsUnbroken, IsStop};
 ghost use Rattle.fp_instances.specs.Resolved.{AreInstances};
 ghost use Rattle.fp_source_parts.specs.TopologyBroken.{SourceInstancesBroken};
 ghost use Rattle.fp_source_parts.specs.TopologyBuilt.{IsDeployment};
-ghost use Rattle.fp_written_topologies.specs.Given.{DeploymentHasNumbers};
+ghost use Rattle.fp_written_parts.specs.Given.{DeploymentHasNumbers};
 
 use crate::Parts;
 use crate::topology_laws::instances_are_least;
@@ -11,7 +11,7 @@ use fp_base::{NoMemory, Row, Stop};
 use fp_instances::{instances_fault, instances_of, unbroken_are_within};
 use fp_tables::Instance;
 use fp_tree::Source;
-use fp_written_topologies::WrittenDeployment;
+use fp_written_parts::WrittenDeployment;
 use std::alloc::Global;
 
 /// The instances of a source, or the least rule that they break.

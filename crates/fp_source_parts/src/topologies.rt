@@ -16,7 +16,7 @@ use fp_topologies::{
     unbroken_imports_are_closed,
 };
 use fp_tree::Source;
-use fp_written_topologies::WrittenDeployment;
+use fp_written_parts::WrittenDeployment;
 use std::alloc::Global;
 
 /// The topologies of a source with their connections in order, which have no numbers yet, or the least rule that they break.

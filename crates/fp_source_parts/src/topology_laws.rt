@@ -13,7 +13,7 @@ ghost use Rattle.fp_topologies.specs.Resolved.{AreTopologies};
 ghost use Rattle.fp_topologies.specs.Broken.{TopologiesBroken};
 ghost use Rattle.fp_tree.specs.declared.source.Source.{Source};
 ghost use Rattle.fp_numbering.specs.Wired.{NumbersBroken};
-ghost use Rattle.fp_written_topologies.specs.declared.topology.WrittenDeployment.{WrittenDeployment};
+ghost use Rattle.fp_written_parts.specs.declared.topology.WrittenDeployment.{WrittenDeployment};
 
 use fp_components::one_components;
 use fp_topologies::one_topologies;

@@ -7,8 +7,8 @@ use Rattle.fp_base.proofs.Lists.{each_flat, each_mapped, each_push, each_weaker,
 use Rattle.fp_base.proofs.Spots.{item_below}
 use Rattle.fp_base.proofs.Mapped.{map_get}
 use Rattle.fp_tables.specs.Lists.{is_in}
-use Rattle.fp_written_topologies.specs.declared.topology.ImportedTopology.{ImportedTopology}
-use Rattle.fp_written_topologies.specs.declared.topology.WrittenTopology.{WrittenTopology}
+use Rattle.fp_written_parts.specs.declared.topology.ImportedTopology.{ImportedTopology}
+use Rattle.fp_written_parts.specs.declared.topology.WrittenTopology.{WrittenTopology}
 use Rattle.fp_topologies.specs.Imports.{AreClosures, Imports, LeadsToCycle, closure_at, closure_of, first_of_each, imported_by, with_imports}
 use Rattle.fp_topologies.proofs.Ways.{by_imports}
 use Rattle.fp_topologies.proofs.Earlier.{each_first}

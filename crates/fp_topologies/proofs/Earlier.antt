@@ -6,8 +6,8 @@ use Rattle.fp_base.proofs.Lists.{each_flat, each_mapped, each_push, each_weaker,
 use Rattle.fp_base.proofs.Spots.{item_below}
 use Rattle.fp_base.proofs.Passing.{each_filtered}
 use Rattle.fp_graph.specs.Chains.{IsOnCycle, IsOrder}
-use Rattle.fp_written_topologies.specs.declared.topology.ImportedTopology.{ImportedTopology}
-use Rattle.fp_written_topologies.specs.declared.topology.WrittenTopology.{WrittenTopology}
+use Rattle.fp_written_parts.specs.declared.topology.ImportedTopology.{ImportedTopology}
+use Rattle.fp_written_parts.specs.declared.topology.WrittenTopology.{WrittenTopology}
 use Rattle.fp_topologies.specs.Imports.{AreClosures, Imports, closure_at, closure_of, first_of_each, imported_by, with_imports}
 
 -- ---- what holds of each item

@@ -2,8 +2,8 @@
 use Rattle.std.proofs.Common.{◌≡◌, ◌↔◌, ◌<◌, ℕ, List, length, map, slice_get, Some, sym, subst}
 use Rattle.fp_base.proofs.Mapped.{map_get, get_mapped, many_mapped}
 use Rattle.fp_graph.specs.Rows.{IsListed}
-use Rattle.fp_written_topologies.specs.declared.topology.ImportedTopology.{ImportedTopology}
-use Rattle.fp_written_topologies.specs.declared.topology.WrittenTopology.{WrittenTopology}
+use Rattle.fp_written_parts.specs.declared.topology.ImportedTopology.{ImportedTopology}
+use Rattle.fp_written_parts.specs.declared.topology.WrittenTopology.{WrittenTopology}
 use Rattle.fp_topologies.specs.Imports.{imported_by, Imports, ImportsLie}
 
 module _ (ts : List WrittenTopology) (lie : ImportsLie ts) where

@@ -10,8 +10,8 @@ use Rattle.std.proofs.lemmas.List.{append-nil}
 use Rattle.std.proofs.Math.Bool.{or-false}
 use Rattle.fp_base.proofs.Lists.{take_next}
 use Rattle.fp_tables.specs.declared.topology.Link.{Link}
-use Rattle.fp_written_topologies.specs.declared.topology.MemberInstance.{MemberInstance}
-use Rattle.fp_written_topologies.specs.declared.topology.WrittenTopology.{WrittenTopology}
+use Rattle.fp_written_parts.specs.declared.topology.MemberInstance.{MemberInstance}
+use Rattle.fp_written_parts.specs.declared.topology.WrittenTopology.{WrittenTopology}
 use Rattle.fp_topologies.specs.Held.{is_private_at}
 use Rattle.fp_topologies.specs.Joined.{is_taken}
 use Rattle.fp_topologies.specs.Taken.{is_open, is_private_among}

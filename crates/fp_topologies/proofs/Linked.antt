@@ -16,8 +16,8 @@ use Rattle.fp_graph.specs.Chains.{AreFlags, IsOnCycle, LeadsThrough, one, more}
 use Rattle.fp_graph.specs.Rows.{IsListed}
 use Rattle.fp_graph.proofs.Places.{get_drop, get_joined, get_right}
 use Rattle.fp_graph.proofs.Leading.{leads_join}
-use Rattle.fp_written_topologies.specs.declared.topology.ImportedTopology.{ImportedTopology}
-use Rattle.fp_written_topologies.specs.declared.topology.WrittenTopology.{WrittenTopology}
+use Rattle.fp_written_parts.specs.declared.topology.ImportedTopology.{ImportedTopology}
+use Rattle.fp_written_parts.specs.declared.topology.WrittenTopology.{WrittenTopology}
 use Rattle.fp_topologies.specs.declared.links.Link.{Link}
 use Rattle.fp_topologies.specs.Flagged.{FlaggedLink}
 use Rattle.fp_topologies.specs.Imports.{Imports, ImportsBroken, ImportsLie, Reaches}

@@ -4,7 +4,7 @@ use Rattle.std.proofs.lemmas.List.{length-append}
 use Rattle.fp_base.proofs.Lists.{drop_next}
 use Rattle.fp_base.proofs.Numbers.{one_more}
 use Rattle.fp_base.specs.Numbers.{numbers_from}
-use Rattle.fp_written_topologies.specs.declared.topology.WrittenTopology.{WrittenTopology}
+use Rattle.fp_written_parts.specs.declared.topology.WrittenTopology.{WrittenTopology}
 use Rattle.fp_topologies.specs.declared.links.Link.{Link}
 use Rattle.fp_topologies.specs.Links.{links_from, links_in, rows_from}
 

@@ -23,11 +23,11 @@ use Rattle.fp_tables.specs.declared.topology.Instance.{Instance}
 use Rattle.fp_tables.specs.declared.topology.Link.{Link}
 use Rattle.fp_tables.specs.declared.topology.Topology.{Topology}
 use Rattle.fp_tables.specs.declared.topology.Wire.{Wire}
-use Rattle.fp_written_topologies.specs.Lying.{TopologyLies}
-use Rattle.fp_written_topologies.specs.declared.topology.MemberInstance.{MemberInstance}
-use Rattle.fp_written_topologies.specs.declared.topology.WrittenConnection.{WrittenConnection}
-use Rattle.fp_written_topologies.specs.declared.topology.WrittenPattern.{WrittenPattern}
-use Rattle.fp_written_topologies.specs.declared.topology.WrittenTopology.{WrittenTopology}
+use Rattle.fp_written_parts.specs.Lying.{TopologyLies}
+use Rattle.fp_written_parts.specs.declared.topology.MemberInstance.{MemberInstance}
+use Rattle.fp_written_parts.specs.declared.topology.WrittenConnection.{WrittenConnection}
+use Rattle.fp_written_parts.specs.declared.topology.WrittenPattern.{WrittenPattern}
+use Rattle.fp_written_parts.specs.declared.topology.WrittenTopology.{WrittenTopology}
 use Rattle.fp_topologies.specs.Held.{instances_of, instances_with, public_at, public_instances}
 use Rattle.fp_topologies.specs.declared.sorts.Join.{Join}
 use Rattle.fp_topologies.specs.declared.sorts.JoinAt.{JoinAt}

@@ -5,8 +5,8 @@ use Rattle.std.specs.Prelude.{Option, None, option_map, unwrap_or}
 use Rattle.std.proofs.lemmas.List.{map-append}
 use Rattle.std.proofs.lemmas.List.Elements.{filter-append}
 use Rattle.fp_base.proofs.Lists.{take_next}
-use Rattle.fp_written_topologies.specs.declared.topology.MemberInstance.{MemberInstance}
-use Rattle.fp_written_topologies.specs.declared.topology.WrittenTopology.{WrittenTopology}
+use Rattle.fp_written_parts.specs.declared.topology.MemberInstance.{MemberInstance}
+use Rattle.fp_written_parts.specs.declared.topology.WrittenTopology.{WrittenTopology}
 use Rattle.fp_topologies.specs.Held.{instances_of, members_at, public_at, public_instances, public_of}
 
 pub public_next : (ms : List MemberInstance) (n : ℕ) (m : MemberInstance) → slice_get ms n ≡ Some m → public_of (take (n + 1) ms) ≡ public_of (take n ms) ++ public_of (m ∷ [])

@@ -11,7 +11,7 @@ use Rattle.fp_base.specs.declared.refusal.Refusal.{Refusal}
 use Rattle.fp_base.specs.declared.rule.Rule.TheVariants.{BadInstance}
 use Rattle.fp_base.specs.Least.{broken_at, InFirst, IsLeast, lesser_of}
 use Rattle.fp_topologies.specs.MemberBroken.{Holds, IsRepeated, LackingAt, RepeatedAt, Repeated, Stands}
-use Rattle.fp_written_topologies.specs.declared.topology.UsedInstance.{UsedInstance}
+use Rattle.fp_written_parts.specs.declared.topology.UsedInstance.{UsedInstance}
 
 -- what is noted is what stands at the first so many places
 pub record AreNoted (has : ℕ → ℕ → Type 0) (n : ℕ) (noted : ℕ → Bool) : Type 0 where

@@ -9,8 +9,8 @@ use Rattle.fp_base.proofs.Lists.{each_append, of_item, same_items}
 use Rattle.fp_base.proofs.Spots.{item_below}
 use Rattle.fp_base.proofs.Mapped.{get_mapped}
 use Rattle.fp_graph.specs.Chains.{IsOnCycle, LeadsThrough, one, more}
-use Rattle.fp_written_topologies.specs.declared.topology.ImportedTopology.{ImportedTopology}
-use Rattle.fp_written_topologies.specs.declared.topology.WrittenTopology.{WrittenTopology}
+use Rattle.fp_written_parts.specs.declared.topology.ImportedTopology.{ImportedTopology}
+use Rattle.fp_written_parts.specs.declared.topology.WrittenTopology.{WrittenTopology}
 use Rattle.fp_topologies.specs.Imports.{AreClosures, closure_at, closure_of, first_of_each, imported_by, Imports, ImportsBroken, ImportsLie, LeadsToCycle, Reaches, with_imports}
 use Rattle.fp_topologies.proofs.Lists.{flat_same}
 use Rattle.fp_topologies.proofs.Numbers.{first_all}

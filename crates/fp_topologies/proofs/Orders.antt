@@ -7,8 +7,8 @@ use Rattle.fp_base.proofs.Bools.{neither, or_cases}
 use Rattle.fp_base.proofs.Options.{one_some, same_some}
 use Rattle.fp_base.proofs.Spots.{below_or_at, get_set_other, get_set_same, item_below}
 use Rattle.fp_graph.specs.Chains.{AreFlags, IsOnCycle, IsOrder, one}
-use Rattle.fp_written_topologies.specs.declared.topology.ImportedTopology.{ImportedTopology}
-use Rattle.fp_written_topologies.specs.declared.topology.WrittenTopology.{WrittenTopology}
+use Rattle.fp_written_parts.specs.declared.topology.ImportedTopology.{ImportedTopology}
+use Rattle.fp_written_parts.specs.declared.topology.WrittenTopology.{WrittenTopology}
 use Rattle.fp_topologies.specs.Filled.{AreFilled, imported_of, IsFilled, some_lacks_closure, lacks_closure}
 use Rattle.fp_topologies.specs.Imports.{AreClosures, closure_of, first_of_each, imported_by, Imports, LeadsToCycle, with_imports}
 use Rattle.fp_topologies.proofs.Lists.{flat_same}

@@ -4,8 +4,8 @@ use Rattle.fp_tables.specs.declared.component.Component.{Component}
 use Rattle.fp_tables.specs.declared.kind.PortDef.{PortDef}
 use Rattle.fp_tables.specs.declared.topology.Instance.{Instance}
 use Rattle.fp_tables.specs.declared.topology.Link.{Link}
-use Rattle.fp_written_topologies.specs.declared.topology.UsedInstance.{UsedInstance}
-use Rattle.fp_written_topologies.specs.declared.topology.WrittenPattern.{WrittenPattern}
+use Rattle.fp_written_parts.specs.declared.topology.UsedInstance.{UsedInstance}
+use Rattle.fp_written_parts.specs.declared.topology.WrittenPattern.{WrittenPattern}
 use Rattle.fp_topologies.specs.Patterns.{is_target, joins_at, links_by, pattern_links, targets_of}
 use Rattle.fp_topologies.specs.declared.sorts.JoinAt.{JoinAt}
 

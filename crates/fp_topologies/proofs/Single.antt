@@ -10,8 +10,8 @@ use Rattle.fp_tables.specs.declared.kind.PortDef.{PortDef}
 use Rattle.fp_tables.specs.declared.topology.Instance.{Instance}
 use Rattle.fp_tables.specs.declared.topology.Link.{Link}
 use Rattle.fp_tables.specs.declared.topology.Topology.{Topology}
-use Rattle.fp_written_topologies.specs.declared.topology.ImportedTopology.{ImportedTopology}
-use Rattle.fp_written_topologies.specs.declared.topology.WrittenTopology.{WrittenTopology}
+use Rattle.fp_written_parts.specs.declared.topology.ImportedTopology.{ImportedTopology}
+use Rattle.fp_written_parts.specs.declared.topology.WrittenTopology.{WrittenTopology}
 use Rattle.fp_topologies.specs.Imports.{AreClosures, Imports, LeadsToCycle, closure_at, closure_of, imported_by, with_imports}
 use Rattle.fp_topologies.specs.ImportLaws.{OneClosures}
 use Rattle.fp_topologies.proofs.Ways.{by_imports}

@@ -7,7 +7,7 @@ use Rattle.fp_base.proofs.Lists.{each_weaker}
 use Rattle.fp_base.proofs.Numbers.{same_number}
 use Rattle.fp_graph.specs.Chains.{IsOnCycle, LeadsThrough, one, more}
 use Rattle.fp_graph.proofs.Leading.{leads_join}
-use Rattle.fp_written_topologies.specs.declared.topology.WrittenTopology.{WrittenTopology}
+use Rattle.fp_written_parts.specs.declared.topology.WrittenTopology.{WrittenTopology}
 use Rattle.fp_topologies.specs.ImportFirsts.{has_number}
 use Rattle.fp_topologies.specs.Imports.{Imports, LeadsToCycle, Reaches}
 

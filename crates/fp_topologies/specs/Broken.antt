@@ -8,11 +8,11 @@ use Rattle.fp_tree.specs.declared.topology.Pattern.{Pattern}
 use Rattle.fp_tables.specs.declared.component.Component.{Component}
 use Rattle.fp_tables.specs.declared.kind.PortDef.{PortDef}
 use Rattle.fp_tables.specs.declared.topology.Instance.{Instance}
-use Rattle.fp_written_topologies.specs.declared.topology.MemberInstance.{MemberInstance}
-use Rattle.fp_written_topologies.specs.declared.topology.UsedInstance.{UsedInstance}
-use Rattle.fp_written_topologies.specs.declared.topology.WrittenConnection.{WrittenConnection}
-use Rattle.fp_written_topologies.specs.declared.topology.WrittenPattern.{WrittenPattern}
-use Rattle.fp_written_topologies.specs.declared.topology.WrittenTopology.{WrittenTopology}
+use Rattle.fp_written_parts.specs.declared.topology.MemberInstance.{MemberInstance}
+use Rattle.fp_written_parts.specs.declared.topology.UsedInstance.{UsedInstance}
+use Rattle.fp_written_parts.specs.declared.topology.WrittenConnection.{WrittenConnection}
+use Rattle.fp_written_parts.specs.declared.topology.WrittenPattern.{WrittenPattern}
+use Rattle.fp_written_parts.specs.declared.topology.WrittenTopology.{WrittenTopology}
 use Rattle.fp_topologies.specs.ConnectionBroken.{BrokenByConnections}
 use Rattle.fp_topologies.specs.MemberBroken.{Lacking, Repeated}
 use Rattle.fp_topologies.specs.Held.{instances_with}

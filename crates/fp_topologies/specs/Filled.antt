@@ -1,8 +1,8 @@
 -- Closures that are noted one after another, in an order in which each topology stands behind those that it imports.
 use Rattle.std.specs.Prelude.{◌≡◌, ℕ, ◌<◌, Bool, not, List, length, map, slice_get, Option, Some, None, is_some, option_and_then}
 use Rattle.std.specs.List.{list_any}
-use Rattle.fp_written_topologies.specs.declared.topology.ImportedTopology.{ImportedTopology}
-use Rattle.fp_written_topologies.specs.declared.topology.WrittenTopology.{WrittenTopology}
+use Rattle.fp_written_parts.specs.declared.topology.ImportedTopology.{ImportedTopology}
+use Rattle.fp_written_parts.specs.declared.topology.WrittenTopology.{WrittenTopology}
 use Rattle.fp_topologies.specs.Imports.{closure_of, LeadsToCycle}
 
 abbrev pub imported_of : List ImportedTopology → List ℕ

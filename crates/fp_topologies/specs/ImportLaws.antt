@@ -1,7 +1,7 @@
 -- What lists of closures say of one another and of the rule.
 use Rattle.std.specs.Prelude.{◌≡◌, ℕ, ◌<◌, List, length, slice_get, Option, Some}
 use Rattle.fp_base.specs.Least.{IsUnbroken}
-use Rattle.fp_written_topologies.specs.declared.topology.WrittenTopology.{WrittenTopology}
+use Rattle.fp_written_parts.specs.declared.topology.WrittenTopology.{WrittenTopology}
 use Rattle.fp_topologies.specs.Imports.{AreClosures, ImportsBroken, ImportsLie}
 
 -- they are one list

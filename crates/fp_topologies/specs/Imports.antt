@@ -5,8 +5,8 @@ use Rattle.fp_base.specs.Least.{broken_at}
 use Rattle.fp_base.specs.declared.refusal.Refusal.{Refusal}
 use Rattle.fp_base.specs.declared.rule.Rule.TheVariants.{ImportCycle}
 use Rattle.fp_graph.specs.Chains.{IsOnCycle, LeadsThrough}
-use Rattle.fp_written_topologies.specs.declared.topology.ImportedTopology.{ImportedTopology}
-use Rattle.fp_written_topologies.specs.declared.topology.WrittenTopology.{WrittenTopology}
+use Rattle.fp_written_parts.specs.declared.topology.ImportedTopology.{ImportedTopology}
+use Rattle.fp_written_parts.specs.declared.topology.WrittenTopology.{WrittenTopology}
 
 -- those that it imports itself
 abbrev pub imported_by : WrittenTopology → List ℕ

@@ -10,11 +10,11 @@ use Rattle.fp_tables.specs.declared.model.Model.{Model}
 use Rattle.fp_tables.specs.declared.topology.Instance.{Instance}
 use Rattle.fp_tables.specs.declared.topology.Link.{Link}
 use Rattle.fp_tables.specs.declared.topology.Topology.{Topology}
-use Rattle.fp_written_topologies.specs.Lying.{TopologyLies}
-use Rattle.fp_written_topologies.specs.declared.topology.UsedInstance.{UsedInstance}
-use Rattle.fp_written_topologies.specs.declared.topology.WrittenConnection.{WrittenConnection}
-use Rattle.fp_written_topologies.specs.declared.topology.WrittenPattern.{WrittenPattern}
-use Rattle.fp_written_topologies.specs.declared.topology.WrittenTopology.{WrittenTopology}
+use Rattle.fp_written_parts.specs.Lying.{TopologyLies}
+use Rattle.fp_written_parts.specs.declared.topology.UsedInstance.{UsedInstance}
+use Rattle.fp_written_parts.specs.declared.topology.WrittenConnection.{WrittenConnection}
+use Rattle.fp_written_parts.specs.declared.topology.WrittenPattern.{WrittenPattern}
+use Rattle.fp_written_parts.specs.declared.topology.WrittenTopology.{WrittenTopology}
 use Rattle.fp_topologies.specs.Held.{instances_with}
 use Rattle.fp_topologies.specs.Imports.{AreClosures}
 use Rattle.fp_topologies.specs.Resolved.{AreTopologies, HaveNoWires}

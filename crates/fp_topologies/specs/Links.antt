@@ -2,8 +2,8 @@
 -- they lead to what they import.
 use Rattle.std.specs.Prelude.{ℕ, suc, ◌+◌, List, [], ◌∷◌, ◌++◌, length, map}
 use Rattle.fp_base.specs.Numbers.{numbers_from}
-use Rattle.fp_written_topologies.specs.declared.topology.ImportedTopology.{ImportedTopology}
-use Rattle.fp_written_topologies.specs.declared.topology.WrittenTopology.{WrittenTopology}
+use Rattle.fp_written_parts.specs.declared.topology.ImportedTopology.{ImportedTopology}
+use Rattle.fp_written_parts.specs.declared.topology.WrittenTopology.{WrittenTopology}
 use Rattle.fp_topologies.specs.declared.links.Link.{Link}
 
 abbrev pub link_by : ℕ → ImportedTopology → Link

@@ -3,7 +3,7 @@ use Rattle.std.specs.Prelude.{◌≡◌, ℕ, ◌<◌, List, slice_get, Some}
 use Rattle.fp_base.specs.declared.refusal.Refusal.{Refusal}
 use Rattle.fp_base.specs.declared.rule.Rule.TheVariants.{BadInstance}
 use Rattle.fp_base.specs.Least.{BrokenAt, Either, InSome}
-use Rattle.fp_written_topologies.specs.declared.topology.UsedInstance.{UsedInstance}
+use Rattle.fp_written_parts.specs.declared.topology.UsedInstance.{UsedInstance}
 
 -- ---- twice among the members
 

@@ -15,8 +15,8 @@ use Rattle.fp_tables.specs.declared.component.Special.TheVariants.{CmdRecv, CmdR
 use Rattle.fp_tables.specs.declared.kind.PortDef.{PortDef}
 use Rattle.fp_tables.specs.declared.topology.Instance.{Instance}
 use Rattle.fp_tables.specs.declared.topology.Link.{Link}
-use Rattle.fp_written_topologies.specs.declared.topology.UsedInstance.{UsedInstance}
-use Rattle.fp_written_topologies.specs.declared.topology.WrittenPattern.{WrittenPattern}
+use Rattle.fp_written_parts.specs.declared.topology.UsedInstance.{UsedInstance}
+use Rattle.fp_written_parts.specs.declared.topology.WrittenPattern.{WrittenPattern}
 use Rattle.fp_topologies.specs.Ports.{ports_at}
 use Rattle.fp_topologies.specs.declared.sorts.Definition.{Definition}
 use Rattle.fp_topologies.specs.declared.sorts.Definition.TheVariants.{Of, Ping}

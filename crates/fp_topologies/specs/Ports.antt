@@ -8,9 +8,9 @@ use Rattle.fp_tables.specs.declared.topology.Instance.{Instance}
 use Rattle.fp_tables.specs.declared.topology.Link.{Link}
 use Rattle.fp_tables.specs.declared.topology.Written.{Written}
 use Rattle.fp_written_parts.specs.declared.port.Given.{Given}
-use Rattle.fp_written_topologies.specs.declared.topology.WrittenConnection.{WrittenConnection}
-use Rattle.fp_written_topologies.specs.declared.topology.WrittenPortUse.{WrittenPortUse}
-use Rattle.fp_written_topologies.specs.declared.topology.WrittenTopology.{WrittenTopology}
+use Rattle.fp_written_parts.specs.declared.topology.WrittenConnection.{WrittenConnection}
+use Rattle.fp_written_parts.specs.declared.topology.WrittenPortUse.{WrittenPortUse}
+use Rattle.fp_written_parts.specs.declared.topology.WrittenTopology.{WrittenTopology}
 use Rattle.fp_topologies.specs.declared.facts.ConnectionFacts.{ConnectionFacts}
 use Rattle.fp_topologies.specs.declared.facts.EndFacts.{EndFacts}
 use Rattle.fp_topologies.specs.declared.facts.JoinedPort.{JoinedPort}

@@ -4,7 +4,7 @@ use Rattle.std.specs.List.{list_any}
 use Rattle.std.specs.BTreeSet.{BTreeSet, contains}
 use Rattle.std.specs.Ordering.{nat_cmp}
 use Rattle.fp_tables.specs.declared.topology.Link.{Link}
-use Rattle.fp_written_topologies.specs.declared.topology.MemberInstance.{MemberInstance}
+use Rattle.fp_written_parts.specs.declared.topology.MemberInstance.{MemberInstance}
 
 abbrev pub is_private_among : ℕ → List MemberInstance → Bool
 is_private_among i members = list_any (λ (m : MemberInstance). m.private && m.used.instance == i) members

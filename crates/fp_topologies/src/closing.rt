@@ -5,7 +5,7 @@ ghost use Rattle.fp_topologies.specs.Filled.{imported_of, lacks_closure, some_la
 
 use crate::firsts::{Firsts, no_firsts, with_number, with_numbers};
 use fp_base::{NoMemory, Row};
-use fp_written_topologies::ImportedTopology;
+use fp_written_parts::ImportedTopology;
 use std::alloc::Global;
 
 /// Whether a topology has no closure in a table.

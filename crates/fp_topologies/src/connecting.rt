@@ -5,7 +5,7 @@ ghost use Rattle.fp_topologies.specs.Ports.{connection_facts};
 
 use crate::{ConnectionFacts, PortIndex, connection_faults};
 use fp_base::{NoMemory, Refusal, Row};
-use fp_written_topologies::WrittenConnection;
+use fp_written_parts::WrittenConnection;
 use std::alloc::Global;
 
 /// The least rule that one of the connections breaks by itself.

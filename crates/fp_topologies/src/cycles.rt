@@ -6,7 +6,7 @@ ghost use Rattle.fp_topologies.specs.Imports.{ImportsBroken, ImportsLie};
 use crate::links::{Link, linked};
 use fp_base::{NoMemory, Refusal, Rule, lesser, refusal_if};
 use fp_graph::chains_of;
-use fp_written_topologies::WrittenTopology;
+use fp_written_parts::WrittenTopology;
 use std::alloc::Global;
 
 fn flag_at(flags: &[bool], at: usize) -> bool

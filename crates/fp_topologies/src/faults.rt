@@ -9,7 +9,7 @@ use crate::rule_patterns::patterns_fault;
 use crate::{PortIndex, index_ports, one_closures};
 use fp_base::{NoMemory, Refusal, Row, lesser};
 use fp_tables::{Component, Instance, PortDef};
-use fp_written_topologies::WrittenTopology;
+use fp_written_parts::WrittenTopology;
 use std::alloc::Global;
 
 /// The least rule that a topology breaks, by what each of them imports, and the first import on a cycle.

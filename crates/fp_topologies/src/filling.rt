@@ -1,6 +1,6 @@
 ghost use Rattle.std.specs.Prelude.{◌≡◌, ◌+◌, ◌<◌, IfOk, OnOk, Some, length, set, slice_get};
 ghost use Rattle.fp_graph.specs.Chains.{AreFlags, IsOnCycle, IsOrder};
-ghost use Rattle.fp_written_topologies.specs.declared.topology.WrittenTopology.{WrittenTopology as Topology};
+ghost use Rattle.fp_written_parts.specs.declared.topology.WrittenTopology.{WrittenTopology as Topology};
 ghost use Rattle.fp_topologies.specs.Filled.{AreFilled};
 ghost use Rattle.fp_topologies.specs.Imports.{AreClosures, Imports, ImportsLie};
 
@@ -8,7 +8,7 @@ use crate::closing::closure_by;
 use crate::import_sorting::sorted_topologies;
 use fp_base::{NoMemory, Row};
 use fp_graph::{Chained, is_flagged};
-use fp_written_topologies::{ImportedTopology, WrittenTopology};
+use fp_written_parts::{ImportedTopology, WrittenTopology};
 use std::alloc::Global;
 
 /// What topologies import, through others too.

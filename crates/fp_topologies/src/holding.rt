@@ -4,7 +4,7 @@ ghost use Rattle.fp_topologies.specs.Held.{instances_of, instances_with, members
 
 use crate::firsts::{Firsts, no_firsts, with_number};
 use fp_base::{NoMemory, Row};
-use fp_written_topologies::{MemberInstance, WrittenTopology};
+use fp_written_parts::{MemberInstance, WrittenTopology};
 use std::alloc::Global;
 
 fn with_if_public(firsts: Firsts, member: MemberInstance) -> Result<Firsts, NoMemory>

@@ -5,7 +5,7 @@ ghost use Rattle.fp_topologies.specs.Imports.{Imports, ImportsLie, imported_by};
 
 use fp_base::{NoMemory, Row};
 use fp_graph::{Chained, chains_of};
-use fp_written_topologies::{ImportedTopology, WrittenTopology};
+use fp_written_parts::{ImportedTopology, WrittenTopology};
 use std::alloc::Global;
 
 fn imported_of(alloc: Global, imports: &[ImportedTopology]) -> Result<Row<u32>, NoMemory>

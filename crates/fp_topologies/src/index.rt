@@ -6,7 +6,7 @@ ghost use Rattle.fp_topologies.specs.Ports.{port_used, ports_at};
 
 use fp_base::NoMemory;
 use fp_tables::{Component, Instance, Port, PortDef};
-use fp_written_topologies::WrittenPortUse;
+use fp_written_parts::WrittenPortUse;
 use std::alloc::Global;
 use std::collections::BTreeMap;
 use std::marker::Model;

@@ -11,7 +11,7 @@ use crate::taking::imported_links;
 use crate::{Imported, PortIndex, instances_held};
 use fp_base::{NoMemory, Row};
 use fp_tables::Link;
-use fp_written_topologies::{WrittenPattern, WrittenTopology};
+use fp_written_parts::{WrittenPattern, WrittenTopology};
 use std::alloc::Global;
 
 /// What a topology has.

@@ -3,7 +3,7 @@ ghost use Rattle.fp_base.specs.Numbers.{numbers_from};
 ghost use Rattle.fp_topologies.specs.Links.{links_in, links_from, rows_from, targets_of};
 
 use fp_base::{NoMemory, Row};
-use fp_written_topologies::{ImportedTopology, WrittenTopology};
+use fp_written_parts::{ImportedTopology, WrittenTopology};
 use std::alloc::Global;
 
 /// An import, and the position of the topology that it stands in.

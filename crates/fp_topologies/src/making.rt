@@ -6,7 +6,7 @@ use crate::sorts::{Join, JoinAt, is_health, joins_of};
 use crate::written::push_some;
 use fp_base::{NoMemory, Place, Row};
 use fp_tables::Link;
-use fp_written_topologies::{UsedInstance, WrittenPattern};
+use fp_written_parts::{UsedInstance, WrittenPattern};
 use std::alloc::Global;
 
 impl<'a> PortIndex<'a> {

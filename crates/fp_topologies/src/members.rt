@@ -8,7 +8,7 @@ ghost use Rattle.fp_topologies.specs.Broken.{Lacks, own_uses, uses_in};
 use crate::uses::{own_uses, uses_in};
 use crate::{instances_held, member_faults};
 use fp_base::{NoMemory, Refusal, Row};
-use fp_written_topologies::WrittenTopology;
+use fp_written_parts::WrittenTopology;
 use std::alloc::Global;
 
 /// The least rule that is broken by the instances which a topology names: of one that leads to a cycle of imports nothing is said of what it

@@ -6,7 +6,7 @@ ghost use Rattle.fp_topologies.specs.MemberBroken.{Holds, Lacking, MembersBroken
 
 use crate::noting::{note, noted};
 use fp_base::{NoMemory, Refusal, Rule, lesser, refusal_if};
-use fp_written_topologies::UsedInstance;
+use fp_written_parts::UsedInstance;
 use std::alloc::Global;
 use std::collections::BTreeSet;
 

@@ -11,7 +11,7 @@ use crate::taking::imported_links;
 use crate::{Imported, index_ports};
 use fp_base::{NoMemory, Row};
 use fp_tables::{Component, Instance, Link, PortDef, Topology};
-use fp_written_topologies::WrittenTopology;
+use fp_written_parts::WrittenTopology;
 use std::alloc::Global;
 
 /// The topologies of a model, in source order. One that leads to a cycle of imports has nothing; none has numbers of its connections yet. In

@@ -6,7 +6,7 @@ use crate::PortIndex;
 use crate::uses::targets_of;
 use fp_base::{Refusal, Rule, lesser, refusal_if};
 use fp_tree::Pattern;
-use fp_written_topologies::{UsedInstance, WrittenPattern};
+use fp_written_parts::{UsedInstance, WrittenPattern};
 
 /// The least rule that one of the patterns breaks: at its one instance, or at an instance that it lists.
 pub fn patterns_fault(index: &PortIndex<'_>, patterns: &[WrittenPattern]) -> Option<Refusal>

@@ -9,7 +9,7 @@ ghost use Rattle.fp_topologies.specs.Taken.{is_open, is_private_among};
 use crate::joining::Joined;
 use fp_base::{NoMemory, Row};
 use fp_tables::Link;
-use fp_written_topologies::{MemberInstance, WrittenTopology};
+use fp_written_parts::{MemberInstance, WrittenTopology};
 use std::alloc::Global;
 use std::collections::BTreeSet;
 

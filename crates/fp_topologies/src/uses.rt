@@ -2,7 +2,7 @@ ghost use Rattle.std.specs.Prelude.{◌≡◌, [], ◌++◌, flat_map, map, unwr
 ghost use Rattle.fp_topologies.specs.Broken.{ends_of, uses_in, uses_of};
 
 use fp_base::{NoMemory, Row};
-use fp_written_topologies::{
+use fp_written_parts::{
     MemberInstance, UsedInstance, WrittenConnection, WrittenPattern, WrittenTopology,
 };
 use std::alloc::Global;

@@ -5,8 +5,7 @@ use crate::index::PortIndex;
 use crate::{ConnectionFacts, EndFacts, JoinedPort};
 use fp_base::{NoMemory, Row};
 use fp_tables::{Link, Written};
-use fp_written_parts::Given;
-use fp_written_topologies::{WrittenConnection, WrittenPortUse, WrittenTopology};
+use fp_written_parts::{Given, WrittenConnection, WrittenPortUse, WrittenTopology};
 use std::alloc::Global;
 
 impl<'a> PortIndex<'a> {

@@ -8,10 +8,10 @@ use Rattle.fp_tree.specs.declared.topology.Topology.{Topology}
 use Rattle.fp_meaning.specs.declared.group.Group.TheVariants as group
 use Rattle.fp_meaning.specs.Names.{Path}
 use Rattle.fp_component_forms.specs.Written.{BothOrNeither, PositionIs, Scoped, components}
-use Rattle.fp_written_topologies.specs.Lying.{DeploymentLies, TopologyLies}
-use Rattle.fp_written_topologies.specs.declared.topology.UsedInstance.{UsedInstance}
-use Rattle.fp_written_topologies.specs.declared.topology.WrittenDeployment.{WrittenDeployment}
-use Rattle.fp_written_topologies.specs.declared.topology.WrittenTopology.{WrittenTopology}
+use Rattle.fp_written_parts.specs.Lying.{DeploymentLies, TopologyLies}
+use Rattle.fp_written_parts.specs.declared.topology.UsedInstance.{UsedInstance}
+use Rattle.fp_written_parts.specs.declared.topology.WrittenDeployment.{WrittenDeployment}
+use Rattle.fp_written_parts.specs.declared.topology.WrittenTopology.{WrittenTopology}
 use Rattle.fp_topology_forms.specs.Written.{ConnectionIs, ImportIs, InstanceIs, IsWrittenDeployment, MemberInstanceIs, PatternIs, TargetIs, TargetsAre, TopologyIs, UsedIs, connections_in, imports_in, instance_part, instances, patterns_in, topologies, uses_in}
 use Rattle.fp_topology_forms.proofs.Places.{as_long, component_lies, instance_lies, second_read, topology_lies}
 

@@ -23,9 +23,9 @@ use Rattle.fp_meaning.specs.Sites.{ModelDef, component, instance, interface, mac
 use Rattle.fp_component_forms.specs.Written.{Scoped, qualified, same_group}
 use Rattle.fp_source_types.specs.Named.{DefinitionsAreNamed}
 use Rattle.fp_source_types.proofs.Dotted.{dotted_qualified}
-use Rattle.fp_written_topologies.specs.declared.instance.WrittenInstance.{WrittenInstance}
-use Rattle.fp_written_topologies.specs.declared.topology.WrittenDeployment.{WrittenDeployment}
-use Rattle.fp_written_topologies.specs.declared.topology.WrittenTopology.{WrittenTopology}
+use Rattle.fp_written_parts.specs.declared.instance.WrittenInstance.{WrittenInstance}
+use Rattle.fp_written_parts.specs.declared.topology.WrittenDeployment.{WrittenDeployment}
+use Rattle.fp_written_parts.specs.declared.topology.WrittenTopology.{WrittenTopology}
 use Rattle.fp_topology_forms.specs.Written.{InstanceIs, IsWrittenDeployment, TopologyIs, instance_in, instance_of, instances, topologies, topology_in, topology_of}
 use Rattle.fp_topology_forms.proofs.Texts.{source_once, texts_in, written_apart, written_qualified}
 

@@ -28,9 +28,9 @@ use Rattle.fp_part_values.proofs.Standing.{HasValue as IsPlaced, each_given, own
 use Rattle.fp_written_parts.specs.declared.port.Given.{Given}
 use Rattle.fp_written_parts.specs.Numbered.{HasNumber}
 use Rattle.fp_component_forms.specs.Written.{BothOrNeither, GivenIs, Scoped}
-use Rattle.fp_written_topologies.specs.Given.{DeploymentHasNumbers, HasNumberWhereGiven, InstanceHasNumbers}
-use Rattle.fp_written_topologies.specs.declared.instance.WrittenInstance.{WrittenInstance}
-use Rattle.fp_written_topologies.specs.declared.topology.WrittenDeployment.{WrittenDeployment}
+use Rattle.fp_written_parts.specs.Given.{DeploymentHasNumbers, HasNumberWhereGiven, InstanceHasNumbers}
+use Rattle.fp_written_parts.specs.declared.instance.WrittenInstance.{WrittenInstance}
+use Rattle.fp_written_parts.specs.declared.topology.WrittenDeployment.{WrittenDeployment}
 use Rattle.fp_topology_forms.specs.Written.{ConnectionIs, InstanceIs, IsWrittenDeployment, TopologyIs, connections_in, instance_in, instance_of, instances, topologies, topology_in, topology_of}
 use Rattle.fp_topology_forms.proofs.Places.{second_read}
 

@@ -14,10 +14,10 @@ use Rattle.fp_meaning.specs.Names.{Path}
 use Rattle.fp_type_forms.specs.declared.resolving.Resolution.{Resolution}
 use Rattle.fp_type_forms.specs.Resolved.{Takes}
 use Rattle.fp_type_forms.specs.Written.{AllAt}
-use Rattle.fp_written_topologies.specs.declared.topology.ImportedTopology.{ImportedTopology}
-use Rattle.fp_written_topologies.specs.declared.topology.MemberInstance.{MemberInstance}
-use Rattle.fp_written_topologies.specs.declared.topology.WrittenConnection.{WrittenConnection}
-use Rattle.fp_written_topologies.specs.declared.topology.WrittenPattern.{WrittenPattern}
+use Rattle.fp_written_parts.specs.declared.topology.ImportedTopology.{ImportedTopology}
+use Rattle.fp_written_parts.specs.declared.topology.MemberInstance.{MemberInstance}
+use Rattle.fp_written_parts.specs.declared.topology.WrittenConnection.{WrittenConnection}
+use Rattle.fp_written_parts.specs.declared.topology.WrittenPattern.{WrittenPattern}
 use Rattle.fp_topology_forms.specs.declared.members.MembersTaken.{MembersTaken}
 use Rattle.fp_topology_forms.specs.Taken.{AreWithMember, MembersAre, no_members}
 use Rattle.fp_topology_forms.specs.Written.{ConnectionIs, ImportIs, MemberInstanceIs, PatternIs, connections_in, imports_in, patterns_in, uses_in}

@@ -13,7 +13,7 @@ use crate::uses::port_use_taken;
 use fp_base::{NoMemory, Row, Value};
 use fp_tree::Connection;
 use fp_type_forms::Resolution;
-use fp_written_topologies::WrittenConnection;
+use fp_written_parts::WrittenConnection;
 use std::alloc::Global;
 
 /// Connections in a row; what stands in them is passed.

@@ -4,9 +4,9 @@ ghost use Rattle.fp_tree.specs.declared.source.Source.{Source};
 ghost use Rattle.fp_component_forms.specs.Written.{components};
 ghost use Rattle.fp_part_values.specs.FormBroken.{PartFormsBroken};
 ghost use Rattle.fp_part_values.specs.FormStanding.{AreValued};
-ghost use Rattle.fp_written_topologies.specs.Given.{DeploymentHasNumbers};
-ghost use Rattle.fp_written_topologies.specs.Lying.{DeploymentLies};
-ghost use Rattle.fp_written_topologies.specs.declared.topology.WrittenDeployment.{WrittenDeployment};
+ghost use Rattle.fp_written_parts.specs.Given.{DeploymentHasNumbers};
+ghost use Rattle.fp_written_parts.specs.Lying.{DeploymentLies};
+ghost use Rattle.fp_written_parts.specs.declared.topology.WrittenDeployment.{WrittenDeployment};
 ghost use Rattle.fp_topology_forms.specs.Written.{IsWrittenDeployment};
 
 use fp_part_values::unbroken_part_numbers_stand;

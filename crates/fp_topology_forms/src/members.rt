@@ -17,7 +17,7 @@ use fp_base::{NoMemory, Row, Value};
 use fp_component_forms::position_taken;
 use fp_tree::{Connections, Import, InstanceUse, PatternConnections, TMember};
 use fp_type_forms::Resolution;
-use fp_written_topologies::{ImportedTopology, MemberInstance, WrittenConnection, WrittenPattern};
+use fp_written_parts::{ImportedTopology, MemberInstance, WrittenConnection, WrittenPattern};
 use std::alloc::Global;
 
 /// What is written of the members of a topology, kind by kind, each in source order.

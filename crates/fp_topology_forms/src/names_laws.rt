@@ -5,9 +5,9 @@ ghost use Rattle.fp_meaning.specs.Broken.{BrokenByDefinitions};
 ghost use Rattle.fp_tables.specs.Names.{is_qualified, texts_differ};
 ghost use Rattle.fp_tree.specs.declared.source.Source.{Source};
 ghost use Rattle.fp_source_types.specs.Named.{DefinitionsAreNamed};
-ghost use Rattle.fp_written_topologies.specs.declared.instance.WrittenInstance.{WrittenInstance};
-ghost use Rattle.fp_written_topologies.specs.declared.topology.WrittenDeployment.{WrittenDeployment};
-ghost use Rattle.fp_written_topologies.specs.declared.topology.WrittenTopology.{WrittenTopology};
+ghost use Rattle.fp_written_parts.specs.declared.instance.WrittenInstance.{WrittenInstance};
+ghost use Rattle.fp_written_parts.specs.declared.topology.WrittenDeployment.{WrittenDeployment};
+ghost use Rattle.fp_written_parts.specs.declared.topology.WrittenTopology.{WrittenTopology};
 ghost use Rattle.fp_topology_forms.specs.Written.{IsWrittenDeployment};
 
 /// The names of instances and of topologies are names of the language, joined by dots.

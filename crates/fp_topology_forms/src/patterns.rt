@@ -14,7 +14,7 @@ use crate::uses::used_taken;
 use fp_base::{NoMemory, Row};
 use fp_tree::{PatternConnections, Target};
 use fp_type_forms::Resolution;
-use fp_written_topologies::{UsedInstance, WrittenPattern};
+use fp_written_parts::{UsedInstance, WrittenPattern};
 use std::alloc::Global;
 
 /// Connections by a pattern; the uses of instances in it are passed.

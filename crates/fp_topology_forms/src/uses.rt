@@ -14,7 +14,7 @@ use fp_base::{NoMemory, Place, Text, Value};
 use fp_component_forms::{optional_taken, position_taken};
 use fp_tree::PortUse;
 use fp_type_forms::Resolution;
-use fp_written_topologies::{UsedInstance, WrittenPortUse};
+use fp_written_parts::{UsedInstance, WrittenPortUse};
 use std::alloc::Global;
 
 /// The instance that the next use means, whose name begins at `at`; the use is passed.

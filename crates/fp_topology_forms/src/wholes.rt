@@ -13,7 +13,7 @@ use fp_base::{NoMemory, Row, Text, Value};
 use fp_component_forms::{given_taken, name_behind, optional_taken, position_taken};
 use fp_tree::{Instance, Topology};
 use fp_type_forms::Resolution;
-use fp_written_topologies::{WrittenInstance, WrittenTopology};
+use fp_written_parts::{WrittenInstance, WrittenTopology};
 use std::alloc::Global;
 
 /// An instance in a scope, from the resolutions of its parts, which begin at `start`.

@@ -13,7 +13,7 @@ use crate::wholes::{instance_written, topology_written};
 use fp_base::{NoMemory, Row, Value};
 use fp_meaning::{Declared, Item, ModelDef};
 use fp_type_forms::Resolution;
-use fp_written_topologies::{WrittenDeployment, WrittenInstance, WrittenTopology};
+use fp_written_parts::{WrittenDeployment, WrittenInstance, WrittenTopology};
 use std::alloc::Global;
 
 /// What is written of the instances and topologies of a source, from its items and what these are resolved to.

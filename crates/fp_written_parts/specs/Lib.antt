@@ -1,2 +1,4 @@
 pub mod Giving
 pub mod Numbered
+pub mod Given
+pub mod Lying

@@ -1,12 +1,20 @@
-//! What is written of ports, components and interfaces: their members, with the numbers that expressions have and where each thing stands.
+//! What is written of ports, components, interfaces, instances and topologies: their members, with the numbers that expressions have and where
+//! each thing stands.
 #![tactic(auto)]
 
 mod dictionary;
+mod instance;
 mod member;
 mod port;
+mod topology;
 
 pub use dictionary::{WrittenChannel, WrittenCommand, WrittenEvent, WrittenLimit, WrittenParam};
+pub use instance::WrittenInstance;
 pub use member::{WrittenComponent, WrittenInterface, WrittenMatch, WrittenMember, WrittenRunning};
 pub use port::{
     Given, QueueWords, WrittenFormal, WrittenImport, WrittenPort, WrittenPortDef, WrittenRole,
+};
+pub use topology::{
+    ImportedTopology, MemberInstance, UsedInstance, WrittenConnection, WrittenDeployment,
+    WrittenPattern, WrittenPortUse, WrittenTopology,
 };

@@ -2,7 +2,7 @@ use Rattle.std.proofs.Common.{List, sym, subst}
 use Rattle.fp_base.proofs.Calculus.{least_along, none_broken}
 use Rattle.fp_instances.specs.Numbers.{AreWithin}
 use Rattle.fp_instances.specs.Resolved.{AreInstances}
-use Rattle.fp_written_topologies.specs.declared.instance.WrittenInstance.{WrittenInstance}
+use Rattle.fp_written_parts.specs.declared.instance.WrittenInstance.{WrittenInstance}
 use Rattle.fp_source_parts.proofs.Along.{instances_along}
 use Rattle.fp_source_parts.proofs.instances.source_instances.Goals as goal
 

@@ -2,7 +2,7 @@ use Rattle.std.proofs.Common.{◌∙◌, ◌+◌, List, ℕ, flat_map, map, take
 use Rattle.std.proofs.lemmas.List.{take_all}
 use Rattle.std.proofs.lemmas.Option.{slice_get-get_or}
 use Rattle.fp_base.proofs.Mapped.{flat_last, mapped_next}
-use Rattle.fp_written_topologies.specs.declared.topology.ImportedTopology.{ImportedTopology}
+use Rattle.fp_written_parts.specs.declared.topology.ImportedTopology.{ImportedTopology}
 use Rattle.fp_topologies.specs.Filled.{imported_of}
 use Rattle.fp_topologies.specs.ImportFirsts.{AreFirsts}
 use Rattle.fp_topologies.specs.Imports.{with_imports}

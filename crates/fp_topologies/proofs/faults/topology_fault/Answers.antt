@@ -4,8 +4,8 @@ use Rattle.fp_base.proofs.Calculus.{least_along, least_either}
 use Rattle.fp_topologies.specs.ConnectionBroken.{BrokenByConnections}
 use Rattle.fp_topologies.specs.Ports.{connection_facts}
 use Rattle.fp_topologies.specs.Broken.{PatternBroken}
-use Rattle.fp_written_topologies.specs.declared.topology.WrittenConnection.{WrittenConnection}
-use Rattle.fp_written_topologies.specs.declared.topology.WrittenPattern.{WrittenPattern}
+use Rattle.fp_written_parts.specs.declared.topology.WrittenConnection.{WrittenConnection}
+use Rattle.fp_written_parts.specs.declared.topology.WrittenPattern.{WrittenPattern}
 use Rattle.fp_topologies.proofs.faults.topology_fault.Goals as goal
 
 pub returns : goal.returns

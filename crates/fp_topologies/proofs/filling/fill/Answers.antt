@@ -1,7 +1,7 @@
 use Rattle.std.proofs.Common.{◌∙◌, ◌||◌, ℕ, ◌+◌, Bool, cond, List, Option, Some, None, length, flat_map, set, sym, subst, ap, arith}
 use Rattle.fp_base.proofs.Spots.{item_below}
 use Rattle.fp_base.proofs.Lists.{get_along}
-use Rattle.fp_written_topologies.specs.declared.topology.ImportedTopology.{ImportedTopology}
+use Rattle.fp_written_parts.specs.declared.topology.ImportedTopology.{ImportedTopology}
 use Rattle.fp_topologies.specs.Filled.{AreFilled, imported_of, some_lacks_closure}
 use Rattle.fp_topologies.specs.Imports.{first_of_each, with_imports}
 use Rattle.fp_topologies.proofs.Orders.{filled_next}

@@ -2,7 +2,7 @@ use Rattle.std.proofs.Common.{◌+◌, ◌++◌, List, take, subst}
 use Rattle.std.proofs.lemmas.List.{take_all}
 use Rattle.std.proofs.lemmas.Option.{slice_get-get_or}
 use Rattle.fp_base.proofs.Mapped.{mapped_next}
-use Rattle.fp_written_topologies.specs.declared.topology.MemberInstance.{MemberInstance}
+use Rattle.fp_written_parts.specs.declared.topology.MemberInstance.{MemberInstance}
 use Rattle.fp_topologies.specs.ImportFirsts.{AreFirsts}
 use Rattle.fp_topologies.specs.Held.{instances_of}
 use Rattle.fp_topologies.proofs.ImportNoting.{none_more, some_more}

@@ -1,7 +1,7 @@
 use Rattle.std.proofs.Common.{◌≡◌, ◌∙◌, ◌++◌, [], ◌∷◌, List, ℕ, Some, length, map, slice_get, take, refl, sym, ap}
 use Rattle.std.proofs.lemmas.Option.{slice_get_read}
 use Rattle.fp_base.proofs.Mapped.{mapped_next}
-use Rattle.fp_written_topologies.specs.declared.topology.ImportedTopology.{ImportedTopology}
+use Rattle.fp_written_parts.specs.declared.topology.ImportedTopology.{ImportedTopology}
 use Rattle.fp_topologies.specs.Filled.{imported_of}
 use Rattle.fp_topologies.specs.Imports.{imported_by}
 use Rattle.fp_topologies.proofs.import_sorting.imported_by_each.Goals as goal

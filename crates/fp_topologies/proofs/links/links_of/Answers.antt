@@ -1,7 +1,7 @@
 use Rattle.std.proofs.Common.{◌≡◌, ◌∙◌, ◌+◌, List, ℕ, Some, length, slice_get, refl, ap}
 use Rattle.std.proofs.lemmas.Option.{slice_get_read}
 use Rattle.fp_base.specs.Numbers.{numbers_from}
-use Rattle.fp_written_topologies.specs.declared.topology.ImportedTopology.{ImportedTopology}
+use Rattle.fp_written_parts.specs.declared.topology.ImportedTopology.{ImportedTopology}
 use Rattle.fp_topologies.specs.Links.{links_in}
 use Rattle.fp_topologies.proofs.Linking.{links_next, rows_next}
 use Rattle.fp_topologies.proofs.links.links_of.Goals as goal

@@ -1,5 +1,5 @@
 use Rattle.std.proofs.Common.{[], ◌∙◌, ap, map, refl}
-use Rattle.fp_written_topologies.specs.declared.topology.MemberInstance.{MemberInstance}
+use Rattle.fp_written_parts.specs.declared.topology.MemberInstance.{MemberInstance}
 use Rattle.fp_topologies.proofs.JoiningSteps.{members_along}
 use Rattle.fp_topologies.proofs.members.repeated_fault.Goals as goal
 

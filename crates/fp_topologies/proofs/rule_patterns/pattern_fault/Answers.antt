@@ -1,7 +1,7 @@
 use Rattle.std.proofs.Common.{List, sym, subst}
 use Rattle.fp_base.specs.Least.{InSome, IsLeast}
 use Rattle.fp_base.proofs.Calculus.{least_along, least_either}
-use Rattle.fp_written_topologies.specs.declared.topology.UsedInstance.{UsedInstance}
+use Rattle.fp_written_parts.specs.declared.topology.UsedInstance.{UsedInstance}
 use Rattle.fp_topologies.specs.Broken.{TargetBroken}
 use Rattle.fp_topologies.proofs.Folding.{least_where_false}
 use Rattle.fp_topologies.proofs.rule_patterns.pattern_fault.Goals as goal

@@ -1,5 +1,5 @@
 use Rattle.std.proofs.Common.{◌≡◌, take, map}
-use Rattle.fp_written_topologies.specs.declared.topology.MemberInstance.{MemberInstance}
+use Rattle.fp_written_parts.specs.declared.topology.MemberInstance.{MemberInstance}
 use Rattle.fp_topologies.proofs.uses.own_uses.Given as goal
 
 abbrev pub invariant-loop-member : goal.invariant-loop-member

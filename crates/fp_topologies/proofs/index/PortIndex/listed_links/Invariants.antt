@@ -1,5 +1,5 @@
 use Rattle.std.proofs.Common.{◌≡◌, flat_map, take}
-use Rattle.fp_written_topologies.specs.declared.topology.UsedInstance.{UsedInstance}
+use Rattle.fp_written_parts.specs.declared.topology.UsedInstance.{UsedInstance}
 use Rattle.fp_topologies.specs.Patterns.{links_by}
 use Rattle.fp_topologies.proofs.index.PortIndex.listed_links.Given as goal
 

@@ -1,5 +1,5 @@
 use fp_base::{Place, Text};
-use fp_written_parts::Given;
+use crate::port::Given;
 
 /// An instance of a component.
 #[derive(Drop)]
