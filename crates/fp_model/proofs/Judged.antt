@@ -28,7 +28,7 @@ use Rattle.fp_source_types.proofs.Resolved.{given_types}
 use Rattle.fp_part_values.specs.FormBroken.{PartFormsBroken}
 use Rattle.fp_part_values.specs.FormStanding.{AreValued}
 use Rattle.fp_part_values.specs.Broken.{PartValuesBroken}
-use Rattle.fp_phases.specs.Broken.{PhasesBroken}
+use Rattle.fp_part_values.specs.Phases.{PhasesBroken}
 use Rattle.fp_source_parts.specs.Valued.{IsValued}
 use Rattle.fp_model.specs.Broken.{ConversionsBroken, ValuesBroken}
 

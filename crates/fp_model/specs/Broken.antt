@@ -7,7 +7,7 @@ use Rattle.fp_base.specs.Least.{Either}
 use Rattle.fp_tree.specs.declared.source.Source.{Source}
 use Rattle.fp_meaning.specs.Broken.{NamesBroken}
 use Rattle.fp_meaning.specs.ConstantFaults.{ConstantsBroken}
-use Rattle.fp_phases.specs.Broken.{PhasesBroken}
+use Rattle.fp_part_values.specs.Phases.{PhasesBroken}
 use Rattle.fp_type_sizes.specs.declared.written.WrittenType.{WrittenType}
 use Rattle.fp_type_forms.specs.Written.{AreWritten}
 use Rattle.fp_source_types.specs.Broken.{TypesBroken}

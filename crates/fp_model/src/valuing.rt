@@ -6,7 +6,7 @@ ghost use Rattle.fp_meaning.specs.Meaning.{AreMeanings};
 ghost use Rattle.fp_meaning.specs.Names.{definitions, mentions};
 ghost use Rattle.fp_meaning.specs.Origins.{expressions};
 ghost use Rattle.fp_part_values.specs.FormBroken.{PartFormsBroken};
-ghost use Rattle.fp_phases.specs.Broken.{PhasesBroken};
+ghost use Rattle.fp_part_values.specs.Phases.{PhasesBroken};
 ghost use Rattle.fp_source_parts.specs.Valued.{IsValued};
 ghost use Rattle.fp_source_types.specs.Listed.{EnumsHaveConstants};
 ghost use Rattle.fp_source_types.specs.Measured.{IsMeasured};
@@ -20,8 +20,7 @@ use fp_base::{Refusal, Row, Stop, Value, lesser};
 use fp_consts::evaluate_all;
 use fp_meaning::Item;
 use fp_names::Names;
-use fp_part_values::{part_form_faults, part_value_faults};
-use fp_phases::phase_faults;
+use fp_part_values::{part_form_faults, part_value_faults, phase_faults};
 use fp_source_types::{
     Measured, given_among, measured_in, types_measured, unbroken_types_exist, unbroken_values_exist,
 };

@@ -4,5 +4,6 @@ pub mod FormStanding
 pub mod Names
 pub mod Numbers
 pub mod Passed
+pub mod Phases
 pub mod Standing
 pub mod Tested

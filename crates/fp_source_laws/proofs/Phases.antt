@@ -12,7 +12,7 @@ use Rattle.fp_meaning.specs.declared.item.Item.{Item}
 use Rattle.fp_meaning.specs.declared.item.Item.TheVariants as item
 use Rattle.fp_meaning.specs.Layout.{items}
 use Rattle.fp_meaning.specs.Sites.{ModelDef, component, instance, interface, machine, topology}
-use Rattle.fp_phases.specs.Broken.{BrokenByDefinition, BrokenByItem, BrokenByPhase, HasFloat, PhasesBroken, itself, within}
+use Rattle.fp_part_values.specs.Phases.{BrokenByDefinition, BrokenByItem, BrokenByPhase, HasFloat, PhasesBroken, itself, within}
 use Rattle.fp_places.specs.Places.{places_in_phase, places_of_model}
 use Rattle.fp_places.proofs.Expressions.{StandIn}
 use Rattle.fp_places.proofs.Definitions.{StandOf}

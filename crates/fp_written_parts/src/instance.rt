@@ -1,5 +1,5 @@
-use fp_base::{Place, Text};
 use crate::port::Given;
+use fp_base::{Place, Text};
 
 /// An instance of a component.
 #[derive(Drop)]

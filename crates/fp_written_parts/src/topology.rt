@@ -1,7 +1,7 @@
 use crate::instance::WrittenInstance;
+use crate::port::Given;
 use fp_base::{Place, Row, Text};
 use fp_tree::Pattern;
-use crate::port::Given;
 
 /// An instance that a topology names: among its members, at an end of a connection, or in a pattern.
 #[derive(Clone, Copy)]

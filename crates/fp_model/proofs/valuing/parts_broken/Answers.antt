@@ -8,7 +8,7 @@ use Rattle.fp_type_forms.specs.declared.resolving.Resolution.{Resolution}
 use Rattle.fp_type_forms.specs.Resolved.{AreResolved}
 use Rattle.fp_meaning.specs.declared.item.Item.{Item}
 use Rattle.fp_part_values.specs.Broken.{PartValuesBroken}
-use Rattle.fp_phases.specs.Broken.{BrokenByItems, PhasesBroken}
+use Rattle.fp_part_values.specs.Phases.{BrokenByItems, PhasesBroken}
 use Rattle.fp_model.proofs.Judged.{conversions_least}
 use Rattle.fp_model.proofs.valuing.parts_broken.Goals as goal
 

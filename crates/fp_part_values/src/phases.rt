@@ -1,7 +1,7 @@
 ghost use Rattle.fp_base.specs.Least.{InSome, IsLeast};
 ghost use Rattle.fp_meaning.specs.Read.{read};
 ghost use Rattle.fp_meaning.specs.Values.{values_in};
-ghost use Rattle.fp_phases.specs.Broken.{BrokenByDefinition, BrokenByItem, BrokenByItems, BrokenByPhase, FloatBroken};
+ghost use Rattle.fp_part_values.specs.Phases.{BrokenByDefinition, BrokenByItem, BrokenByItems, BrokenByPhase, FloatBroken};
 
 use fp_base::{Refusal, Rule, lesser, refusal_at};
 use fp_meaning::{Item, ModelDef};

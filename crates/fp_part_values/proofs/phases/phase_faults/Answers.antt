@@ -1,8 +1,8 @@
 use Rattle.std.proofs.Common.{◌≡◌, Some, length, slice_get, refl}
 use Rattle.std.proofs.lemmas.Option.{slice_get_read}
-use Rattle.fp_phases.specs.Broken.{BrokenByItem}
-use Rattle.fp_phases.proofs.Folding.{least_next, least_of_all, least_start}
-use Rattle.fp_phases.proofs.faults.phase_faults.Goals as goal
+use Rattle.fp_part_values.specs.Phases.{BrokenByItem}
+use Rattle.fp_part_values.proofs.Folding.{least_next, least_of_all, least_start}
+use Rattle.fp_part_values.proofs.phases.phase_faults.Goals as goal
 
 pub loop-item-init : goal.loop-item-init
 loop-item-init c = least_start BrokenByItem c.args.items.now

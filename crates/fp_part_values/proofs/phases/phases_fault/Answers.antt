@@ -1,8 +1,8 @@
 use Rattle.std.proofs.Common.{◌≡◌, Some, length, slice_get, refl}
 use Rattle.std.proofs.lemmas.Option.{slice_get_read}
-use Rattle.fp_phases.specs.Broken.{BrokenByPhase}
-use Rattle.fp_phases.proofs.Folding.{least_next, least_of_all, least_start}
-use Rattle.fp_phases.proofs.faults.phases_fault.Goals as goal
+use Rattle.fp_part_values.specs.Phases.{BrokenByPhase}
+use Rattle.fp_part_values.proofs.Folding.{least_next, least_of_all, least_start}
+use Rattle.fp_part_values.proofs.phases.phases_fault.Goals as goal
 
 pub loop-phase-init : goal.loop-phase-init
 loop-phase-init c = least_start BrokenByPhase c.args.phases.now

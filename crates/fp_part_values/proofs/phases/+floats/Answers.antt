@@ -5,10 +5,10 @@ use Rattle.fp_tree.specs.declared.expression.Assignment.{Assignment}
 use Rattle.fp_tree.specs.declared.expression.Form.TheVariants.{Minus, Parentheses, Binary, Array, Struct}
 use Rattle.fp_meaning.specs.Values.{values_in}
 use Rattle.fp_meaning.proofs.Opened.{member_at, values_past}
-use Rattle.fp_phases.specs.Broken.{FloatBroken}
-use Rattle.fp_phases.proofs.Folding.{least_next, least_of_all, least_start}
-use Rattle.fp_phases.proofs.Floating.{number_arm, float_arm, text_arm, truth_arm, use_arm, minus_arm, parentheses_arm, binary_arm, array_arm, struct_arm}
-use Rattle.fp_phases.proofs.faults.+floats.Goals as goal
+use Rattle.fp_part_values.specs.Phases.{FloatBroken}
+use Rattle.fp_part_values.proofs.Folding.{least_next, least_of_all, least_start}
+use Rattle.fp_part_values.proofs.Floating.{number_arm, float_arm, text_arm, truth_arm, use_arm, minus_arm, parentheses_arm, binary_arm, array_arm, struct_arm}
+use Rattle.fp_part_values.proofs.phases.+floats.Goals as goal
 
 pub expression_fault-returns-in-Number : goal.expression_fault-returns-in-Number
 expression_fault-returns-in-Number t c = number_arm c.args.expression.now c.in-Number.field-0 c.in-Number.is

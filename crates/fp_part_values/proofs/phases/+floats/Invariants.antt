@@ -1,7 +1,7 @@
 use Rattle.fp_meaning.specs.Values.{values_in}
-use Rattle.fp_phases.specs.Broken.{FloatBroken}
-use Rattle.fp_phases.proofs.Folding.{LeastFirst}
-use Rattle.fp_phases.proofs.faults.+floats.Given as goal
+use Rattle.fp_part_values.specs.Phases.{FloatBroken}
+use Rattle.fp_part_values.proofs.Folding.{LeastFirst}
+use Rattle.fp_part_values.proofs.phases.+floats.Given as goal
 
 abbrev pub invariant-items_fault-loop-item : goal.invariant-items_fault-loop-item
 invariant-items_fault-loop-item l = LeastFirst FloatBroken l.items l.item-index l.first

@@ -3,8 +3,8 @@ use Rattle.fp_base.specs.Least.{InSome, IsLeast}
 use Rattle.fp_tree.specs.declared.instance.Phase.{Phase}
 use Rattle.fp_meaning.specs.Read.{read}
 use Rattle.fp_meaning.specs.Sites.{ModelDef}
-use Rattle.fp_phases.specs.Broken.{BrokenByDefinition, BrokenByPhase}
-use Rattle.fp_phases.proofs.faults.definition_fault.Goals as goal
+use Rattle.fp_part_values.specs.Phases.{BrokenByDefinition, BrokenByPhase}
+use Rattle.fp_part_values.proofs.phases.definition_fault.Goals as goal
 
 pub returns-in-Instance : goal.returns-in-Instance
 returns-in-Instance c =

@@ -15,8 +15,8 @@ use Rattle.fp_tree.specs.declared.expression.Form.TheVariants.{Number, rolls-Num
 use Rattle.fp_meaning.specs.ConstantFaults.{parts_of}
 use Rattle.fp_meaning.specs.Values.{Opened, opened, values_in}
 use Rattle.fp_meaning.proofs.Opened.{opened_by}
-use Rattle.fp_phases.specs.Broken.{HasFloat, itself, within, FloatBroken}
-use Rattle.fp_phases.proofs.Folding.{least_of_one, least_of_two}
+use Rattle.fp_part_values.specs.Phases.{HasFloat, itself, within, FloatBroken}
+use Rattle.fp_part_values.proofs.Folding.{least_of_one, least_of_two}
 
 -- a float is the expression itself, or is in one of its parts
 abbrev InPart : Expr → Place → Type 0

@@ -1,2 +1,0 @@
-mod Floating
-mod Folding
