@@ -4,8 +4,8 @@ use Rattle.std.proofs.lemmas.Bool.Decides.{nat_tests}
 use Rattle.fp_base.proofs.Bools.{both}
 use Rattle.fp_base.proofs.Sameness.{nat_same}
 use Rattle.std.specs.List.{slice_get}
-use Rattle.fp_system.specs.Run as system
-use Rattle.fp_system.proofs.Turns.{InTurn-more}
+use Rattle.fp_events.specs.SystemRun as system
+use Rattle.fp_events.proofs.Turns.{InTurn-more}
 use Rattle.fp_tables.specs.Lookup.{Described}
 use Rattle.fp_tables.specs.declared.program.Program.{Program}
 use Rattle.fp_events.specs.declared.event.Ask.{Ask}

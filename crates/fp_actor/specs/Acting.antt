@@ -6,7 +6,7 @@ use Rattle.fp_events.specs.declared.event.Ask.{Ask}
 use Rattle.fp_events.specs.declared.event.Entry.{Entry}
 use Rattle.fp_events.specs.Actor.{ActorState}
 use Rattle.fp_events.specs.Due.{due}
-use Rattle.fp_system.specs.Run as system
+use Rattle.fp_events.specs.SystemRun as system
 use Rattle.fp_events.specs.Step.{core, answers_due}
 
 -- its tables and program with its number in it, which stay; its trace; its state; and whether it has room for an entry more

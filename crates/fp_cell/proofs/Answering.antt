@@ -4,7 +4,7 @@ use Rattle.fp_tables.specs.Sound.{IsSound}
 use Rattle.fp_events.proofs.Waiting.{tells_or_waits}
 use Rattle.fp_events.specs.Fits.{actor_count, fits, ask_fits}
 use Rattle.fp_events.specs.Instance.{Inside as Left, InstanceState}
-use Rattle.fp_system.specs.Run.{Kept}
+use Rattle.fp_events.specs.SystemRun.{Kept}
 use Rattle.fp_events.specs.Step.{core, instance_part, stamped}
 use Rattle.fp_events.specs.Tells.{tells}
 use Rattle.fp_events.specs.Waits.{waits}

@@ -1,8 +1,8 @@
 -- A step of an instance with its stamp, and the history that goes on by it.
 use Rattle.std.proofs.Common.{◌≡◌, ◌≤◌, ◌<◌, ℕ, suc, max, true, nat_lt, ◌&&◌, List, [], ◌∷◌, ◌++◌, Some, refl, arith}
 use Rattle.std.proofs.lemmas.Bool.Decides.{nat_tests}
-use Rattle.fp_system.specs.Run as system
-use Rattle.fp_system.proofs.Turns.{InTurn-more}
+use Rattle.fp_events.specs.SystemRun as system
+use Rattle.fp_events.proofs.Turns.{InTurn-more}
 use Rattle.fp_tables.specs.Lookup.{Described}
 use Rattle.fp_tables.specs.declared.program.Program.{Program}
 use Rattle.fp_events.specs.Fits.{actor_count, what_fits, fits}

@@ -1,6 +1,6 @@
 -- A cell as its callers see it.
 use Rattle.std.specs.Prelude.{ℕ, List, []}
-use Rattle.fp_system.specs.Run as system
+use Rattle.fp_events.specs.SystemRun as system
 use Rattle.fp_tables.specs.Lookup.{Described}
 use Rattle.fp_tables.specs.declared.program.Program.{Program}
 use Rattle.fp_events.specs.Instance.{InstanceState, opened_instance}

@@ -4,8 +4,8 @@ use Rattle.std.specs.List.{list_any, range_with_len}
 use Rattle.std.proofs.lemmas.Bool.Decides.{nat_tests}
 use Rattle.fp_base.proofs.Passing.{none_passes}
 use Rattle.fp_base.proofs.Options.{mapped_some, then_some, some_of}
-use Rattle.fp_system.proofs.Ended.{ended_stuck, stuck_dues}
-use Rattle.fp_system.proofs.Spent.{spent_stamp}
+use Rattle.fp_events.proofs.SystemEnded.{ended_stuck, stuck_dues}
+use Rattle.fp_events.proofs.Spent.{spent_stamp}
 use Rattle.fp_base.proofs.Bools.{both, neither}
 use Rattle.fp_tables.specs.Lookup.{Described}
 use Rattle.fp_tables.specs.declared.program.Program.{Program}

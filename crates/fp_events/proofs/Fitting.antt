@@ -1,7 +1,7 @@
 -- Each entry of a run fits; a value that fits is of something that is there.
 use Rattle.std.proofs.Common.{◌≡◌, ℕ, true, List, ◌∷◌, ◌++◌, Option, Some, None, option_map, is_some, refl, sym, subst}
-use Rattle.fp_system.specs.Run.{InstanceStep, Run, World, opening}
-use Rattle.fp_system.proofs.Local.{instance_law}
+use Rattle.fp_events.specs.SystemRun.{InstanceStep, Run, World, opening}
+use Rattle.fp_events.proofs.Local.{instance_law}
 use Rattle.fp_base.specs.declared.value.Value.{Value}
 use Rattle.fp_tables.specs.Lookup.{Described}
 use Rattle.fp_tables.specs.declared.kind.Kind.{Kind}

@@ -3,8 +3,8 @@ use Rattle.std.proofs.Common.{◌≡◌, ℕ, Bool, true, false, cond, ◌&&◌,
 use Rattle.fp_tables.specs.Specials.{special_wire}
 use Rattle.fp_base.proofs.Options.{mapped_some, same_some}
 use Rattle.fp_base.specs.declared.value.Value.{Value}
-use Rattle.fp_system.specs.Run.{ActorStep, InTurn}
-use Rattle.fp_system.proofs.Local.{actor_law}
+use Rattle.fp_events.specs.SystemRun.{ActorStep, InTurn}
+use Rattle.fp_events.proofs.Local.{actor_law}
 use Rattle.fp_tables.specs.Lookup.{Described, wire_from}
 use Rattle.fp_tables.specs.declared.component.Special.{Special}
 use Rattle.fp_tables.specs.declared.component.Special.TheVariants as special

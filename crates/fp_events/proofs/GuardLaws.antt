@@ -5,7 +5,7 @@ use Rattle.std.specs.List.{list_any}
 use Rattle.std.proofs.lemmas.Bool.Decides.{nat_tests}
 use Rattle.fp_base.proofs.Options.{mapped_some, same_some, then_some}
 use Rattle.fp_base.proofs.Sameness.{nat_same}
-use Rattle.fp_system.specs.Run.{InTurn, Step, updated}
+use Rattle.fp_events.specs.SystemRun.{InTurn, Step, updated}
 use Rattle.fp_tables.specs.Lookup.{Described}
 use Rattle.fp_tables.specs.declared.component.Full.{Full}
 use Rattle.fp_tables.specs.declared.component.Full.TheVariants as full

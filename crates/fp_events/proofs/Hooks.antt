@@ -11,7 +11,7 @@ use Rattle.fp_events.specs.QueueOrder.{untaken_after, untaken_from}
 use Rattle.fp_events.specs.Run.{at, by}
 use Rattle.fp_events.proofs.FramesPair.{open_from-more}
 use Rattle.fp_events.proofs.QueueLaws.{untaken_from-more}
-use Rattle.fp_system.specs.Run.{projection}
+use Rattle.fp_events.specs.SystemRun.{projection}
 
 -- the last entry is one of its own projection
 one_more : (test : Bool) (x e : Entry) (longer shorter : List Entry) → longer ≡ shorter ++ e ∷ [] → cond test (x ∷ longer) longer ≡ cond test (x ∷ shorter) shorter ++ e ∷ []

@@ -27,3 +27,16 @@ pub mod ReturnedValueIsBound
 pub mod TurnHeldByOne
 pub mod HookUnderGuard
 pub mod Halting
+pub mod Turns
+pub mod OfRun
+pub mod Decompose
+pub mod Sorting
+pub mod Agreement
+pub mod Rows
+pub mod Merged
+pub mod SystemEnded
+pub mod Scheduled
+pub mod Seen
+pub mod Local
+pub mod Spent
+pub mod Replay

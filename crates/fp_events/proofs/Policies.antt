@@ -1,7 +1,7 @@
 -- What a trace has of full queues.
 use Rattle.std.proofs.Common.{◌≡◌, ℕ, true, Option, Some, List, ◌∷◌, ◌++◌, refl, sym, subst}
-use Rattle.fp_system.specs.Run.{ActorStep, InTurn}
-use Rattle.fp_system.proofs.Turns.{InTurn-split}
+use Rattle.fp_events.specs.SystemRun.{ActorStep, InTurn}
+use Rattle.fp_events.proofs.Turns.{InTurn-split}
 use Rattle.fp_tables.specs.Lookup.{Described}
 use Rattle.fp_tables.specs.declared.component.Full.TheVariants as full
 use Rattle.fp_tables.specs.declared.component.Way.TheVariants.{Later}

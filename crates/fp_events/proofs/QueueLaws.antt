@@ -3,8 +3,8 @@ use Rattle.std.proofs.Common.{◌≡◌, ℕ, suc, ◌≤◌, Bool, true, false,
 use Rattle.std.proofs.lemmas.Bool.Decides.{nat_tests}
 use Rattle.fp_tables.specs.Specials.{component}
 use Rattle.fp_base.proofs.Options.{mapped_some, then_some, same_some}
-use Rattle.fp_system.specs.Run.{InstanceStep, Run, World, at, opening}
-use Rattle.fp_system.proofs.Local.{instance_law}
+use Rattle.fp_events.specs.SystemRun.{InstanceStep, Run, World, at, opening}
+use Rattle.fp_events.proofs.Local.{instance_law}
 use Rattle.fp_tables.specs.Lookup.{Described}
 use Rattle.fp_tables.specs.declared.component.Full.{Full}
 use Rattle.fp_tables.specs.declared.component.Full.TheVariants as full

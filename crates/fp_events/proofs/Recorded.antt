@@ -3,11 +3,11 @@ use Rattle.std.proofs.Common.{◌≡◌, ℕ, zero, suc, ◌<◌, ◌≤◌, Boo
 use Rattle.std.specs.List.{AllByRecursion, IsDistinct, list_any}
 use Rattle.std.specs.List.Sorted.{IsSortedBy, IsStableBy}
 use Rattle.std.proofs.lemmas.Bool.Decides.{nat_tests}
-use Rattle.fp_system.specs.Run as system
-use Rattle.fp_system.proofs.Turns.{projection-other}
-use Rattle.fp_system.proofs.Rows.{kept_owned, row_of_joined}
-use Rattle.fp_system.proofs.Sorting.{NeverFalls, never_falls}
-use Rattle.fp_system.proofs.Merged.{sorted_run, sorted_histories, sorted_traces, entry_lt-stamps}
+use Rattle.fp_events.specs.SystemRun as system
+use Rattle.fp_events.proofs.Turns.{projection-other}
+use Rattle.fp_events.proofs.Rows.{kept_owned, row_of_joined}
+use Rattle.fp_events.proofs.Sorting.{NeverFalls, never_falls}
+use Rattle.fp_events.proofs.Merged.{sorted_run, sorted_histories, sorted_traces, entry_lt-stamps}
 use Rattle.fp_base.proofs.Bools.{both}
 use Rattle.fp_base.proofs.Spots.{before_or_not}
 use Rattle.fp_tables.specs.Names.{numbers_differ}

@@ -4,8 +4,8 @@ use Rattle.std.proofs.lemmas.List.{length-map}
 use Rattle.std.proofs.lemmas.List.FromFn.{length-map-range_with_len, get_or-map-range_with_len}
 use Rattle.std.proofs.lemmas.Bool.Decides.{eqb_tells, nat_tests}
 use Rattle.fp_base.proofs.Spots.{before_or_not}
-use Rattle.fp_system.specs.Run as system
-use Rattle.fp_system.proofs.Agreement.{recorded}
+use Rattle.fp_events.specs.SystemRun as system
+use Rattle.fp_events.proofs.Agreement.{recorded}
 use Rattle.fp_tables.specs.Lookup.{Described, placed}
 use Rattle.fp_tables.specs.declared.program.Program.{Program}
 use Rattle.fp_events.specs.declared.event.Entry.{Entry}

@@ -3,7 +3,7 @@ use Rattle.std.proofs.Common.{◌≡◌, ℕ, suc, max, Bool, true, false, cond,
 use Rattle.fp_tables.specs.Specials.{component}
 use Rattle.fp_base.proofs.Bools.{both}
 use Rattle.fp_base.proofs.Options.{mapped_some, same_some, then_some}
-use Rattle.fp_system.specs.System.{Laws, IsTaking, IsOneChange}
+use Rattle.fp_events.specs.System.{Laws, IsTaking, IsOneChange}
 use Rattle.fp_base.specs.Same.{same, same_text, same_option}
 use Rattle.fp_base.specs.declared.value.Value.{Value}
 use Rattle.fp_base.proofs.Sameness.{value_same, text_same, nat_same}

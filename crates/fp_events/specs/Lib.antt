@@ -21,3 +21,6 @@ pub mod SignalValue
 pub mod QueueOrder
 pub mod Frames
 pub mod GuardOrder
+pub mod System
+pub mod SystemRun
+pub mod Schedule

@@ -1,6 +1,6 @@
 -- The step: what an instance makes of an ask, and what an actor makes of an entry.
 use Rattle.std.specs.Prelude.{ℕ, suc, max, Bool, cond, ◌&&◌, ◌==◌, Option, Some, None, option_map, option_and_then}
-use Rattle.fp_system.specs.System.{System}
+use Rattle.fp_events.specs.System.{System}
 use Rattle.fp_tables.specs.Lookup.{Described}
 use Rattle.fp_tables.specs.declared.program.Program.{Program}
 use Rattle.fp_events.specs.declared.event.Ask.{Ask}

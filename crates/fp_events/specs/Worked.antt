@@ -1,7 +1,7 @@
 -- Logs by computing: what the actors' steps make, taken in a given order.
 use Rattle.std.specs.Prelude.{◌≡◌, ℕ, true, List, [], ◌∷◌, ◌++◌, take, Option, Some, option_map, option_and_then, is_none}
 use Rattle.std.specs.List.{list_all}
-use Rattle.fp_system.specs.Schedule.{schedule}
+use Rattle.fp_events.specs.Schedule.{schedule}
 use Rattle.fp_tables.specs.Lookup.{Described}
 use Rattle.fp_tables.specs.declared.program.Program.{Program}
 use Rattle.fp_events.specs.declared.event.Entry.{Entry}

@@ -1,7 +1,7 @@
 ghost use Rattle.std.specs.Prelude.{◌≡◌, ◌<◌, ◌≤◌, ◌↔◌, ℕ, Bool, Some, List, map, length, ◌∷◌, ◌++◌, is_some, not, true};
 ghost use Rattle.std.specs.List.Sorted.{IsSortedBy, IsStableBy};
-ghost use Rattle.fp_system.specs.System.{IsOneChange, IsTaking, Laws};
-ghost use Rattle.fp_system.specs.Run.{joined};
+ghost use Rattle.fp_events.specs.System.{IsOneChange, IsTaking, Laws};
+ghost use Rattle.fp_events.specs.SystemRun.{joined};
 ghost use Rattle.fp_tables.specs.Lookup.{Described, placed};
 ghost use Rattle.fp_tables.specs.Names.{numbers_differ};
 ghost use Rattle.fp_tables.specs.declared.machine.Machine.{Machine};

@@ -1,10 +1,11 @@
-//! The asks of actors, the entries that instances make of them, and what a run of a topology is.
+//! The asks of actors, the entries that instances make of them, what a run of a topology is, and the laws of runs of any such system.
 #![tactic(auto)]
 
 mod copy;
 mod event;
 mod laws;
 mod orders;
+pub mod system;
 mod worked;
 
 pub use event::{Arrival, Ask, Entry, Fate, Finish, Origin, Point, What, Why};

@@ -5,8 +5,8 @@ use Rattle.std.proofs.lemmas.Bool.Decides.{nat_tests}
 use Rattle.fp_base.proofs.Bools.{join}
 use Rattle.fp_base.proofs.Lists.{each_push, each_weaker}
 use Rattle.fp_base.proofs.Options.{mapped_some, same_some, then_some}
-use Rattle.fp_system.specs.Run.{InstanceStep}
-use Rattle.fp_system.proofs.Local.{instance_law}
+use Rattle.fp_events.specs.SystemRun.{InstanceStep}
+use Rattle.fp_events.proofs.Local.{instance_law}
 use Rattle.fp_tables.specs.Components.{is_from_1_to}
 use Rattle.fp_tables.specs.Lookup.{Described}
 use Rattle.fp_tables.specs.Specials.{component}

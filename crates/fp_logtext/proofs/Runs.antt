@@ -5,8 +5,8 @@ use Rattle.std.specs.List.{list_all}
 use Rattle.fp_base.proofs.Options.{then_some, same_some}
 use Rattle.fp_base.proofs.Lists.{all_get}
 use Rattle.fp_base.specs.declared.value.Value.{Value}
-use Rattle.fp_system.specs.Run.{Run, World, ActorStep, opening}
-use Rattle.fp_system.proofs.Local.{actor_law}
+use Rattle.fp_events.specs.SystemRun.{Run, World, ActorStep, opening}
+use Rattle.fp_events.proofs.Local.{actor_law}
 use Rattle.fp_base.proofs.Bools.{both, join}
 use Rattle.fp_tables.specs.Components.{takes_its_value}
 use Rattle.fp_tables.specs.Lists.{if_some}

@@ -9,7 +9,7 @@ use Rattle.fp_base.proofs.Lists.{take_next, same_items, drop_head}
 use Rattle.fp_base.proofs.Options.{same_some}
 use Rattle.fp_base.proofs.Spots.{item_below, push_cases}
 use Rattle.fp_base.proofs.Mapped.{get_mapped}
-use Rattle.fp_system.specs.Run.{Kept}
+use Rattle.fp_events.specs.SystemRun.{Kept}
 use Rattle.fp_tables.specs.Lookup.{Described, placed}
 use Rattle.fp_tables.specs.declared.program.Program.{Program}
 use Rattle.fp_events.specs.declared.event.Entry.{Entry}

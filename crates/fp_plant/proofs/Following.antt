@@ -8,7 +8,7 @@ use Rattle.fp_events.specs.Actor.{ActorState}
 use Rattle.fp_events.specs.Due.{due}
 use Rattle.fp_events.specs.Instance.{InstanceState}
 use Rattle.fp_events.specs.Step.{core, instance_part}
-use Rattle.fp_system.specs.Run.{Kept}
+use Rattle.fp_events.specs.SystemRun.{Kept}
 use Rattle.fp_tables.specs.Lookup.{Described, placed}
 use Rattle.fp_tables.specs.declared.program.Program.{Program}
 use Rattle.fp_actor.specs.Acting.{Acting, due_of_actor}

@@ -11,8 +11,8 @@ use Rattle.std.proofs.lemmas.Option.{slice_get-get_or, slice_get-map, slice_get_
 use Rattle.fp_base.proofs.Bools.{both}
 use Rattle.fp_base.proofs.Options.{same_some}
 use Rattle.fp_base.proofs.Sameness.{nat_same}
-use Rattle.fp_system.specs.Run.{Kept}
-use Rattle.fp_system.proofs.OfRun.{told_last}
+use Rattle.fp_events.specs.SystemRun.{Kept}
+use Rattle.fp_events.proofs.OfRun.{told_last}
 use Rattle.fp_tables.specs.Lookup.{Described, placed}
 use Rattle.fp_tables.specs.Names.{numbers_differ}
 use Rattle.fp_tables.specs.declared.program.Program.{Program}

@@ -3,8 +3,8 @@ use Rattle.std.proofs.Common.{◌≡◌, ℕ, suc, max, ◌+◌, List, [], ◌�
 use Rattle.std.specs.List.{zip}
 use Rattle.std.proofs.lemmas.List.{length-append, map-append}
 use Rattle.std.proofs.lemmas.Slice.Zip.{firsts-zip}
-use Rattle.fp_system.specs.Run as system
-use Rattle.fp_system.proofs.OfRun.{kept_last}
+use Rattle.fp_events.specs.SystemRun as system
+use Rattle.fp_events.proofs.OfRun.{kept_last}
 use Rattle.fp_events.specs.declared.event.Ask.{Ask}
 use Rattle.fp_events.specs.declared.event.Entry.{Entry}
 use Rattle.fp_events.specs.Run.{last_stamp}

@@ -2,7 +2,7 @@
 use Rattle.std.proofs.Common.{◌≡◌, ◌<◌, ℕ, Bool, true, false, List, map, length, slice_get, get_or, Option, Some, None, option_map, refl, sym, ap, ap₂, ◌∙◌, subst}
 use Rattle.std.proofs.lemmas.Option.{slice_get-map, slice_get-get_or}
 use Rattle.fp_base.proofs.Options.{same_some}
-use Rattle.fp_system.specs.Run.{Told}
+use Rattle.fp_events.specs.SystemRun.{Told}
 use Rattle.fp_tables.specs.Acts.{is_placed}
 use Rattle.fp_tables.specs.Lookup.{Described, placed}
 use Rattle.fp_tables.specs.Sound.{IsSoundFor}

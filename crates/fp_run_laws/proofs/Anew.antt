@@ -3,9 +3,9 @@ use Rattle.std.proofs.Common.{◌≡◌, ◌≢◌, ℕ, Bool, true, false, cond
 use Rattle.std.specs.List.{list_any}
 use Rattle.std.proofs.lemmas.Bool.Decides.{eqb_tells}
 use Rattle.fp_base.proofs.Bools.{or_cases, or_left, or_right}
-use Rattle.fp_system.proofs.Agreement.{recorded}
-use Rattle.fp_system.proofs.Merged.{decomposed}
-use Rattle.fp_system.proofs.Turns.{projection-here, projection-other}
+use Rattle.fp_events.proofs.Agreement.{recorded}
+use Rattle.fp_events.proofs.Merged.{decomposed}
+use Rattle.fp_events.proofs.Turns.{projection-here, projection-other}
 use Rattle.fp_tables.specs.Lookup.{Described}
 use Rattle.fp_tables.specs.declared.program.Program.{Program}
 use Rattle.fp_events.specs.declared.event.Entry.{Entry}

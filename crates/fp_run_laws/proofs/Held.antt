@@ -3,10 +3,10 @@ use Rattle.std.proofs.Common.{◌≡◌, ℕ, ◌<◌, ◌≤◌, Bool, true, fa
 use Rattle.std.proofs.lemmas.List.{length-map}
 use Rattle.std.proofs.lemmas.Option.{slice_get-get_or}
 use Rattle.fp_base.proofs.Spots.{before_or_not}
-use Rattle.fp_system.specs.Run as system
-use Rattle.fp_system.proofs.OfRun.{told_rises}
-use Rattle.fp_system.proofs.Seen.{seen_agree}
-use Rattle.fp_system.proofs.Turns.{projection-other}
+use Rattle.fp_events.specs.SystemRun as system
+use Rattle.fp_events.proofs.OfRun.{told_rises}
+use Rattle.fp_events.proofs.Seen.{seen_agree}
+use Rattle.fp_events.proofs.Turns.{projection-other}
 use Rattle.fp_tables.specs.Acts.{is_placed}
 use Rattle.fp_tables.specs.Lookup.{Described, placed}
 use Rattle.fp_tables.specs.declared.program.Program.{Program}

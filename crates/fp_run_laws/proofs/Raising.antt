@@ -2,9 +2,9 @@
 use Rattle.std.proofs.Common.{◌≡◌, ◌≢◌, ℕ, suc, max, ◌<◌, true, false, ◌⊎◌, inl, inr, Option, Some, option_map, option_and_then, refl, sym, ap, ◌∙◌, subst, arith, eqb}
 use Rattle.std.proofs.lemmas.Bool.Decides.{eqb_tells}
 use Rattle.fp_base.proofs.Options.{mapped_some, then_some}
-use Rattle.fp_system.specs.System.{System, Laws, IsTaking}
-use Rattle.fp_system.specs.Run.{World, Step, after}
-use Rattle.fp_system.proofs.Turns.{updated-here, updated-other}
+use Rattle.fp_events.specs.System.{System, Laws, IsTaking}
+use Rattle.fp_events.specs.SystemRun.{World, Step, after}
+use Rattle.fp_events.proofs.Turns.{updated-here, updated-other}
 
 module _ {S A Q E : Type 0} (y : System S A Q E) where
   -- the entry that comes next of an actor, be its stamp within the limit or above it

@@ -1,7 +1,7 @@
 -- Lists that are listed for numbers, of which one is found by its number.
 use Rattle.std.proofs.Common.{◌≡◌, ◌≢◌, ℕ, zero, suc, Bool, true, false, cond, ◌||◌, ◌⊎◌, inl, inr, List, [], ◌∷◌, map, length, Some, slice_get, refl, sym, ap, subst, arith, eqb}
 use Rattle.std.proofs.lemmas.Bool.Decides.{eqb_tells, nat_tests}
-use Rattle.fp_system.specs.Run.{row_of}
+use Rattle.fp_events.specs.SystemRun.{row_of}
 use Rattle.fp_tables.specs.Lists.{is_in}
 
 -- where a number stands among the numbers, its list stands among the lists

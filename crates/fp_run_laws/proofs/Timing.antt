@@ -1,6 +1,6 @@
 -- One entry more at the end: in a trace it stands with the last stamp before it, and a history stays timed.
 use Rattle.std.proofs.Common.{◌≡◌, ℕ, suc, max, List, [], ◌∷◌, ◌++◌, map, refl, ap}
-use Rattle.fp_system.specs.Run.{with_before, IsTimed, last_or}
+use Rattle.fp_events.specs.SystemRun.{with_before, IsTimed, last_or}
 
 module _ {E : Type 0} (stamp : E → ℕ) where
   pub with_before-push : (n : ℕ) (es : List E) (e : E) → with_before stamp n (es ++ e ∷ []) ≡ with_before stamp n es ++ (e, last_or stamp n es) ∷ []

@@ -3,7 +3,7 @@ use Rattle.std.proofs.Common.{◌≡◌, ◌<◌, ◌↔◌, ℕ, ◌⊎◌, inl
 use Rattle.std.proofs.lemmas.Bool.Decides.{nat_tests}
 use Rattle.fp_base.proofs.Options.{mapped_some, no_some}
 use Rattle.fp_base.proofs.Lists.{all_get, get_below, told_within}
-use Rattle.fp_system.specs.Run.{InTurn, ActorStep, Told}
+use Rattle.fp_events.specs.SystemRun.{InTurn, ActorStep, Told}
 use Rattle.fp_base.proofs.Bools.{both}
 use Rattle.fp_tables.specs.Arguments.{nothing_bound}
 use Rattle.fp_tables.specs.Lookup.{Described}

@@ -1,7 +1,7 @@
 -- What is pending at an instance is what its history leaves untaken.
 use Rattle.std.proofs.Common.{◌≡◌, ℕ, List, [], ◌∷◌, ◌++◌, refl, sym, ap, ◌∙◌}
-use Rattle.fp_system.specs.Run as system
-use Rattle.fp_system.proofs.Turns.{InTurn-induction}
+use Rattle.fp_events.specs.SystemRun as system
+use Rattle.fp_events.proofs.Turns.{InTurn-induction}
 use Rattle.fp_tables.specs.Lookup.{Described}
 use Rattle.fp_tables.specs.declared.program.Program.{Program}
 use Rattle.fp_events.specs.declared.event.Entry.{Entry}

@@ -1,6 +1,6 @@
 -- Histories whose entries stand with the stamp of their actor that was seen, listed for the instances of a topology, and the traces of its actors.
 use Rattle.std.specs.Prelude.{◌≡◌, ℕ, List, map, length, Some, slice_get}
-use Rattle.fp_system.specs.Run as system
+use Rattle.fp_events.specs.SystemRun as system
 use Rattle.fp_tables.specs.Lookup.{Described, placed}
 use Rattle.fp_tables.specs.declared.program.Program.{Program}
 use Rattle.fp_events.specs.declared.event.Entry.{Entry}

@@ -1,5 +1,5 @@
 ghost use Rattle.std.specs.Prelude.{◌≡◌, ◌<◌, ◌⊎◌, ℕ, suc, max, None, Some, List, [], ◌∷◌, ◌++◌, map, option_map, true};
-ghost use Rattle.fp_system.specs.Run.{Kept, Told, Step};
+ghost use Rattle.fp_events.specs.SystemRun.{Kept, Told, Step};
 ghost use Rattle.fp_tables.specs.Lookup.{Described};
 ghost use Rattle.fp_tables.specs.declared.program.Program.{Program};
 ghost use Rattle.fp_events.specs.declared.event.Ask.{Ask};

@@ -1,6 +1,6 @@
 ghost use Rattle.std.specs.Prelude.{◌≡◌, ℕ, Some, IfOk};
 ghost use Rattle.std.specs.List.Sorted.{IsSortedBy, IsStableBy};
-ghost use Rattle.fp_system.specs.Run.{joined};
+ghost use Rattle.fp_events.specs.SystemRun.{joined};
 ghost use Rattle.fp_tables.specs.Sound.{IsSoundFor};
 ghost use Rattle.fp_events.specs.Run.{entry_lt, at, by, history, trace, IsRun, AreRecords};
 

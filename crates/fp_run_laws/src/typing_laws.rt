@@ -1,5 +1,5 @@
 ghost use Rattle.std.specs.Prelude.{◌≡◌, ◌<◌, ◌⊎◌, ◌↔◌, ℕ, None, Some, List, [], ◌∷◌, ◌++◌, true};
-ghost use Rattle.fp_system.specs.Run.{Told};
+ghost use Rattle.fp_events.specs.SystemRun.{Told};
 ghost use Rattle.fp_tables.specs.Lookup.{Described};
 ghost use Rattle.fp_tables.specs.Sound.{IsSoundFor};
 ghost use Rattle.fp_tables.specs.SoundPrograms.{IsSoundProgram};

@@ -2,10 +2,10 @@
 use Rattle.std.proofs.Common.{◌≡◌, ◌≢◌, ◌<◌, ◌≤◌, ◌+◌, ◌-◌, ◌⊎◌, inl, inr, ℕ, zero, suc, max, Bool, true, false, List, [], ◌∷◌, ◌++◌, append_assoc, append-nil, Some, refl, sym, ap, ◌∙◌, subst, arith, eqb}
 use Rattle.std.specs.List.{range_with_len}
 use Rattle.std.proofs.lemmas.Bool.Decides.{eqb_tells}
-use Rattle.fp_system.specs.Run as system
-use Rattle.fp_system.specs.System.{Laws}
-use Rattle.fp_system.proofs.OfRun.{by_run, told_last}
-use Rattle.fp_system.proofs.Turns.{InTurn-split, last_or-append}
+use Rattle.fp_events.specs.SystemRun as system
+use Rattle.fp_events.specs.System.{Laws}
+use Rattle.fp_events.proofs.OfRun.{by_run, told_last}
+use Rattle.fp_events.proofs.Turns.{InTurn-split, last_or-append}
 use Rattle.fp_tables.specs.Lookup.{Described}
 use Rattle.fp_tables.specs.declared.program.Program.{Program}
 use Rattle.fp_events.specs.declared.event.Entry.{Entry}

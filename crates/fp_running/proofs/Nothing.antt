@@ -1,7 +1,7 @@
 -- Where no actor has a step within the limit a run is ended.
 use Rattle.std.proofs.Common.{◌≡◌, ◌<◌, ◌≤◌, ◌↔◌, ◌⊎◌, inl, inr, ◌+◌, ℕ, suc, Bool, true, false, List, Option, None, option_map, is_some, unwrap_or, nat_le, sym, ap, ◌∙◌, subst, arith}
-use Rattle.fp_system.specs.System.{Laws}
-use Rattle.fp_system.proofs.OfRun.{by_run}
+use Rattle.fp_events.specs.System.{Laws}
+use Rattle.fp_events.proofs.OfRun.{by_run}
 use Rattle.fp_tables.specs.Lookup.{Described}
 use Rattle.fp_tables.specs.declared.program.Program.{Program}
 use Rattle.fp_events.specs.declared.event.Entry.{Entry}

@@ -3,9 +3,9 @@ use Rattle.std.proofs.Common.{◌≡◌, ◌≢◌, ◌<◌, ◌⊎◌, inl, inr
 use Rattle.std.specs.Prelude.{Result, Ok, Err, IfOk, OnErr}
 use Rattle.std.specs.List.{slice_get}
 use Rattle.fp_base.specs.declared.memory.NoMemory.{NoMemory}
-use Rattle.fp_system.specs.Run as system
-use Rattle.fp_system.specs.System.{IsTaking, Laws}
-use Rattle.fp_system.proofs.OfRun.{by_run}
+use Rattle.fp_events.specs.SystemRun as system
+use Rattle.fp_events.specs.System.{IsTaking, Laws}
+use Rattle.fp_events.proofs.OfRun.{by_run}
 use Rattle.fp_tables.specs.Acts.{is_placed}
 use Rattle.fp_tables.specs.Lookup.{Described, placed}
 use Rattle.fp_tables.specs.Names.{numbers_differ}

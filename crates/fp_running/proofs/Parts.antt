@@ -6,7 +6,7 @@ use Rattle.std.proofs.lemmas.Option.{slice_get-map}
 use Rattle.std.specs.Prelude.{option_map}
 use Rattle.fp_base.proofs.Options.{same_some}
 use Rattle.fp_base.proofs.Spots.{before_or_not}
-use Rattle.fp_system.specs.Run as system
+use Rattle.fp_events.specs.SystemRun as system
 use Rattle.fp_tables.specs.Acts.{is_placed}
 use Rattle.fp_tables.specs.Lists.{is_in}
 use Rattle.fp_tables.specs.Lookup.{Described, placed}

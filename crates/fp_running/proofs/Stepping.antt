@@ -4,9 +4,9 @@ use Rattle.std.specs.List.{slice_get}
 use Rattle.std.proofs.lemmas.Bool.Decides.{eqb_tells}
 use Rattle.std.proofs.lemmas.List.Elements.{filter-append}
 use Rattle.fp_base.proofs.Options.{same_some}
-use Rattle.fp_system.specs.Run as system
-use Rattle.fp_system.specs.System.{IsTaking}
-use Rattle.fp_system.proofs.Turns.{InTurn-more, projection-here, projection-other, updated-here, updated-other}
+use Rattle.fp_events.specs.SystemRun as system
+use Rattle.fp_events.specs.System.{IsTaking}
+use Rattle.fp_events.proofs.Turns.{InTurn-more, projection-here, projection-other, updated-here, updated-other}
 use Rattle.fp_tables.specs.Lookup.{Described, placed}
 use Rattle.fp_tables.specs.Names.{numbers_differ}
 use Rattle.fp_tables.specs.declared.program.Program.{Program}

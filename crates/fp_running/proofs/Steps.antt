@@ -2,8 +2,8 @@
 use Rattle.std.proofs.Common.{◌≡◌, ◌<◌, ◌≤◌, ℕ, Bool, true, false, List, [], ◌∷◌, ◌++◌, append_assoc, Option, Some, None, option_map, option_and_then, is_some, unwrap_or, nat_le, refl, sym, ap, ◌∙◌, subst, arith}
 use Rattle.std.proofs.lemmas.Bool.Decides.{nat_tests}
 use Rattle.fp_base.proofs.Options.{same_some}
-use Rattle.fp_system.specs.Run as system
-use Rattle.fp_system.proofs.Turns.{InTurn-more, InTurn-split}
+use Rattle.fp_events.specs.SystemRun as system
+use Rattle.fp_events.proofs.Turns.{InTurn-more, InTurn-split}
 use Rattle.fp_tables.specs.Lookup.{Described}
 use Rattle.fp_tables.specs.declared.program.Program.{Program}
 use Rattle.fp_events.specs.declared.event.Ask.{Ask}

@@ -1,6 +1,6 @@
 -- A run under way as its callers see it, and what a turn of an actor comes to.
 use Rattle.std.specs.Prelude.{◌≡◌, ◌<◌, ℕ, Bool, true, false, List, [], ◌∷◌, ◌++◌, Some, None}
-use Rattle.fp_system.specs.Run.{Step}
+use Rattle.fp_events.specs.SystemRun.{Step}
 use Rattle.fp_tables.specs.Lookup.{Described}
 use Rattle.fp_tables.specs.declared.program.Program.{Program}
 use Rattle.fp_events.specs.declared.event.Ask.{Ask}

@@ -1,5 +1,5 @@
 use Rattle.std.proofs.Common.{refl}
-use Rattle.fp_system.proofs.Merged.{decomposed}
+use Rattle.fp_events.proofs.Merged.{decomposed}
 use Rattle.fp_events.specs.Step.{core}
 use Rattle.fp_events.specs.Run.{World, at, by}
 use Rattle.fp_events.proofs.StepLaws.{core_laws}

@@ -1,4 +1,4 @@
-use Rattle.fp_system.proofs.Ended.{Run-one}
+use Rattle.fp_events.proofs.SystemEnded.{Run-one}
 use Rattle.fp_events.specs.Step.{core}
 use Rattle.fp_events.specs.Run.{opening}
 use Rattle.fp_events.proofs.laws.outcomes.Goals as goal

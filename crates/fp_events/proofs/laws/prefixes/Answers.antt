@@ -1,5 +1,5 @@
-use Rattle.fp_system.specs.Run.{Step}
-use Rattle.fp_system.proofs.Turns.{InTurn-split}
+use Rattle.fp_events.specs.SystemRun.{Step}
+use Rattle.fp_events.proofs.Turns.{InTurn-split}
 use Rattle.fp_events.specs.Step.{core}
 use Rattle.fp_events.specs.Run.{opening}
 use Rattle.fp_events.proofs.laws.prefixes.Goals as goal

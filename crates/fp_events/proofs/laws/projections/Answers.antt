@@ -1,4 +1,4 @@
-use Rattle.fp_system.proofs.Agreement.{recorded}
+use Rattle.fp_events.proofs.Agreement.{recorded}
 use Rattle.fp_events.specs.Step.{core}
 use Rattle.fp_events.proofs.StepLaws.{core_laws}
 use Rattle.fp_events.proofs.Records.{run_records}

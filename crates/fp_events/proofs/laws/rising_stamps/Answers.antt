@@ -1,5 +1,5 @@
-use Rattle.fp_system.specs.Run.{opening}
-use Rattle.fp_system.proofs.OfRun.{at_run, by_run, kept_rises, told_rises}
+use Rattle.fp_events.specs.SystemRun.{opening}
+use Rattle.fp_events.proofs.OfRun.{at_run, by_run, kept_rises, told_rises}
 use Rattle.fp_events.specs.Step.{core}
 use Rattle.fp_events.specs.Run.{at, by}
 use Rattle.fp_events.proofs.StepLaws.{core_laws}

@@ -1,7 +1,7 @@
 use Rattle.std.proofs.Common.{◌≡◌, suc, max, Some, arith, [], ◌∷◌, refl, ap}
-use Rattle.fp_system.proofs.Scheduled.{schedule_run}
-use Rattle.fp_system.proofs.OfRun.{run_stamped}
-use Rattle.fp_system.proofs.Replay.{run_replayed}
+use Rattle.fp_events.proofs.Scheduled.{schedule_run}
+use Rattle.fp_events.proofs.OfRun.{run_stamped}
+use Rattle.fp_events.proofs.Replay.{run_replayed}
 use Rattle.fp_tables.specs.declared.component.Full.TheVariants as full
 use Rattle.fp_events.specs.Due.{due}
 use Rattle.fp_events.specs.Follows.{follows}

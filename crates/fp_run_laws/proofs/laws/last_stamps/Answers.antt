@@ -1,4 +1,4 @@
-use Rattle.fp_system.proofs.OfRun.{kept_last, told_last}
+use Rattle.fp_events.proofs.OfRun.{kept_last, told_last}
 use Rattle.fp_events.specs.Step.{core}
 use Rattle.fp_events.proofs.StepLaws.{core_laws}
 use Rattle.fp_run_laws.proofs.laws.last_stamps.Goals as goal

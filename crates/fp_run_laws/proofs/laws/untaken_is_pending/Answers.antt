@@ -1,4 +1,4 @@
-use Rattle.fp_system.proofs.OfRun.{at_run}
+use Rattle.fp_events.proofs.OfRun.{at_run}
 use Rattle.fp_events.specs.Run.{at, opening}
 use Rattle.fp_events.specs.Step.{core}
 use Rattle.fp_events.proofs.StepLaws.{core_laws}

@@ -1,7 +1,7 @@
 use Rattle.std.proofs.Common.{◌≡◌, rules, sym, ◌∙◌, subst, List}
 use Rattle.std.specs.List.Sorted.{IsSortedBy, IsStableBy}
 use Rattle.std.proofs.lemmas.List.Sorted.{answers_always}
-use Rattle.fp_system.specs.Run.{joined}
+use Rattle.fp_events.specs.SystemRun.{joined}
 use Rattle.fp_events.specs.declared.event.Entry.{Entry}
 use Rattle.fp_events.specs.Run.{entry_lt}
 use Rattle.fp_run_laws.proofs.records.in_order.Goals as goal

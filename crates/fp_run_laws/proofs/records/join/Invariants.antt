@@ -1,6 +1,6 @@
 use Rattle.std.proofs.Common.{◌≡◌, ◌++◌}
 use Rattle.std.specs.Vec.Iter.{into_iter_items}
-use Rattle.fp_system.specs.Run.{joined}
+use Rattle.fp_events.specs.SystemRun.{joined}
 use Rattle.fp_run_laws.proofs.records.join.Given as goal
 
 -- what is joined so far and what is left are all

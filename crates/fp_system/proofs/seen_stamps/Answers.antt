@@ -1,5 +1,0 @@
-use Rattle.fp_system.proofs.Seen.{seen_agree}
-use Rattle.fp_system.proofs.seen_stamps.Goals as goal
-
-pub returns : goal.returns
-returns g c = λ y held traces seen rises. seen_agree y held traces seen rises
