@@ -1,4 +1,4 @@
-use fp_load::{scenario_text, source_text};
+use fp_main::{scenario_text, source_text};
 use std::test::Fail;
 
 const SOURCE: &str =

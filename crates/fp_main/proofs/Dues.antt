@@ -1,8 +1,8 @@
 -- What is due for words with a form, from what gathering, resolving and running answer.
 use Rattle.std.proofs.Common.{◌≡◌, ℕ, List, [], ◌∷◌, Option, Some, None, Result, Ok, Err, IfOk, codes, inl, inr, lit<, refl, sym, ap, ◌∙◌, subst}
-use Rattle.fp_load.specs.Held.{both_files}
-use Rattle.fp_load.specs.Load.{scenario_text, source_text}
-use Rattle.fp_load.specs.declared.files.LoadFiles.{LoadFiles}
+use Rattle.fp_main.specs.Held.{both_files}
+use Rattle.fp_main.specs.Load.{scenario_text, source_text}
+use Rattle.fp_main.specs.declared.load_files.LoadFiles.{LoadFiles}
 use Rattle.fp_outside.specs.declared.files.HeldFile.{HeldFile}
 use Rattle.fp_base.specs.declared.refusal.Refusal.{Refusal}
 use Rattle.fp_base.specs.Least.{IsLeast, IsUnbroken}

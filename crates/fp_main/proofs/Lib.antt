@@ -1,8 +1,10 @@
+mod Below
 pub mod CausesComing
 pub mod CausesMeant
 pub mod Counting
 pub mod Dues
 pub mod Finding
+mod Found
 pub mod Givens
 pub mod Loads
 pub mod Scenarios

@@ -1,7 +1,9 @@
 pub mod Broken
 pub mod Causes
 pub mod Delivery
+pub mod Held
 pub mod Lines
+pub mod Load
 pub mod Output
 pub mod Statuses
 pub mod Topologies

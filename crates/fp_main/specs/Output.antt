@@ -20,7 +20,7 @@ use Rattle.fp_tables.specs.Lookup.{Described}
 use Rattle.fp_events.specs.declared.event.Finish.{Finish}
 use Rattle.fp_events.specs.declared.event.Finish.TheVariants as finish
 use Rattle.fp_events.specs.declared.event.Finish.TheVariants.{Complete}
-use Rattle.fp_load.specs.Held.{load_files}
+use Rattle.fp_main.specs.Held.{load_files}
 use Rattle.fp_scenario_run.specs.Told.{IsToldBy}
 use Rattle.fp_scenario_run.specs.Planned.{BreaksNoRule, BreaksRule}
 use Rattle.fp_main.specs.Topologies.{IsTopology, LacksTopology}

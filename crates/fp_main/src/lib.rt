@@ -5,6 +5,9 @@ mod answer;
 mod deliver;
 mod laws;
 mod lines;
+mod load_files;
+mod load_scenario;
+mod load_source;
 mod making;
 mod running;
 mod serving;
@@ -13,5 +16,8 @@ mod topologies;
 mod words;
 
 pub use laws::worked_lines;
+pub use load_files::{LoadFiles, SCENARIO, SOURCE};
+pub use load_scenario::scenario_text;
+pub use load_source::source_text;
 pub use serving::serve;
 pub use status::Status;

@@ -5,8 +5,8 @@ ghost use Rattle.fp_scenario_run.specs.declared.scenario.RunText.TheVariants.{Co
 
 use crate::answer::{Due, answer_files};
 use crate::words::{AskedRun, Wanted};
+use crate::{LoadFiles, SCENARIO, SOURCE};
 use fp_base::NoMemory;
-use fp_load::{LoadFiles, SCENARIO, SOURCE};
 use fp_outside::Gate;
 use fp_scenario_run::RunText;
 use std::alloc::Global;

@@ -1,4 +1,4 @@
-pub mod Giving
-pub mod Numbered
 pub mod Given
+pub mod Giving
 pub mod Lying
+pub mod Numbered

@@ -1,0 +1,11 @@
+use Rattle.std.proofs.Common.{◌+◌, arith}
+use Rattle.fp_main.specs.Load.{connection_line}
+use Rattle.fp_main.proofs.Below.{all_below, one_more}
+use Rattle.fp_main.proofs.load_source.push_connections.Goals as goal
+
+pub numbers-preserved : goal.numbers-preserved
+numbers-preserved c =
+    (omega (arith, c.numbers-test.true), one_more connection_line c.numbers.number (c.numbers.number + 1) _ _ _ (omega arith) c.numbers.invariant.1 c.in_ok-push_connection.ensures)
+
+pub returns : goal.returns
+returns c = all_below connection_line c.numbers.number c.args.count _ _ (omega (arith, c.numbers.invariant.0)) c.numbers.invariant.1

@@ -1,0 +1,9 @@
+use Rattle.std.proofs.Common.{◌≡◌, ◌++◌, ◌-◌, ◌≤◌}
+use Rattle.fp_main.specs.Load.{instance_line, each_below}
+use Rattle.fp_main.proofs.load_source.push_instances.Given as goal
+
+abbrev pub invariant-numbers : goal.invariant-numbers
+invariant-numbers l = (l.number ≤ l.count) × (l.text ≡ l.fn.text ++ each_below instance_line l.number)
+
+abbrev pub decreases-numbers : goal.decreases-numbers
+decreases-numbers l = l.count - l.number
