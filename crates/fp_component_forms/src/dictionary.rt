@@ -3,16 +3,16 @@ ghost use Rattle.fp_meaning.specs.Layout.{channel_items, command_items, event_it
 ghost use Rattle.fp_meaning.specs.Names.{Path, in_optional};
 ghost use Rattle.fp_tree.specs.declared.source.Source.{Source};
 ghost use Rattle.fp_type_forms.specs.Resolved.{Takes};
-ghost use Rattle.fp_type_forms.specs.Written.{AllAt, text_in};
+ghost use Rattle.fp_type_forms.specs.Written.{AllAt};
 ghost use Rattle.fp_component_forms.specs.Taken.{ChannelWhere, CommandWhere, EventWhere, ParamWhere};
 ghost use Rattle.fp_component_forms.specs.Written.{LimitIs, SideIs};
 
 use crate::adding::with_one;
 use crate::formals::formals_taken;
 use crate::reading::{default_taken, given_taken, optional_taken, queue_taken, type_taken};
-use fp_base::{NoMemory, Row, Text, Value};
-use fp_tree::{Channel, Command, Event, Limit, Limits, ParamDef, Str};
-use fp_type_forms::Resolution;
+use fp_base::{NoMemory, Row, Value};
+use fp_tree::{Channel, Command, Event, Limit, Limits, ParamDef};
+use fp_type_forms::{Resolution, text_copied};
 use fp_written_parts::{WrittenChannel, WrittenCommand, WrittenEvent, WrittenLimit, WrittenParam};
 use std::alloc::Global;
 
@@ -107,15 +107,6 @@ pub fn channel_taken(
         limits,
         note,
     })
-}
-
-fn text_copied(alloc: Global, literal: &Option<Str>) -> Result<Option<Text>, NoMemory>
-    ensures { IfOk result (λ copy. copy ≡ text_in literal.now) }
-{
-    match literal {
-        Some(literal) => Ok(Some(literal.text.copy(alloc)?)),
-        None => Ok(None),
-    }
 }
 
 fn joined(low: Row<WrittenLimit>, high: Row<WrittenLimit>) -> Result<Row<WrittenLimit>, NoMemory>

@@ -15,6 +15,7 @@ mod specials;
 mod wholes;
 mod writing;
 
+pub use adding::{with_one, with_optional};
 pub use positions::ranks_among;
 pub use reading::{given_taken, optional_taken, position_taken};
 pub use wholes::name_behind;

@@ -9,6 +9,7 @@ use crate::gift::{Gift, gift_among, nothing};
 use crate::imports::sorted_interfaces;
 use fp_base::NoMemory;
 use fp_graph::{Chained, is_flagged};
+use fp_written_parts::graphs::vertex_at;
 use fp_written_parts::{WrittenInterface, WrittenMember};
 use std::alloc::Global;
 
@@ -22,13 +23,6 @@ fn begun<'a>(alloc: Global, cyclic: &[bool]) -> Result<Vec<Gift<'a>>, NoMemory>
         gifts.push(nothing(alloc, leads_to_cycle))?;
     }
     Ok(gifts)
-}
-
-fn vertex_at(order: &[usize], at: usize) -> usize
-    requires { at < length order.now }
-    ensures { slice_get order.now at ≡ Some result }
-{
-    order[at]
 }
 
 fn members_at<'a>(interfaces: &'a [WrittenInterface], at: usize) -> &'a [WrittenMember]

@@ -30,4 +30,5 @@ pub use gift::{Gift, gift_of};
 pub use interface_kinds::SpecialKinds;
 pub use laws::unbroken_are_consistent;
 pub use listing::port_lists;
+pub use numbers::is_outside;
 pub use ports_broken::port_faults;

@@ -1,8 +1,8 @@
 ghost use Rattle.std.specs.Prelude.{◌≡◌, ◌+◌, ◌++◌, ◌∷◌, [], IfOk, length};
-ghost use Rattle.fp_base.specs.Numbers.{numbers_from};
 ghost use Rattle.fp_component_rules.specs.Links.{links_in, links_from, rows_from, targets_of};
 
 use fp_base::{NoMemory, Row};
+use fp_written_parts::graphs::{number_of, numbers_from, row_of};
 use fp_written_parts::{WrittenImport, WrittenInterface, WrittenMember};
 use std::alloc::Global;
 
@@ -66,30 +66,6 @@ fn links_in(
     Ok(links)
 }
 
-/// The number of a vertex; a graph with more of them than numbers is as one for which there is no memory.
-fn number_of(before: usize, at: usize) -> Result<u32, NoMemory>
-    ensures { IfOk result (λ number. number ≡ before + at) }
-{
-    let Some(number) = before.checked_add(at) else {
-        return Err(NoMemory);
-    };
-    match u32::try_from(number) {
-        Ok(number) => Ok(number),
-        Err(_) => Err(NoMemory),
-    }
-}
-
-fn numbers_from(alloc: Global, first: u32, count: usize) -> Result<Row<u32>, NoMemory>
-    ensures { IfOk result (λ numbers. numbers ≡ numbers_from first count) }
-{
-    let mut numbers = Row::new(alloc);
-    for at in 0..count {
-        let number = number_of(first as usize, at)?;
-        numbers.push(number)?;
-    }
-    Ok(numbers)
-}
-
 fn links_of(alloc: Global, interfaces: &[WrittenInterface]) -> Result<LinkGraph, NoMemory>
     ensures links { IfOk result (λ linked. linked.links ≡ links_from 0 interfaces.now) }
     ensures rows { IfOk result (λ linked. linked.rows.items ≡ rows_from (length interfaces.now) 0 interfaces.now) }
@@ -104,14 +80,6 @@ fn links_of(alloc: Global, interfaces: &[WrittenInterface]) -> Result<LinkGraph,
         links.append(more)?;
     }
     Ok(LinkGraph { links, rows })
-}
-
-fn row_of(alloc: Global, target: u32) -> Result<Row<u32>, NoMemory>
-    ensures { IfOk result (λ row. row ≡ target ∷ []) }
-{
-    let mut row = Row::new(alloc);
-    row.push(target)?;
-    Ok(row)
 }
 
 fn add_targets(

@@ -28,7 +28,8 @@ fn outside_fault(rule: Rule, low: i128, high: i128, given: Option<Given>) -> Opt
     }
 }
 
-fn is_outside(low: i128, high: i128, number: Option<i128>) -> bool
+/// Whether a number is below the low one or above the high one.
+pub fn is_outside(low: i128, high: i128, number: Option<i128>) -> bool
     ensures { IsTrue result ↔ IsOutside low high number }
 {
     match number {

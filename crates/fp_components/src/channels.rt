@@ -5,11 +5,10 @@ ghost use Rattle.fp_dictdefs.specs.Tested.{color_number};
 ghost use Rattle.fp_components.specs.Resolved.{AreEach, IsChannel, IsId, IsLimit, is_on_change};
 ghost use Rattle.fp_components.specs.Whole.{AreWholeLimits};
 
-use crate::numbers::number_in;
 use fp_base::{NoMemory, Row, Text, Value};
 use fp_tables::{Channel, Limit};
 use fp_tree::{Color, Update};
-use fp_written_parts::{WrittenChannel, WrittenLimit};
+use fp_written_parts::{WrittenChannel, WrittenLimit, number_in};
 use std::alloc::Global;
 
 pub fn channel_of(alloc: Global, channel: &WrittenChannel, id: u32) -> Result<Channel, NoMemory>

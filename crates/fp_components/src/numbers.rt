@@ -1,20 +1,10 @@
-ghost use Rattle.std.specs.Prelude.{◌≡◌, ℤ, pos, negsuc, ◌^◌, ◌-◌, true, IfOk, Some};
+ghost use Rattle.std.specs.Prelude.{◌≡◌, pos, negsuc, ◌^◌, ◌-◌, true, IfOk};
 ghost use Rattle.fp_dictdefs.specs.Broken.{is_within};
 ghost use Rattle.fp_components.specs.Resolved.{IsNumber, IsThrottle};
 ghost use Rattle.fp_components.specs.Whole.{IsGivenWithin};
 
 use fp_base::NoMemory;
-use fp_written_parts::Given;
-
-/// The number of an expression, 0 where it has none.
-pub fn number_in(given: Given) -> i128
-    ensures { (n : ℤ) → given.number ≡ Some n → result ≡ n }
-{
-    match given.number {
-        Some(number) => number,
-        None => 0,
-    }
-}
+use fp_written_parts::{Given, number_in};
 
 /// As a number of 32 bits, 0 where it is none.
 fn unsigned(number: i128) -> u32

@@ -9,6 +9,7 @@ pub use Rattle.fp_base.specs.Least.{BrokenAt, ByOptional}
 use Rattle.fp_tree.specs.declared.dictionary.Color.{Color}
 use Rattle.fp_tree.specs.declared.dictionary.CommandKind.{CommandKind}
 use Rattle.fp_tree.specs.declared.dictionary.CommandKind.TheVariants.{Async}
+use Rattle.fp_tables.specs.Types.{is_integer_kind}
 use Rattle.fp_tables.specs.declared.kind.Kind.{Kind}
 use Rattle.fp_tables.specs.declared.kind.Kind.TheVariants as kind
 use Rattle.fp_tables.specs.declared.kind.TypeDef.{TypeDef}
@@ -77,12 +78,6 @@ BrokenQueue Async q = ByOptional (OutsideAt PriorityRange (negsuc (2 ^ 31 - 1)) 
 BrokenQueue _ q = ByOptional (λ place f. f ≡ broken_at QueueWordNotAllowed place) q.word
 
 -- ---- limits of a channel
-
-abbrev pub is_integer_kind : Kind → Bool
-is_integer_kind kind.Bool = false
-is_integer_kind (kind.Str size) = false
-is_integer_kind (kind.Named k) = false
-is_integer_kind _ = true
 
 -- whether it is a limit from above, and its color
 abbrev pub Side : Type 0

@@ -1,12 +1,12 @@
 ghost use Rattle.std.specs.Prelude.{◌≡◌, ◌||◌, not, cond, IfOk, None, Some, pos};
 ghost use Rattle.fp_base.specs.Least.{IsLeast, broken_at};
 ghost use Rattle.fp_base.specs.declared.rule.Rule.TheVariants.{BadLimits};
-ghost use Rattle.fp_dictdefs.specs.Broken.{BrokenLimits, is_integer_kind};
+ghost use Rattle.fp_dictdefs.specs.Broken.{BrokenLimits};
 ghost use Rattle.fp_dictdefs.specs.Tested.{color_number, limit_key};
 
 use crate::longs::{Long, note};
 use fp_base::{NoMemory, Place, Refusal, Rule, lesser, refusal_if};
-use fp_tables::{Kind, TypeDef, target};
+use fp_tables::{Kind, TypeDef, is_integer_kind, target};
 use fp_tree::Color;
 use fp_written_parts::WrittenLimit;
 use std::alloc::Global;
@@ -36,24 +36,6 @@ fn fault_at(again: bool, fits: bool, at: Place) -> Option<Refusal>
     ensures { result ≡ cond (again || not fits) (Some (broken_at BadLimits at)) None }
 {
     refusal_if(again | !fits, Rule::BadLimits, at)
-}
-
-fn is_integer_kind(kind: Kind) -> bool
-    ensures { result ≡ is_integer_kind kind }
-{
-    match kind {
-        Kind::U8 => true,
-        Kind::U16 => true,
-        Kind::U32 => true,
-        Kind::U64 => true,
-        Kind::I8 => true,
-        Kind::I16 => true,
-        Kind::I32 => true,
-        Kind::I64 => true,
-        Kind::Bool => false,
-        Kind::Str { .. } => false,
-        Kind::Named(_) => false,
-    }
 }
 
 fn limit_key(limit: &WrittenLimit) -> Long

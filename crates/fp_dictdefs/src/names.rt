@@ -1,11 +1,10 @@
-ghost use Rattle.std.specs.Prelude.{◌≡◌, ◌||◌, ℕ, List, IfOk, OnOk};
-ghost use Rattle.std.specs.Str.{bytes_eq};
+ghost use Rattle.std.specs.Prelude.{IfOk};
 ghost use Rattle.fp_base.specs.Least.{IsLeast};
-ghost use Rattle.fp_base.specs.NameSets.{has_name};
 ghost use Rattle.fp_dictdefs.specs.Broken.{BrokenNames, RepeatedFormals};
 
 use crate::listed::Listed;
 use fp_base::{NoMemory, Refusal, Rule, lesser, refusal_if};
+use fp_tables::see;
 use fp_written_parts::WrittenFormal;
 use std::alloc::Global;
 use std::collections::BTreeSet;
@@ -39,13 +38,4 @@ pub fn repeated_formal(
         first = lesser(first, fault);
     }
     Ok(first)
-}
-
-/// Whether the name was seen before; it is from here on.
-pub fn see<'a>(seen: &mut BTreeSet<&'a str>, name: &'a str) -> Result<bool, NoMemory>
-    ensures again { IfOk result (λ again. again ≡ has_name seen.old name.now) }
-    ensures seen { OnOk result ((q : List ℕ) → has_name seen.new q ≡ (has_name seen.old q || bytes_eq q name.now)) }
-{
-    let added = seen.insert(name)?;
-    Ok(!added)
 }

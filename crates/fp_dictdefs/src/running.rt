@@ -4,8 +4,8 @@ ghost use Rattle.fp_base.specs.Least.{InSome, IsLeast};
 ghost use Rattle.fp_base.specs.NameSets.{has_name};
 ghost use Rattle.fp_dictdefs.specs.Running.{InstancesBroken, RunningBroken, instance_fault, is_external, is_instance, running_fault};
 
-use crate::names::see;
 use fp_base::{NoMemory, Refusal, Rule, lesser, refusal_if};
+use fp_tables::see;
 use fp_written_parts::{WrittenComponent, WrittenMember, WrittenRunning};
 use std::alloc::Global;
 use std::collections::BTreeSet;

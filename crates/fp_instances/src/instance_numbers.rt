@@ -5,6 +5,7 @@ ghost use Rattle.fp_component_rules.specs.PortBroken.{IsOutside, OutsideAt};
 ghost use Rattle.fp_instances.specs.InstanceBroken.{BrokenBase, IsBaseOutside};
 
 use fp_base::{Refusal, Rule, refusal_if};
+use fp_component_rules::is_outside;
 use fp_written_parts::Given;
 
 /// The greatest id.
@@ -50,15 +51,6 @@ fn is_past(high: u32, number: Option<i128>) -> bool
 {
     match number {
         Some(number) => number < 0 || (high as i128) < number,
-        None => false,
-    }
-}
-
-fn is_outside(low: i128, high: i128, number: Option<i128>) -> bool
-    ensures { IsTrue result ↔ IsOutside low high number }
-{
-    match number {
-        Some(number) => number < low || high < number,
         None => false,
     }
 }

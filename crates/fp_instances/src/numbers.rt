@@ -1,18 +1,8 @@
-ghost use Rattle.std.specs.Prelude.{◌≡◌, ◌^◌, ◌-◌, ℤ, pos, negsuc, Some};
+ghost use Rattle.std.specs.Prelude.{◌≡◌, ◌^◌, ◌-◌, pos, negsuc, Some};
 ghost use Rattle.fp_instances.specs.Numbers.{IsWithin, IsWithinWhereGiven};
 ghost use Rattle.fp_instances.specs.Resolved.{IsNumber};
 
-use fp_written_parts::Given;
-
-/// The number of an expression, 0 where it has none.
-fn number_in(given: Given) -> i128
-    ensures { (n : ℤ) → given.number ≡ Some n → result ≡ n }
-{
-    match given.number {
-        Some(number) => number,
-        None => 0,
-    }
-}
+use fp_written_parts::{Given, number_in};
 
 /// As a number of 32 bits, 0 where it is none.
 pub fn unsigned(given: Given) -> u32

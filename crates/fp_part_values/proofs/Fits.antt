@@ -17,7 +17,8 @@ use Rattle.fp_meaning.specs.Values.{Val, opened}
 use Rattle.fp_type_sizes.specs.declared.written.WrittenType.{WrittenType}
 use Rattle.fp_type_sizes.specs.declared.written.TypeExtent.{TypeExtent}
 use Rattle.fp_type_sizes.specs.Found.{AreExtents}
-use Rattle.fp_type_sizes.specs.Sized.{ends_in_integer, is_integer_kind, kind_extent}
+use Rattle.fp_tables.specs.Types.{is_integer_kind}
+use Rattle.fp_type_sizes.specs.Sized.{ends_in_integer, kind_extent}
 use Rattle.fp_type_sizes.specs.Sizes.{IsPlain, IsInteger}
 use Rattle.fp_type_sizes.proofs.Counted.{kind_holds, kind_only, one_end, end_integer}
 use Rattle.fp_type_sizes.proofs.Limits.{is_sound, misses_none}

@@ -1,28 +1,9 @@
 ghost use Rattle.std.specs.Prelude.{◌≡◌};
 ghost use Rattle.std.specs.List.{list_all};
-ghost use Rattle.fp_tables.specs.Positions.{is_short, component_is_short, machine_is_short, lists_are_short};
+ghost use Rattle.fp_tables.specs.Positions.{is_short, machine_is_short, lists_are_short};
 ghost use Rattle.fp_tables.specs.declared.topology.Topology.{Topology};
 
-use fp_base::Row;
-use fp_tables::{Component, Machine, Model, Topology};
-
-/// Whether 32 bits can number the items.
-fn is_short<T>(row: &Row<T>) -> bool
-    ensures { result ≡ is_short row.now }
-{
-    row.len() < 0x1_0000_0000
-}
-
-fn component_is_short(component: &Component) -> bool
-    ensures { result ≡ component_is_short component.now }
-{
-    is_short(&component.ports)
-        && is_short(&component.commands)
-        && is_short(&component.events)
-        && is_short(&component.channels)
-        && is_short(&component.params)
-        && is_short(&component.machines)
-}
+use fp_tables::{Machine, Model, Topology, components_are_short, is_short};
 
 fn machine_is_short(machine: &Machine) -> bool
     ensures { result ≡ machine_is_short machine.now }
@@ -31,14 +12,6 @@ fn machine_is_short(machine: &Machine) -> bool
         && is_short(&machine.actions)
         && is_short(&machine.guards)
         && is_short(&machine.vertices)
-}
-
-fn components_are_short(components: &[Component]) -> bool
-    ensures { result ≡ list_all component_is_short components.now }
-{
-    components
-        .iter()
-        .all(|component| component_is_short(component))
 }
 
 fn machines_are_short(machines: &[Machine]) -> bool

@@ -10,14 +10,14 @@ use Rattle.fp_base.proofs.Options.{same_some}
 use Rattle.fp_base.proofs.Numbers.{same_number}
 use Rattle.fp_tables.specs.Machines.{target}
 use Rattle.fp_tables.specs.Names.{numbers_differ}
-use Rattle.fp_tables.specs.Types.{has_kind, is_integer}
+use Rattle.fp_tables.specs.Types.{has_kind, is_integer, is_integer_kind}
 use Rattle.fp_tables.specs.declared.kind.TypeDef.{TypeDef}
 use Rattle.fp_tables.specs.declared.component.Limit.{Limit}
 use Rattle.fp_tree.specs.declared.dictionary.Color.{Color}
 use Rattle.fp_tree.specs.declared.dictionary.Color.TheVariants.{Yellow, Orange, Red}
 use Rattle.fp_written_parts.specs.declared.dictionary.WrittenChannel.{WrittenChannel}
 use Rattle.fp_written_parts.specs.declared.dictionary.WrittenLimit.{WrittenLimit}
-use Rattle.fp_dictdefs.specs.Broken.{BrokenLimits, is_integer_kind, side_of}
+use Rattle.fp_dictdefs.specs.Broken.{BrokenLimits, side_of}
 use Rattle.fp_dictdefs.specs.Tested.{color_number}
 use Rattle.fp_dictdefs.proofs.Sides.{colors_same}
 use Rattle.fp_components.specs.Resolved.{AreEach, IsLimit}

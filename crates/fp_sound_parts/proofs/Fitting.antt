@@ -40,7 +40,8 @@ use Rattle.fp_written_parts.specs.declared.member.WrittenComponent.{WrittenCompo
 use Rattle.fp_written_parts.specs.declared.member.WrittenInterface.{WrittenInterface}
 use Rattle.fp_written_parts.specs.declared.member.WrittenMember.{WrittenMember}
 use Rattle.fp_written_parts.specs.declared.member.WrittenMember.TheVariants as member
-use Rattle.fp_dictdefs.specs.Broken.{BrokenLimits, is_integer_kind}
+use Rattle.fp_tables.specs.Types.{is_integer_kind}
+use Rattle.fp_dictdefs.specs.Broken.{BrokenLimits}
 use Rattle.fp_component_forms.specs.declared.writing.WrittenSource.{WrittenSource}
 use Rattle.fp_component_forms.specs.Written.{ChannelIs, IsWrittenSource, LimitIs, MemberIs, SideIs, part_of}
 use Rattle.fp_source_parts.specs.Broken.{BrokenBy}

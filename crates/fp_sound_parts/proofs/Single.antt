@@ -12,7 +12,7 @@ use Rattle.fp_base.proofs.Bytes.{bytes_same}
 use Rattle.fp_base.proofs.Sameness.{bool_itself}
 use Rattle.fp_tables.specs.Components.{is_from_1_to, same_formal}
 use Rattle.fp_tables.specs.Machines.{target, target_by}
-use Rattle.fp_tables.specs.Types.{Shape, integer, truth, words, array, struct, constants, opaque, nothing, form_at, is_integer, shape, shape_by}
+use Rattle.fp_tables.specs.Types.{Shape, integer, truth, words, array, struct, constants, opaque, nothing, form_at, is_integer, shape, shape_by, is_integer_kind}
 use Rattle.fp_tables.specs.declared.kind.Form.{Form}
 use Rattle.fp_tables.specs.declared.kind.Form.TheVariants as form
 use Rattle.fp_tables.specs.declared.kind.Formal.{Formal}
@@ -20,7 +20,6 @@ use Rattle.fp_tables.specs.declared.kind.Kind.{Kind}
 use Rattle.fp_tables.specs.declared.kind.Kind.TheVariants as kind
 use Rattle.fp_tables.specs.declared.kind.TypeDef.{TypeDef}
 use Rattle.fp_tables.proofs.OneKind.{kind_itself}
-use Rattle.fp_dictdefs.specs.Broken.{is_integer_kind}
 use Rattle.fp_dictdefs.specs.Listed.{save_name, set_name}
 
 -- ---- integer types

@@ -1,15 +1,13 @@
 ghost use Rattle.std.specs.Prelude.{◌≡◌};
-ghost use Rattle.std.specs.List.{list_all, list_any};
-ghost use Rattle.fp_base.specs.Same.{same};
+ghost use Rattle.std.specs.List.{list_all};
 ghost use Rattle.fp_tables.specs.Types.{has, has_kind};
 ghost use Rattle.fp_sound_types.specs.Shapes.{meant};
 ghost use Rattle.fp_tables.specs.Lists.{all_beside};
 ghost use Rattle.fp_tables.specs.Types.{part_has};
-ghost use Rattle.fp_tables.specs.declared.kind.Constant.{Constant};
 
 use crate::shapes::{Shape, member_shape, shape_of};
 use fp_base::{MemberValue, Value};
-use fp_tables::{Constant, Field, Kind, TypeDef};
+use fp_tables::{Field, Kind, TypeDef, is_among};
 
 /// Whether a value is one of the type.
 pub fn has_kind(types: &[TypeDef], kind: &Kind, value: &Value) -> bool
@@ -75,19 +73,4 @@ fn part_has(part: &MemberValue, types: &[TypeDef], field: &Field) -> bool
 {
     let shape = member_shape(types, field);
     part.name.as_bytes() == field.name.as_bytes() && has_shape(&part.value, types, &shape)
-}
-
-/// Whether a value is that of one of the constants.
-fn is_among(value: &Value, constants: &[Constant]) -> bool
-    ensures { result ≡ list_any (λ (constant : Constant). same constant.value value.now) constants.now }
-{
-    constants
-        .iter()
-        .any(|constant| is_same(&constant.value, value))
-}
-
-fn is_same(left: &Value, right: &Value) -> bool
-    ensures { result ≡ same left.now right.now }
-{
-    left.same(right)
 }

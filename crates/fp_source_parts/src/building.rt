@@ -8,17 +8,17 @@ ghost use Rattle.fp_tables.specs.Positions.{machine_is_short};
 ghost use Rattle.fp_tree.specs.declared.source.Source.{Source};
 ghost use Rattle.fp_type_forms.specs.Resolved.{AreResolved, parts_of_item};
 ghost use Rattle.fp_type_forms.specs.Written.{AllAt};
-ghost use Rattle.fp_component_forms.specs.Written.{qualified, scoped};
+ghost use Rattle.fp_component_forms.specs.Written.{scoped};
 ghost use Rattle.fp_source_parts.specs.Machines.{machine_in, machine_declared as those_of};
 ghost use Rattle.fp_source_parts.specs.MachineBuilt.{AreMachinesOf, IsMachine};
 
 use crate::kinds::kinds_in;
 use fp_base::{NoMemory, Row, Text, Value};
-use fp_consts::with_dots;
+use fp_component_forms::name_behind;
 use fp_machines::machine_of;
-use fp_meaning::{Declared, Item, ModelDef, behind};
+use fp_meaning::{Declared, Item, ModelDef};
 use fp_tables::Machine;
-use fp_tree::{Machine as Written, Name};
+use fp_tree::Machine as Written;
 use fp_type_forms::Resolution;
 use std::alloc::Global;
 
@@ -115,12 +115,4 @@ fn machine_written(
     let kinds = kinds_in(alloc, &machine.behavior, resolutions, marks, start)?;
     let name = name_behind(alloc, scope, &machine.name)?;
     machine_of(alloc, name, &machine.behavior, kinds.as_slice())
-}
-
-/// The qualified name of a definition in a scope.
-fn name_behind(alloc: Global, scope: &Row<Text>, name: &Name) -> Result<Text, NoMemory>
-    ensures { IfOk result (λ text. text ≡ qualified scope.now name.now) }
-{
-    let names = behind(alloc, scope, name)?;
-    with_dots(alloc, names.as_slice())
 }

@@ -1,6 +1,6 @@
 ghost use Rattle.std.specs.Prelude.{◌≡◌, ℕ, suc, unwrap_or, option_map};
 ghost use Rattle.std.specs.Option.{option_copied};
-ghost use Rattle.fp_tables.specs.Types.{form_at};
+ghost use Rattle.fp_tables.specs.Types.{form_at, is_integer_kind};
 ghost use Rattle.fp_tables.specs.Components.{same_kind};
 ghost use Rattle.fp_tables.specs.Arguments.{same_target, is_one_kind};
 ghost use Rattle.fp_tables.specs.Machines.{target_by, target};
@@ -24,6 +24,25 @@ pub fn same_kind(left: Kind, right: Kind) -> bool
         (Kind::Str { size: left }, Kind::Str { size: right }) => left == right,
         (Kind::Named(left), Kind::Named(right)) => left == right,
         _ => false,
+    }
+}
+
+/// Whether a type is an integer type by itself.
+pub fn is_integer_kind(kind: Kind) -> bool
+    ensures { result ≡ is_integer_kind kind }
+{
+    match kind {
+        Kind::U8 => true,
+        Kind::U16 => true,
+        Kind::U32 => true,
+        Kind::U64 => true,
+        Kind::I8 => true,
+        Kind::I16 => true,
+        Kind::I32 => true,
+        Kind::I64 => true,
+        Kind::Bool => false,
+        Kind::Str { .. } => false,
+        Kind::Named(_) => false,
     }
 }
 

@@ -1,4 +1,4 @@
-ghost use Rattle.std.specs.Prelude.{◌≡◌, ◌<◌, ◌≤◌, IfOk, Some, drop, false, length, slice_get, unwrap_or};
+ghost use Rattle.std.specs.Prelude.{◌≡◌, ◌<◌, IfOk, Some, length, slice_get};
 ghost use Rattle.fp_base.specs.Least.{InSome, IsLeast};
 ghost use Rattle.fp_topologies.specs.Flagged.{FlaggedLink};
 ghost use Rattle.fp_topologies.specs.Imports.{ImportsBroken, ImportsLie};
@@ -7,23 +7,8 @@ use crate::links::{Link, linked};
 use fp_base::{NoMemory, Refusal, Rule, lesser, refusal_if};
 use fp_graph::chains_of;
 use fp_written_parts::WrittenTopology;
+use fp_written_parts::graphs::{behind, flag_at};
 use std::alloc::Global;
-
-fn flag_at(flags: &[bool], at: usize) -> bool
-    ensures { result ≡ unwrap_or (slice_get flags.now at) false }
-{
-    match flags.get(at) {
-        Some(flag) => *flag,
-        None => false,
-    }
-}
-
-fn behind(flags: &[bool], count: usize) -> &[bool]
-    requires { count ≤ length flags.now }
-    ensures { result.now ≡ drop count flags.now }
-{
-    &flags[count..]
-}
 
 fn link_at(links: &[Link], at: usize) -> Link
     requires { at < length links.now }

@@ -8,6 +8,7 @@ use crate::closing::closure_by;
 use crate::import_sorting::sorted_topologies;
 use fp_base::{NoMemory, Row};
 use fp_graph::{Chained, is_flagged};
+use fp_written_parts::graphs::vertex_at;
 use fp_written_parts::{ImportedTopology, WrittenTopology};
 use std::alloc::Global;
 
@@ -28,13 +29,6 @@ fn begun(alloc: Global, count: usize) -> Result<Vec<Option<Row<u32>>>, NoMemory>
         closures.push(None)?;
     }
     Ok(closures)
-}
-
-fn vertex_at(order: &[usize], at: usize) -> usize
-    requires { at < length order.now }
-    ensures { slice_get order.now at ≡ Some result }
-{
-    order[at]
 }
 
 fn imports_at(written: &[WrittenTopology], at: usize) -> &[ImportedTopology]

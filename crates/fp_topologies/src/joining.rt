@@ -11,6 +11,7 @@ use crate::taking::imported_links;
 use crate::{Imported, PortIndex, instances_held};
 use fp_base::{NoMemory, Row};
 use fp_tables::Link;
+use fp_written_parts::graphs::vertex_at;
 use fp_written_parts::{WrittenPattern, WrittenTopology};
 use std::alloc::Global;
 
@@ -83,13 +84,6 @@ fn join_next(
     )?;
     put(joined, topology, one);
     Ok(())
-}
-
-fn vertex_at(order: &[usize], at: usize) -> usize
-    requires { at < length order.now }
-    ensures { slice_get order.now at ≡ Some result }
-{
-    order[at]
 }
 
 pub fn written_at(written: &[WrittenTopology], at: usize) -> &WrittenTopology

@@ -7,10 +7,10 @@ ghost use Rattle.fp_type_forms.specs.Written.{AllAt};
 ghost use Rattle.fp_topology_forms.specs.Taken.{AreRanks};
 ghost use Rattle.fp_topology_forms.specs.Written.{ConnectionIs};
 
-use crate::adding::with_one;
 use crate::ranks::Ranks;
 use crate::uses::port_use_taken;
 use fp_base::{NoMemory, Row, Value};
+use fp_component_forms::with_one;
 use fp_tree::Connection;
 use fp_type_forms::Resolution;
 use fp_written_parts::WrittenConnection;

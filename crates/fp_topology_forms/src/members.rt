@@ -8,13 +8,13 @@ ghost use Rattle.fp_tree.specs.declared.topology.TMember.TheVariants as member;
 ghost use Rattle.fp_type_forms.specs.Resolved.{Takes};
 ghost use Rattle.fp_topology_forms.specs.Taken.{AreRanks, AreWithMember, MembersAre, no_members};
 
-use crate::adding::{with_all, with_one};
+use crate::adding::with_all;
 use crate::connections::connections_taken;
 use crate::patterns::pattern_taken;
 use crate::ranks::Ranks;
 use crate::uses::used_taken;
 use fp_base::{NoMemory, Row, Value};
-use fp_component_forms::position_taken;
+use fp_component_forms::{position_taken, with_one};
 use fp_tree::{Connections, Import, InstanceUse, PatternConnections, TMember};
 use fp_type_forms::Resolution;
 use fp_written_parts::{ImportedTopology, MemberInstance, WrittenConnection, WrittenPattern};

@@ -8,10 +8,10 @@ ghost use Rattle.fp_component_forms.specs.Written.{BothOrNeither};
 ghost use Rattle.fp_topology_forms.specs.Taken.{AreRanks};
 ghost use Rattle.fp_topology_forms.specs.Written.{PatternIs, TargetsAre};
 
-use crate::adding::with_one;
 use crate::ranks::Ranks;
 use crate::uses::used_taken;
 use fp_base::{NoMemory, Row};
+use fp_component_forms::with_one;
 use fp_tree::{PatternConnections, Target};
 use fp_type_forms::Resolution;
 use fp_written_parts::{UsedInstance, WrittenPattern};

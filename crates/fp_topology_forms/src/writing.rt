@@ -7,10 +7,10 @@ ghost use Rattle.fp_type_forms.specs.Written.{AllAt};
 ghost use Rattle.fp_topology_forms.specs.Taken.{AreRanks, Gives, IsGiven};
 ghost use Rattle.fp_topology_forms.specs.Written.{InstanceIs, IsWrittenDeployment, TopologyIs, instance_in, instance_of, topology_in, topology_of};
 
-use crate::adding::with_optional;
 use crate::ranks::{Ranks, ranks_in};
 use crate::wholes::{instance_written, topology_written};
 use fp_base::{NoMemory, Row, Value};
+use fp_component_forms::with_optional;
 use fp_meaning::{Declared, Item, ModelDef};
 use fp_type_forms::Resolution;
 use fp_written_parts::{WrittenDeployment, WrittenInstance, WrittenTopology};

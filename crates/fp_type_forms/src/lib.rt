@@ -21,6 +21,7 @@ mod writing;
 
 pub use checking::{form_faults, form_faults_in, part_faults};
 pub use faults::{formals_fault, if_no_number, name_fault, optional_name};
+pub use fields::text_copied;
 pub use kinds::kind_taken;
 pub use laws::{one_form, one_written};
 pub use reading::{meant_taken, number_taken, own_taken, size_taken, taken, value_of};

@@ -8,6 +8,7 @@ ghost use Rattle.fp_type_forms.specs.Broken.{RepeatsName};
 ghost use Rattle.fp_type_forms.specs.Tested.{name_fault};
 
 use fp_base::{NoMemory, Refusal, Rule, lesser, refusal_if};
+use fp_tables::see;
 use fp_tree::{Assignment, Field, Name};
 use std::alloc::Global;
 use std::collections::BTreeSet;
@@ -45,12 +46,4 @@ fn note<'a>(seen: &mut BTreeSet<&'a str>, name: &'a Name) -> Result<Option<Refus
 {
     let again = see(seen, name.text.as_str())?;
     Ok(refusal_if(again, Rule::BadMember, name.at.first))
-}
-
-fn see<'a>(seen: &mut BTreeSet<&'a str>, name: &'a str) -> Result<bool, NoMemory>
-    ensures again { IfOk result (λ again. again ≡ has_name seen.old name.now) }
-    ensures seen { OnOk result ((q : List ℕ) → has_name seen.new q ≡ (has_name seen.old q || bytes_eq q name.now)) }
-{
-    let added = seen.insert(name)?;
-    Ok(!added)
 }

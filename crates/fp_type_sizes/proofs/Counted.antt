@@ -5,7 +5,7 @@ use Rattle.std.proofs.lemmas.List.{at_drop_more}
 use Rattle.std.proofs.lemmas.Option.{slice_get_within, slice_get_read}
 use Rattle.fp_base.proofs.Options.{same_some, no_some}
 use Rattle.fp_tables.specs.Types as types
-use Rattle.fp_tables.specs.Types.{kinds_in}
+use Rattle.fp_tables.specs.Types.{kinds_in, is_integer_kind}
 use Rattle.fp_tables.specs.declared.kind.Kind.{Kind}
 use Rattle.fp_tables.specs.declared.kind.Kind.TheVariants as kind
 use Rattle.fp_tables.specs.declared.kind.Form.{Form}
@@ -17,7 +17,7 @@ use Rattle.fp_type_sizes.specs.declared.written.Size.{Size}
 use Rattle.fp_type_sizes.specs.declared.written.TypeExtent.{TypeExtent}
 use Rattle.fp_type_sizes.specs.Sizes.{IsPlain, HasForm, IsAlias, IsInteger, EndsAs, at_plain, at_form, behind_alias, Measures, plain, named, MeasuresForm, abstract_, alias, array, struct, enum, MeasuresFields, no_field, field, MeasuresMember, one, many}
 use Rattle.fp_type_sizes.specs.Found.{IsTypeOrder, IsSize, IsExtent, AreExtents}
-use Rattle.fp_type_sizes.specs.Sized.{joined, leaf, kind_extent, is_integer_kind, ends_in_integer, times, beside, within, with_end, size_in, member_size, AreSoundExtents, MissesNone, MissesNoUse, FindsSize, FindsExtent, SizedFirst}
+use Rattle.fp_type_sizes.specs.Sized.{joined, leaf, kind_extent, ends_in_integer, times, beside, within, with_end, size_in, member_size, AreSoundExtents, MissesNone, MissesNoUse, FindsSize, FindsExtent, SizedFirst}
 use Rattle.fp_type_sizes.proofs.OneSize.{one_form}
 use Rattle.fp_base.proofs.Spots.{get_set_same, get_set_other, same_or_other, before_or_not}
 use Rattle.fp_base.proofs.Numbers.{suc_times}

@@ -1,5 +1,6 @@
 -- What is found of sizes from a table of those that were found before.
 use Rattle.std.specs.Prelude.{◌≡◌, ℕ, ◌+◌, ◌*◌, ◌<◌, min, max, Bool, true, false, not, List, length, Option, Some, None, option_map, slice_get, nat_lt, ◌&&◌}
+use Rattle.fp_tables.specs.Types.{is_integer_kind}
 use Rattle.fp_tables.specs.declared.kind.Kind.{Kind}
 use Rattle.fp_tables.specs.declared.kind.Kind.TheVariants as kind
 use Rattle.fp_type_sizes.specs.declared.written.WrittenType.{WrittenType}
@@ -19,12 +20,6 @@ leaf k = record { size = record { leaves = 1; levels = 1 }; end = k }
 abbrev pub kind_extent : List (Option TypeExtent) → Kind → Option TypeExtent
 kind_extent table (kind.Named i) = joined (slice_get table i)
 kind_extent table k = Some (leaf k)
-
-abbrev pub is_integer_kind : Kind → Bool
-is_integer_kind (kind.Named i) = false
-is_integer_kind kind.Bool = false
-is_integer_kind (kind.Str size) = false
-is_integer_kind _ = true
 
 abbrev pub ends_in_integer : Option TypeExtent → Bool
 ends_in_integer None = false

@@ -10,5 +10,5 @@ mod written;
 pub use large::large_types;
 pub use laws::{of_size_or_too_large, one_size, order_serves, sized_is_on_no_cycle};
 pub use order::{own_order, uses_earlier};
-pub use sizing::{extents, is_few, is_sized, kind_extent};
+pub use sizing::{ends_in_integer, extents, is_few, is_sized, kind_extent};
 pub use written::{Own, Size, TypeExtent, WrittenType};

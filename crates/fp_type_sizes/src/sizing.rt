@@ -3,13 +3,13 @@ ghost use Rattle.fp_tables.specs.Types.{kinds_in};
 ghost use Rattle.fp_tables.specs.declared.kind.Field.{Field as Member};
 ghost use Rattle.fp_tables.specs.declared.kind.Kind.TheVariants as kind;
 ghost use Rattle.fp_type_sizes.specs.Found.{AreExtents, IsTypeOrder};
-ghost use Rattle.fp_type_sizes.specs.Sized.{joined, leaf, is_few, is_few_if, kind_extent, is_integer_kind, ends_in_integer, times, beside, within, with_end, size_in, member_size, AreSoundExtents, MissesNone, MissesNoUse, FindsSize, FindsExtent};
+ghost use Rattle.fp_type_sizes.specs.Sized.{joined, leaf, is_few, is_few_if, kind_extent, ends_in_integer, times, beside, within, with_end, size_in, member_size, AreSoundExtents, MissesNone, MissesNoUse, FindsSize, FindsExtent};
 ghost use Rattle.fp_type_sizes.specs.Sizes.{HasForm, MeasuresFields};
 ghost use Rattle.fp_type_sizes.specs.declared.written.WrittenType.{WrittenType as TypeWritten};
 
 use crate::written::{Size, TypeExtent, WrittenType};
 use fp_base::NoMemory;
-use fp_tables::{Field, Form, Kind};
+use fp_tables::{Field, Form, Kind, is_integer_kind};
 use std::alloc::Global;
 
 /// The first number of leaves that a type may not have.
@@ -154,25 +154,8 @@ fn extent_at(table: &[Option<TypeExtent>], number: u32) -> Option<TypeExtent>
     }
 }
 
-fn is_integer_kind(kind: Kind) -> bool
-    ensures { result ≡ is_integer_kind kind }
-{
-    match kind {
-        Kind::U8 => true,
-        Kind::U16 => true,
-        Kind::U32 => true,
-        Kind::U64 => true,
-        Kind::I8 => true,
-        Kind::I16 => true,
-        Kind::I32 => true,
-        Kind::I64 => true,
-        Kind::Bool => false,
-        Kind::Str { .. } => false,
-        Kind::Named(_) => false,
-    }
-}
-
-fn ends_in_integer(extent: Option<TypeExtent>) -> bool
+/// Whether what was found of a type is that of an integer type.
+pub fn ends_in_integer(extent: Option<TypeExtent>) -> bool
     ensures { result ≡ ends_in_integer extent }
 {
     match extent {

@@ -7,7 +7,7 @@ ghost use Rattle.fp_types.specs.Faults.{is_number, is_truth, is_words, is_among}
 ghost use Rattle.fp_types.specs.Making.{number_within, as_integer, as_truth, as_words, as_constant};
 
 use fp_base::{NoMemory, Value};
-use fp_tables::Constant;
+use fp_tables::{Constant, is_among};
 use std::alloc::Global;
 
 /// Whether a value is given to each part of an array or struct.
@@ -124,19 +124,4 @@ fn among(alloc: Global, value: &Value, constants: &[Constant]) -> Result<Option<
     } else {
         Ok(None)
     }
-}
-
-/// Whether a value is that of one of the constants.
-fn is_among(value: &Value, constants: &[Constant]) -> bool
-    ensures { result ≡ list_any (λ (constant : Constant). same constant.value value.now) constants.now }
-{
-    constants
-        .iter()
-        .any(|constant| is_same(&constant.value, value))
-}
-
-fn is_same(left: &Value, right: &Value) -> bool
-    ensures { result ≡ same left.now right.now }
-{
-    left.same(right)
 }

@@ -2,7 +2,7 @@ use Rattle.std.proofs.Common.{Bool, ap, subst, ◌∙◌}
 use Rattle.std.specs.BTreeSet.{contains}
 use Rattle.std.proofs.lemmas.Option.{slice_get-get_or}
 use Rattle.fp_base.specs.Least.{InSome, IsLeast}
-use Rattle.fp_dictdefs.specs.Broken.{is_integer_kind}
+use Rattle.fp_tables.specs.Types.{is_integer_kind}
 use Rattle.fp_dictdefs.specs.Tested.{long_cmp}
 use Rattle.fp_dictdefs.proofs.Pairs.{none_noted}
 use Rattle.fp_dictdefs.proofs.Sides.{LimitAt, limits_none, limits_step, limits_all}

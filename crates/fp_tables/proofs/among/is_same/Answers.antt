@@ -3,7 +3,7 @@ use Rattle.std.proofs.lemmas.Bool.Decides.{same_from_decides}
 use Rattle.fp_base.specs.Same.{same}
 use Rattle.fp_base.specs.declared.value.Value.{Value}
 use Rattle.fp_base.proofs.Sameness.{value_same}
-use Rattle.fp_sound_types.proofs.values.is_same.Goals as goal
+use Rattle.fp_tables.proofs.among.is_same.Goals as goal
 
 pub returns : goal.returns
 returns c =
