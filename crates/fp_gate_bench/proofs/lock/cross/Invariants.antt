@@ -1,5 +1,0 @@
-use Rattle.fp_gate.specs.Locks.{IsIdle, IsSamePass}
-use Rattle.fp_gate_bench.proofs.lock.cross.Given as goal
-
-abbrev pub invariant-loop : goal.invariant-loop
-invariant-loop g l = IsSamePass l.fn.pass l.pass × IsIdle l.pass
