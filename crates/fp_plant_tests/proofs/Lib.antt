@@ -1,2 +1,0 @@
-mod Giving
-pub mod Known
