@@ -1,7 +1,7 @@
 -- The value of a name among bindings.
-use Rattle.std.proofs.Common.{◌≡◌, ℕ, zero, suc, Bool, true, false, cond, ◌&&◌, List, [], ◌∷◌, ◌++◌, map, Option, Some, None, Result, IfOk, is_some, option_map, unwrap_or, refl, sym, ap, ◌∙◌, subst}
+use Rattle.std.proofs.Common.{◌≡◌, ◌⊎◌, inl, inr, ℕ, zero, suc, Bool, true, false, cond, ◌&&◌, List, [], ◌∷◌, ◌++◌, length, map, Option, Some, None, Result, IfOk, is_some, option_map, unwrap_or, refl, sym, ap, ◌∙◌, subst, arith}
 use Rattle.std.specs.Prelude.{codes}
-use Rattle.std.specs.List.{find, slice_get}
+use Rattle.std.specs.List.{find, zip, slice_get}
 use Rattle.std.specs.Option.{option_or}
 use Rattle.std.proofs.lemmas.Option.{slice_get-map}
 use Rattle.std.proofs.lemmas.List.Folds.{find-append}
@@ -19,6 +19,13 @@ looked name bs = option_map (λ (b : List ℕ × Value). b.1) (find (λ (b : Lis
 
 abbrev pub bound_of : Option Doing → Bindings
 bound_of o = unwrap_or (option_map (λ (d : Doing). d.bound) o) []
+
+-- where one of two lists is at its end, nothing is left of them side by side
+pub none_beside : {F V : Type 0} (p : List ℕ × V → Bool) (name : F → List ℕ) (fs : List F) (vs : List V) → (length fs ≡ 0) ⊎ (length vs ≡ 0) → find p (zip (map name fs) vs) ≡ None
+none_beside p name [] vs h = refl
+none_beside p name (f ∷ fs) [] h = refl
+none_beside p name (f ∷ fs) (v ∷ vs) (inl e) = absurd (omega arith)
+none_beside p name (f ∷ fs) (v ∷ vs) (inr e) = absurd (omega arith)
 
 pub carry : {A E : Type 0} (o : Result A E) (x y : A) → x ≡ y → IfOk o (λ v. v ≡ x) → IfOk o (λ v. v ≡ y)
 carry o x y e h = subst (λ z. IfOk o (λ v. v ≡ z)) e h

@@ -20,16 +20,16 @@ fn is_active(tables: &Tables, instance: u32) -> bool
 fn active_at(tables: &Tables, instances: &[u32], number: usize) -> Option<u32>
     ensures { result ≡ slice_get (filter (λ i. is_active_queueing (component_at tables.now i).queueing) instances.now) number }
 {
-    let (instance, instances) = instances.split_first()?;
-    if is_active(tables, *instance) {
-        if number == 0 {
-            Some(*instance)
-        } else {
-            active_at(tables, instances, number - 1)
+    let mut before = number;
+    for instance in instances {
+        if is_active(tables, *instance) {
+            if before == 0 {
+                return Some(*instance);
+            }
+            before -= 1;
         }
-    } else {
-        active_at(tables, instances, number)
     }
+    None
 }
 
 /// The instance whose dispatcher an actor is.

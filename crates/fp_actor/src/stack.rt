@@ -79,20 +79,23 @@ impl<'v> View<'v> {
             (first_action (doing (frames self.now bindings levels.now)) ≡ None)
             (IsFirst self.now bindings levels.now) }
     {
-        let Some((level, below)) = levels.split_last() else {
-            return None;
-        };
-        match self.reach(level.next) {
-            Some(reached) => Some(First {
-                below: below.len(),
-                level: settled(*level, reached.at),
-                deed: reached.deed,
-            }),
-            None => match level.base {
-                Base::Inside => self.first(below),
-                _ => None,
-            },
+        let mut left = levels;
+        while let Some((level, below)) = left.split_last() {
+            match self.reach(level.next) {
+                Some(reached) => {
+                    return Some(First {
+                        below: below.len(),
+                        level: settled(*level, reached.at),
+                        deed: reached.deed,
+                    });
+                }
+                None => match level.base {
+                    Base::Inside => left = below,
+                    _ => return None,
+                },
+            }
         }
+        None
     }
 
     /// The lowest level of the innermost frame.
@@ -101,19 +104,21 @@ impl<'v> View<'v> {
             (levels.now ≡ [])
             (IsBottom self.now bindings levels.now) }
     {
-        let Some((level, below)) = levels.split_last() else {
-            return None;
-        };
-        let lowest = Bottom {
-            below: below.len(),
-            level: *level,
-        };
-        match level.base {
-            Base::Inside => match self.bottom(below) {
-                Some(bottom) => Some(bottom),
-                None => Some(lowest),
-            },
-            _ => Some(lowest),
+        let mut lowest = None;
+        let mut left = levels;
+        while let Some((level, below)) = left.split_last() {
+            let bottom = Bottom {
+                below: below.len(),
+                level: *level,
+            };
+            match level.base {
+                Base::Inside => {
+                    lowest = Some(bottom);
+                    left = below;
+                }
+                _ => return Some(bottom),
+            }
         }
+        lowest
     }
 }

@@ -73,17 +73,12 @@ fn formal_value(
 ) -> Result<Option<Value>, NoMemory>
     ensures { IfOk result (λ v. v ≡ option_map (λ b. b.1) (find (λ b. same_text b.0 name.now) (zip (map (λ f. f.name) formals.now) with.now))) }
 {
-    let Some((formal, formals)) = formals.split_first() else {
-        return Ok(None);
-    };
-    let Some((value, with)) = with.split_first() else {
-        return Ok(None);
-    };
-    if same_name(formal.name.as_str(), name) {
-        Ok(Some(value.copy(alloc)?))
-    } else {
-        formal_value(alloc, formals, with, name)
+    for (formal, value) in formals.iter().zip(with) {
+        if same_name(formal.name.as_str(), name) {
+            return Ok(Some(value.copy(alloc)?));
+        }
     }
+    Ok(None)
 }
 
 /// The bindings made so far in the first list of a level.
@@ -139,12 +134,14 @@ impl<'v> View<'v> {
             ≡ option_map (λ b. b.1) (find (λ b. same_text b.0 name.now)
             (map (binding self.now) (reverse made.now))) }
     {
-        let (last, earlier) = made.split_last()?;
-        if same_name(self.bound_name(last.name), name) {
-            Some(last.value)
-        } else {
-            self.latest(earlier, name)
+        let mut left = made;
+        while let Some((last, earlier)) = left.split_last() {
+            if same_name(self.bound_name(last.name), name) {
+                return Some(last.value);
+            }
+            left = earlier;
         }
+        None
     }
 
     fn given(&self, alloc: Global, at: usize) -> Result<Value, NoMemory>
