@@ -42,10 +42,14 @@ macro_rules! reads {
 fn a_definition_is_read(rt: HostRuntime) -> Result<(), Fail> {
     let tokens = tokens_of(rt.alloc(), "constant a = 1 + 2 }")?;
     match parse_def(rt.alloc(), &tokens, 0) {
-        Ok((Def::Constant(constant), end)) => {
-            assert!(rt; constant.name.text.as_str() == "a" && end == 6);
+        Ok((definition, end)) => {
+            let named = match &definition {
+                Def::Constant(constant) => constant.name.text.as_str() == "a",
+                _ => false,
+            };
+            assert!(rt; named && end == 6);
         }
-        _ => assert!(rt; false, "a constant"),
+        Err(_) => assert!(rt; false, "a constant"),
     }
     Ok(())
 }
