@@ -20,7 +20,6 @@ use fp_tables::{Program, Tables};
 use fp_tree::Source;
 use std::alloc::{AllocError, Global};
 use std::io;
-use std::io::ErrorKind;
 
 /// The load with so many instances: what its source and its scenario stand for.
 #[derive(Drop)]
@@ -40,15 +39,15 @@ fn tables_of(alloc: Global, source: &Source) -> io::Result<Tables>
     ensures { IfOk result (λ tables. IsSoundFor tables.model (Some tables.topology)) }
 {
     let Ok(model) = resolve(alloc, source) else {
-        return Err(io::Error::from(ErrorKind::InvalidData));
+        return Err(io::Error::from(io::ErrorKind::InvalidData));
     };
-    if model.topologies.is_empty() {
-        return Err(io::Error::from(ErrorKind::InvalidData));
+    match model.topologies.get(0) {
+        Some(_) => match Tables::of(alloc, model, 0) {
+            Ok(tables) => Ok(tables),
+            Err(_) => Err(io::Error::from(AllocError)),
+        },
+        None => Err(io::Error::from(io::ErrorKind::InvalidData)),
     }
-    let Ok(tables) = Tables::of(alloc, model, 0) else {
-        return Err(io::Error::from(AllocError));
-    };
-    Ok(tables)
 }
 
 fn tables_of_files(alloc: Global, files: &mut LoadFiles) -> io::Result<Tables>
@@ -63,7 +62,7 @@ fn tables_of_files(alloc: Global, files: &mut LoadFiles) -> io::Result<Tables>
     let names = [String::from_str(alloc, SOURCE)?];
     match gather(alloc, &names, files) {
         Ok(source) => tables_of(alloc, &source),
-        Err(_) => Err(io::Error::from(ErrorKind::InvalidData)),
+        Err(_) => Err(io::Error::from(io::ErrorKind::InvalidData)),
     }
 }
 
@@ -71,15 +70,13 @@ impl Load {
     pub fn new(alloc: Global, instances: u32) -> io::Result<Load>
         ensures { IfOk result IsReady }
     {
-        let Ok(mut files) = LoadFiles::new(alloc, instances) else {
-            return Err(io::Error::from(AllocError));
-        };
+        let mut files = LoadFiles::new(alloc, instances).map_err(|_| AllocError)?;
         let tables = tables_of_files(alloc, &mut files)?;
         let Ok(program) = program_of(alloc, &tables, files.scenario.as_slice()) else {
-            return Err(io::Error::from(ErrorKind::InvalidData));
+            return Err(io::Error::from(io::ErrorKind::InvalidData));
         };
         if actor_count(&tables, &program) == 0 {
-            return Err(io::Error::from(ErrorKind::InvalidData));
+            return Err(io::Error::from(io::ErrorKind::InvalidData));
         }
         Ok(Load {
             instances,

@@ -5,6 +5,7 @@ use crate::times::{Times, Unit};
 use fp_gate::{Booked, Pass, TicketLock};
 use std::alloc::{AllocError, Global};
 use std::rt::Clock;
+use std::sync::atomic::{AtomicU32, Ordering};
 use std::sync::{Mutex, Wait};
 use std::thread::Threads;
 use std::time::Instant;
@@ -15,6 +16,8 @@ const ROUNDS: u32 = 9;
 const TURNS: u32 = 100_000;
 
 const MOST_THREADS: usize = 16;
+
+const LOOKS: u32 = 1_000_000;
 
 /// A value whose history stays empty.
 #[derive(Drop)]
@@ -30,19 +33,50 @@ impl Booked for Blank {
     ghost history = { λ _. [] };
 }
 
-fn cross_lock<R: Wait>(rt: &R, lock: &TicketLock<Blank>, pass: &mut Pass<Blank>, turns: u32)
+/// Threads that wait for one another, so that their turns overlap, and then take so many turns each.
+#[derive(Drop)]
+struct Crowd {
+    here: AtomicU32,
+    threads: u32,
+    turns: u32,
+}
+
+impl Crowd {
+    fn new(threads: u32, turns: u32) -> Crowd {
+        Crowd {
+            here: AtomicU32::new(0),
+            threads,
+            turns,
+        }
+    }
+
+    /// Waits until all are here, but not without end: where no thread can be made they come one after another.
+    fn gather(&self) {
+        self.here.fetch_add(1, Ordering::SeqCst);
+        for _ in 0..LOOKS {
+            if self.here.load(Ordering::SeqCst) >= self.threads {
+                return;
+            }
+            thread::yield_now();
+        }
+    }
+}
+
+fn cross_lock<R: Wait>(rt: &R, lock: &TicketLock<Blank>, pass: &mut Pass<Blank>, crowd: &Crowd)
     requires gave { lock_of pass.old ≡ id_of lock.now }
     requires idle { IsIdle pass.old }
     ensures { IsSamePass pass.old pass.new × IsIdle pass.new }
 {
-    for _ in 0..turns {
+    crowd.gather();
+    for _ in 0..crowd.turns {
         let value = lock.enter(rt, pass);
         lock.leave(pass, value);
     }
 }
 
-fn cross_mutex<R: Wait>(rt: &R, mutex: &Mutex<Blank>, turns: u32) {
-    for _ in 0..turns {
+fn cross_mutex<R: Wait>(rt: &R, mutex: &Mutex<Blank>, crowd: &Crowd) {
+    crowd.gather();
+    for _ in 0..crowd.turns {
         let held = mutex.lock(rt);
         drop(held);
     }
@@ -52,7 +86,7 @@ fn cross_all<R: Threads + Wait + Sync>(
     rt: &R,
     lock: &TicketLock<Blank>,
     passes: &mut [Pass<Blank>],
-    turns: u32,
+    crowd: &Crowd,
 )
     requires { All (λ p. (lock_of p ≡ id_of lock.now) × IsIdle p) passes.old }
 {
@@ -60,7 +94,7 @@ fn cross_all<R: Threads + Wait + Sync>(
         rt,
         passes,
         MOST_THREADS,
-        &|_, pass| cross_lock(rt, lock, pass, turns),
+        &|_, pass| cross_lock(rt, lock, pass, crowd),
     );
 }
 
@@ -72,8 +106,9 @@ where
 {
     let (lock, passes) = TicketLock::open(alloc, Blank, threads).map_err(|_| AllocError)?;
     let mut passes = passes.into_vec();
+    let crowd = Crowd::new(threads, turns);
     let start = Instant::now(rt)?;
-    cross_all(rt, &lock, passes.as_mut_slice(), turns);
+    cross_all(rt, &lock, passes.as_mut_slice(), &crowd);
     Ok(start.elapsed(rt)?.as_nanos())
 }
 
@@ -83,8 +118,9 @@ where
     R: Threads + Wait + Clock + Sync,
 {
     let mutex = Mutex::new(Blank);
+    let crowd = Crowd::new(threads, turns);
     let start = Instant::now(rt)?;
-    let cross = |_: usize| cross_mutex(rt, &mutex, turns);
+    let cross = |_: usize| cross_mutex(rt, &mutex, &crowd);
     let _ = thread::map_indices(rt, alloc, threads as usize, &cross)?;
     Ok(start.elapsed(rt)?.as_nanos())
 }

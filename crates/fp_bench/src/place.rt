@@ -17,7 +17,7 @@ pub enum Note {
 #[derive(Clone, Copy, Drop)]
 pub struct Line {
     pub stamp: u64,
-    pub actor: u32,
+    pub actor: usize,
     pub note: Note,
 }
 
@@ -31,7 +31,7 @@ struct Held {
 
 impl Held {
     /// Adds an entry of an actor that has seen a stamp, and gives the entry's.
-    fn note(&mut self, actor: u32, seen: u64, note: Note) -> Result<u64, AllocError> {
+    fn note(&mut self, actor: usize, seen: u64, note: Note) -> Result<u64, AllocError> {
         self.last = self.last.max(seen).saturating_add(1);
         self.lines.push(Line {
             stamp: self.last,
@@ -72,7 +72,7 @@ impl Place {
     pub fn put<R: Wait>(
         &self,
         rt: &R,
-        actor: u32,
+        actor: usize,
         seen: u64,
         number: u32,
     ) -> Result<u64, AllocError> {
@@ -91,7 +91,7 @@ impl Place {
     }
 
     /// Takes a number as soon as there is one, and gives it with the stamp.
-    pub fn take<R: Wait>(&self, rt: &R, actor: u32, seen: u64) -> Result<(u64, u32), AllocError> {
+    pub fn take<R: Wait>(&self, rt: &R, actor: usize, seen: u64) -> Result<(u64, u32), AllocError> {
         let mut held = self.held.lock(rt);
         for _ in rt.forever() {
             if let Some(number) = held.queue.pop_front() {
@@ -106,7 +106,7 @@ impl Place {
     }
 
     /// Notes that the actor is through with what it took, and gives the stamp.
-    pub fn end<R: Wait>(&self, rt: &R, actor: u32, seen: u64) -> Result<u64, AllocError> {
+    pub fn end<R: Wait>(&self, rt: &R, actor: usize, seen: u64) -> Result<u64, AllocError> {
         self.held.lock(rt).note(actor, seen, Note::Done)
     }
 }

@@ -11,11 +11,11 @@ const CALLS: u32 = 100;
 fn hand_on<R: Wait>(
     rt: &R,
     places: &[Place],
-    actor: u32,
+    actor: usize,
     seen: u64,
     number: u32,
 ) -> Result<u64, AllocError> {
-    match places.get(actor as usize) {
+    match places.get(actor) {
         Some(place) => place.put(rt, actor, seen, number),
         None => Ok(seen),
     }
@@ -25,14 +25,14 @@ fn hand_on<R: Wait>(
 fn act<R: Wait>(
     rt: &R,
     places: &[Place],
-    actor: u32,
+    actor: usize,
     seen: u64,
     call: u32,
 ) -> Result<u64, AllocError> {
     let Some(before) = actor.checked_sub(1) else {
         return hand_on(rt, places, 0, seen, call);
     };
-    let Some(place) = places.get(before as usize) else {
+    let Some(place) = places.get(before) else {
         return Ok(seen);
     };
     let (stamp, number) = place.take(rt, actor, seen)?;
@@ -40,7 +40,7 @@ fn act<R: Wait>(
     place.end(rt, actor, stamp)
 }
 
-fn work<R: Wait>(rt: &R, places: &[Place], actor: u32) -> Result<(), AllocError> {
+fn work<R: Wait>(rt: &R, places: &[Place], actor: usize) -> Result<(), AllocError> {
     let mut seen = 0;
     for call in 0..CALLS {
         seen = act(rt, places, actor, seen, call)?;
@@ -64,7 +64,7 @@ fn worked<R: Threads + Wait + Sync>(
 ) -> Result<Vec<Place>, AllocError> {
     let places = places_of(alloc, instances)?;
     let shared = places.as_slice();
-    let works = |actor: usize| work(rt, shared, actor as u32).is_ok();
+    let works = |actor: usize| work(rt, shared, actor).is_ok();
     let done = thread::map_indices(rt, alloc, shared.len() + 1, &works)?;
     if done.contains(&false) {
         return Err(AllocError);

@@ -119,19 +119,14 @@ where
     )
 }
 
-/// Has the C library keep as much memory as it can once it has it, so that the first run finds it as the later ones do.
-fn keep_memory(alloc: Global) -> io::Result<()> {
-    let block: Vec<u64> = Vec::with_capacity(alloc, 4_000_000)?;
-    drop(block);
-    Ok(())
-}
-
 /// Measures runs with few actors and with many.
 pub fn measure<R>(rt: &R, alloc: Global) -> io::Result<()>
 where
     R: Threads + Wait + Clock + Print + Sync,
 {
-    keep_memory(alloc)?;
+    // the C library keeps this memory, so that the first run finds it as the later ones do
+    let block: Vec<u64> = Vec::with_capacity(alloc, 4_000_000)?;
+    drop(block);
     for instances in [1, 3, 15, 60] {
         let load = Load::new(alloc, instances)?;
         count_entries(rt, alloc, &load)?;

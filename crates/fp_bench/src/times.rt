@@ -16,9 +16,8 @@ pub struct Times {
 
 impl Times {
     pub fn new(alloc: Global) -> Times {
-        Times {
-            all: Vec::new(alloc),
-        }
+        let all = Vec::new(alloc);
+        Times { all }
     }
 
     pub fn add(&mut self, nanos: u128) -> Result<(), AllocError> {
